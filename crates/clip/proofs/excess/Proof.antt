@@ -1,0 +1,65 @@
+-- The invariant: the sum so far and the excess of the bins still to come are the whole excess.
+-- Assumes nothing.
+use Prim.Native.Nat.{_+_, _-_, _≤_}
+use mathlib.Core.Path.{_≡_}
+use lib.ListN.{length, drop}
+use native.Mathlib.Omega.{arith}
+use borrow.Author.Needs.{needs}
+use Rattle.lists.specs.Lists.{total}
+use Rattle.clip.specs.Clip.{excess}
+use Rattle.clip.proofs.Shares.{excess-next, excess-end, excess-most}
+use Rattle.clip.proofs.excess.Statement.{statement}
+use Rattle.clip.proofs.excess.Tie as tie
+
+abbrev Inv-loop : tie.InvT-loop
+Inv-loop counts limit sum₀ i₀ sum i = (i ≤ length counts) × (total counts ≤ 4194304) × (sum + Rattle.clip.specs.Clip.excess limit (drop i counts) ≡ Rattle.clip.specs.Clip.excess limit counts)
+
+abbrev μ-loop : tie.MeasureT-loop
+μ-loop counts limit sum₀ i₀ sum i = length counts - i
+
+loop-holds : tie.Need-loop-holds Inv-loop μ-loop
+loop-holds c = (search needs, search needs, omega arith)
+
+mul-above : tie.Need-mul-above Inv-loop μ-loop
+mul-above c = search needs
+
+shared-slice-read-above : tie.Need-shared-slice-read-above Inv-loop μ-loop
+shared-slice-read-above c = search needs
+
+above-requires : tie.Need-above-requires Inv-loop μ-loop
+above-requires c κs = search needs
+
+cast-sum : tie.Need-cast-sum Inv-loop μ-loop
+cast-sum c = search needs
+
+add-sum : tie.Need-add-sum Inv-loop μ-loop
+add-sum c = let a = c .before .before .before .before .before .args in omega (arith, excess-next (a .limit) (a .counts .now) (c .before .before .before .loop .i) (search needs), excess-most (a .limit) (a .counts .now))
+
+add-i : tie.Need-add-i Inv-loop μ-loop
+add-i c = search needs
+
+loop-less : tie.Need-loop-less Inv-loop μ-loop
+loop-less c = search needs
+
+loop-again : tie.Need-loop-again Inv-loop μ-loop
+loop-again c = let a = c .before .before .before .before .before .args in (search needs, search needs, omega (arith, excess-next (a .limit) (a .counts .now) (c .before .before .before .loop .i) (search needs)))
+
+returns : tie.Need-returns Inv-loop μ-loop
+returns c = let a = c .before .before .before .args in omega (arith, excess-end (a .limit) (a .counts .now) (c .before .loop .i) (search needs))
+
+pub excess-spec : {M : Type 1} → statement M
+excess-spec =
+    tie.close
+    (tie.spec
+    Inv-loop
+    μ-loop
+    loop-holds
+    mul-above
+    shared-slice-read-above
+    above-requires
+    cast-sum
+    add-sum
+    add-i
+    loop-less
+    loop-again
+    returns)

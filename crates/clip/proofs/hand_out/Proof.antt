@@ -1,0 +1,118 @@
+-- The loop of starts keeps `Starting`, the walk of a start keeps `Walking`: what is still to be done is what was to be done. The measure is the number of starts that are due.
+-- Assumes nothing.
+use Prim.Native.Nat.{_-_, _≤_, _<_}
+use mathlib.Core.Path.{_≡_, refl, sym, ap, _∙_}
+use lib.ListN.{length, length-set}
+use mathlib.Core.Logic.{⊎-elim}
+use native.Mathlib.Nat.{div-le-self}
+use native.Mathlib.Omega.{arith}
+use borrow.Author.Needs.{needs}
+use Rattle.clip.proofs.Rounds.{due, Starting, Walking, starting-first, starting-end, turn-next, turn-less, turn-stop, walking-first, walking-gain, walking-skip, walking-end, walking-stop}
+use Rattle.clip.proofs.hand_out.Statement.{statement}
+use Rattle.clip.proofs.hand_out.Tie as tie
+
+abbrev Inv-loop : tie.InvT-loop
+Inv-loop counts₀ limit left bins r₀ start step at₀ counts r at = Walking limit step start counts₀ r₀ at counts r × (bins ≡ length counts) × (0 < step) × (step ≤ 4096) × (bins ≤ 4096)
+
+abbrev μ-loop : tie.MeasureT-loop
+μ-loop counts₀ limit left bins r₀ start step at₀ counts r at = bins - at
+
+abbrev Inv-starts : tie.InvT-starts
+Inv-starts counts₀ limit left bins r₀ start₀ counts r start = Starting limit left counts₀ start counts r × (bins ≡ length counts) × (bins ≤ 4096)
+
+abbrev μ-starts : tie.MeasureT-starts
+μ-starts counts₀ limit left bins r₀ start₀ counts r start = due limit start counts r
+
+starts-holds : tie.Need-starts-holds Inv-loop μ-loop Inv-starts μ-starts
+starts-holds c = (starting-first _ _ _ (search needs) (search needs), refl, search needs)
+
+step-of-requires : tie.Need-step-of-requires Inv-loop μ-loop Inv-starts μ-starts
+step-of-requires c κs = search needs
+
+loop-holds : tie.Need-loop-holds Inv-loop μ-loop Inv-starts μ-starts
+loop-holds c = (walking-first _ _ _ _ _ (search needs), search needs, omega (arith, c .step-of .ensures), omega (arith, c .step-of .ensures, div-le-self (length (c .before .before .before .before .args .counts .now)) (c .before .before .starts .r)), search needs)
+
+mul-if1 : tie.Need-mul-if1 Inv-loop μ-loop Inv-starts μ-starts
+mul-if1 c = search needs
+
+slice-read-if1 : tie.Need-slice-read-if1 Inv-loop μ-loop Inv-starts μ-starts
+slice-read-if1 c = search needs
+
+mul-counts : tie.Need-mul-counts Inv-loop μ-loop Inv-starts μ-starts
+mul-counts c = search needs
+
+slice-read-counts : tie.Need-slice-read-counts Inv-loop μ-loop Inv-starts μ-starts
+slice-read-counts c = search needs
+
+add-counts : tie.Need-add-counts Inv-loop μ-loop Inv-starts μ-starts
+add-counts c = search needs
+
+slice-write-counts : tie.Need-slice-write-counts Inv-loop μ-loop Inv-starts μ-starts
+slice-write-counts c = search needs
+
+sub-r : tie.Need-sub-r Inv-loop μ-loop Inv-starts μ-starts
+sub-r c = search needs
+
+add-at : tie.Need-add-at Inv-loop μ-loop Inv-starts μ-starts
+add-at c = search needs
+
+loop-less : tie.Need-loop-less Inv-loop μ-loop Inv-starts μ-starts
+loop-less c = search needs
+
+loop-again : tie.Need-loop-again Inv-loop μ-loop Inv-starts μ-starts
+loop-again c =
+    let i = c .before .before .before .loop .inv in
+    ⊎-elim
+    (λ w. (walking-gain (i .0) (search needs) (search needs) (w .0 .taken) (w .3) (w .4) (omega arith), rw (w .3, length-set) (i .1), i .2, i .3, i .4))
+    (λ w. (walking-skip (i .0) (search needs) (search needs) (w .0 .left) (w .1) (w .2), i .1 ∙ sym (ap length (w .1)), i .2, i .3, i .4))
+    (c .if1 .came)
+
+next-start-requires : tie.Need-next-start-requires Inv-loop μ-loop Inv-starts μ-starts
+next-start-requires c κs = search needs
+
+starts-less : tie.Need-starts-less Inv-loop μ-loop Inv-starts μ-starts
+starts-less c = turn-less _ _ (c .before .before .before .before .before .starts .inv .0) (search needs) (search needs) (walking-end (c .before .before .loop .inv .0) (search needs)) (search needs) (c .next-start .ensures)
+
+starts-again : tie.Need-starts-again Inv-loop μ-loop Inv-starts μ-starts
+starts-again c = (turn-next _ _ (c .before .before .before .before .before .starts .inv .0) (search needs) (search needs) (search needs) (c .before .before .before .step-of .ensures) (walking-end (c .before .before .loop .inv .0) (search needs)) (search needs) (c .next-start .ensures), search needs, search needs)
+
+same-length : tie.Need-same-length Inv-loop μ-loop Inv-starts μ-starts
+same-length c = search needs
+
+returns : tie.Need-returns Inv-loop μ-loop Inv-starts μ-starts
+returns c = starting-end _ _ _ _ _ _ (c .before .starts .inv .0) (search needs)
+
+same-length-2 : tie.Need-same-length-2 Inv-loop μ-loop Inv-starts μ-starts
+same-length-2 c = rw length-set (sym (c .before .before .before .before .before .loop .inv .1))
+
+returns-2 : tie.Need-returns-2 Inv-loop μ-loop Inv-starts μ-starts
+returns-2 c = turn-stop _ (c .before .before .before .before .before .before .before .before .starts .inv .0) (search needs) (search needs) (c .before .before .before .before .before .before .step-of .ensures) (walking-stop (c .before .before .before .before .before .loop .inv .0) (search needs) (search needs) (search needs) (search needs))
+
+pub hand-out-spec : {M : Type 1} → statement M
+hand-out-spec =
+    tie.close
+    (tie.spec
+    Inv-loop
+    μ-loop
+    Inv-starts
+    μ-starts
+    starts-holds
+    step-of-requires
+    loop-holds
+    mul-if1
+    slice-read-if1
+    mul-counts
+    slice-read-counts
+    add-counts
+    slice-write-counts
+    sub-r
+    add-at
+    loop-less
+    loop-again
+    next-start-requires
+    starts-less
+    starts-again
+    same-length
+    returns
+    same-length-2
+    returns-2)

@@ -1,0 +1,78 @@
+-- The invariant `Passing`: what is still to be done from the place i on is what was to be done at first.
+-- Assumes nothing.
+use Prim.Native.Nat.{_-_}
+use lib.ListN.{length, length-set}
+use native.Mathlib.Omega.{arith}
+use borrow.Author.Needs.{needs}
+use Rattle.clip.proofs.Shares.{Passing, passing-first, passing-takes, passing-next, passing-end}
+use Rattle.clip.proofs.share_out.Statement.{statement}
+use Rattle.clip.proofs.share_out.Tie as tie
+
+abbrev Inv-loop : tie.InvT-loop
+Inv-loop counts₀ limit q over rest₀ i₀ counts rest i = Passing limit q over counts₀ i counts rest
+
+abbrev μ-loop : tie.MeasureT-loop
+μ-loop counts₀ limit q over rest₀ i₀ counts rest i = length counts - i
+
+loop-holds : tie.Need-loop-holds Inv-loop μ-loop
+loop-holds c = passing-first _ _ _ _
+
+mul-count : tie.Need-mul-count Inv-loop μ-loop
+mul-count c = search needs
+
+slice-read-count : tie.Need-slice-read-count Inv-loop μ-loop
+slice-read-count c = search needs
+
+takes-requires : tie.Need-takes-requires Inv-loop μ-loop
+takes-requires c κs = search needs
+
+cast-rest : tie.Need-cast-rest Inv-loop μ-loop
+cast-rest c = search needs
+
+sub-rest : tie.Need-sub-rest Inv-loop μ-loop
+sub-rest c = omega (arith, c .takes .ensures, passing-takes (c .before .before .before .loop .inv) (search needs) (search needs))
+
+becomes-requires : tie.Need-becomes-requires Inv-loop μ-loop
+becomes-requires c κs = search needs
+
+mul-counts : tie.Need-mul-counts Inv-loop μ-loop
+mul-counts c = search needs
+
+slice-write-counts : tie.Need-slice-write-counts Inv-loop μ-loop
+slice-write-counts c = search needs
+
+add-i : tie.Need-add-i Inv-loop μ-loop
+add-i c = search needs
+
+loop-less : tie.Need-loop-less Inv-loop μ-loop
+loop-less c = rw length-set (search needs)
+
+loop-again : tie.Need-loop-again Inv-loop μ-loop
+loop-again c = passing-next (c .before .before .before .before .loop .inv) (search needs) (search needs) (c .before .takes .ensures) (c .becomes .ensures)
+
+same-length : tie.Need-same-length Inv-loop μ-loop
+same-length c = search needs
+
+returns : tie.Need-returns Inv-loop μ-loop
+returns c = passing-end (c .before .loop .inv) (search needs)
+
+pub share-out-spec : {M : Type 1} → statement M
+share-out-spec =
+    tie.close
+    (tie.spec
+    Inv-loop
+    μ-loop
+    loop-holds
+    mul-count
+    slice-read-count
+    takes-requires
+    cast-rest
+    sub-rest
+    becomes-requires
+    mul-counts
+    slice-write-counts
+    add-i
+    loop-less
+    loop-again
+    same-length
+    returns)

@@ -1,0 +1,31 @@
+-- What the functions of this crate ask of their callers, and what the first pass leaves.
+-- Assumes nothing.
+use Prim.Native.Nat.{ℕ, _+_, _-_, _*_, _≤_, _<_}
+use mathlib.Core.List.{List, map}
+use mathlib.Core.Path.{_≡_}
+use lib.ListN.{length}
+use Rattle.lists.specs.Lists.{total}
+use Rattle.clip.specs.Clip.{shared, taken}
+
+-- "Bins B: 2 to 4096", a tile's counts, and what refusal 14 leaves out: "L x B < N"
+pub record ClipAsks (limit : ℕ) (counts : List ℕ) : Type 0 where
+  pub some-bin : 0 < length counts
+  pub few-bins : length counts ≤ 4096
+  pub few-pixels : total counts ≤ 4194304
+  pub holds : total counts ≤ limit * length counts
+
+-- the first pass: an even share that no bin is too small for, and an excess that all shares can be taken from
+pub record PassAsks (limit q over : ℕ) (counts : List ℕ) : Type 0 where
+  pub share-small : q ≤ limit
+  pub all-taken : total (map (taken limit q) counts) ≤ over
+
+-- the first pass, done: what each bin became, and what is left of the excess
+pub record Passed (limit q over : ℕ) (before after : List ℕ) (r : ℕ) : Type 0 where
+  pub bins : after ≡ map (shared limit q) before
+  pub rest : r ≡ over - total (map (taken limit q) before)
+
+-- the leftover walk: the bins have room for what is left
+pub record WalkAsks (limit left : ℕ) (counts : List ℕ) : Type 0 where
+  pub some-bin : 0 < length counts
+  pub few-bins : length counts ≤ 4096
+  pub room : total counts + left ≤ limit * length counts

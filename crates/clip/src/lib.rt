@@ -1,0 +1,127 @@
+// Clipping the counts of one tile in place: the excess above the limit is handed out evenly, then what is left of it one by one.
+ghost use mathlib.Core.Path.{_≡_};
+ghost use Prim.Native.Nat.{_-_, _*_, _/_, _≤_, _<_, max};
+ghost use lib.ListN.{length};
+ghost use Rattle.lists.specs.Lists.{total};
+ghost use Rattle.clip.specs.Clip.{excess, shared, taken, starts, nextStart, clipped};
+ghost use Rattle.clip.specs.Asks.{ClipAsks, PassAsks, Passed, WalkAsks};
+
+// What of a count stands above the limit.
+fn above(count: u32, limit: u32) -> u32
+    ensures { λ r. ⌜ r ≡ count - limit ⌝ }
+{
+    if limit < count { count - limit } else { 0 }
+}
+
+// The excess: the sum over bins of what stands above the limit.
+pub fn excess(counts: &[u32], limit: u32) -> u64
+    requires { ⌜ total (now counts) ≤ 4194304 ⌝ }
+    ensures { λ r. ⌜ r ≡ excess limit (now (counts .entry)) ⌝ }
+{
+    let mut sum: u64 = 0;
+    let mut i = 0;
+    while i < counts.len() {
+        sum += above(counts[i], limit) as u64;
+        i += 1;
+    }
+    sum
+}
+
+// What a bin takes of the excess where q is the even share.
+fn takes(count: u32, limit: u32, q: u32) -> u32
+    requires { ⌜ q ≤ limit ⌝ }
+    ensures { λ r. ⌜ r ≡ taken limit q count ⌝ }
+{
+    let upper = limit - q;
+    if count > limit {
+        return 0;
+    }
+    if count > upper {
+        return limit - count;
+    }
+    q
+}
+
+// What a bin becomes by the even share q.
+fn becomes(count: u32, limit: u32, q: u32) -> u32
+    requires { ⌜ q ≤ limit ⌝ }
+    ensures { λ r. ⌜ r ≡ shared limit q count ⌝ }
+{
+    let upper = limit - q;
+    if count > limit {
+        return limit;
+    }
+    if count > upper {
+        return limit;
+    }
+    count + q
+}
+
+// The even share q to every bin; what is left of the excess is the answer.
+fn share_out(counts: &mut [u32], limit: u32, q: u32, over: u64) -> u64
+    requires { ⌜ PassAsks limit q over (now counts) ⌝ }
+    ensures { λ r. ⌜ Passed limit q over (now (counts .entry)) (now (counts .exit)) r ⌝ }
+{
+    let mut rest = over;
+    let mut i = 0;
+    while i < counts.len() {
+        let count = counts[i];
+        rest -= takes(count, limit, q) as u64;
+        counts[i] = becomes(count, limit, q);
+        i += 1;
+    }
+    rest
+}
+
+// The step of a start: as many bins apart as spreads r over all bins once, and at least 1.
+fn step_of(bins: usize, r: u64) -> usize
+    requires { ⌜ 0 < r ⌝ }
+    ensures { λ s. ⌜ s ≡ max 1 (bins / r) ⌝ }
+{
+    let spread = bins as u64 / r;
+    if 1 < spread { spread as usize } else { 1 }
+}
+
+// The start behind this one: the first bin comes after the last.
+fn next_start(bins: usize, start: usize) -> usize
+    requires { ⌜ start < bins ⌝ }
+    ensures { λ s. ⌜ s ≡ nextStart bins start ⌝ }
+{
+    if start + 1 < bins { start + 1 } else { 0 }
+}
+
+// The leftover, one by one to the bins under the limit, from every start in turn, until nothing is left.
+fn hand_out(counts: &mut [u32], limit: u32, left: u64)
+    requires { ⌜ WalkAsks limit left (now counts) ⌝ }
+    ensures { λ _. ⌜ now (counts .exit) ≡ starts (left * length (now (counts .entry))) limit 0 (now (counts .entry)) left ⌝ }
+{
+    let bins = counts.len();
+    let mut r = left;
+    let mut start = 0;
+    'starts: while 0 < r {
+        let step = step_of(bins, r);
+        let mut at = start;
+        while at < bins {
+            if counts[at] < limit {
+                counts[at] += 1;
+                r -= 1;
+                if r == 0 {
+                    break 'starts;
+                }
+            }
+            at += step;
+        }
+        start = next_start(bins, start);
+    }
+}
+
+// Clips the counts of one tile at the limit.
+pub fn clip(counts: &mut [u32], limit: u32)
+    requires { ⌜ ClipAsks limit (now counts) ⌝ }
+    ensures { λ _. ⌜ now (counts .exit) ≡ clipped limit (now (counts .entry)) ⌝ }
+{
+    let over = excess(counts, limit);
+    let q = over / counts.len() as u64;
+    let left = share_out(counts, limit, q as u32, over);
+    hand_out(counts, limit, left);
+}

@@ -1,0 +1,271 @@
+-- Laws of the header's reader: one for each case of its definitions, and where a number ends.
+-- Assumes nothing.
+use Prim.Native.Nat.{ℕ, zero, suc, _+_, _-_, _*_, _≤_, _<_}
+use mathlib.Core.Bool.{Bool, true, false, _&&_, _||_, cond}
+use mathlib.Core.List.{List, [], _∷_, _++_}
+use mathlib.Core.Logic.{_⊎_, inl, inr, ⊎-elim}
+use mathlib.Core.Path.{_≡_, refl, sym, ap, _∙_}
+use lib.Dec.{leb, ltb, eqb}
+use lib.ListN.{length, drop, getD, drop-of-length-le, List·getD-eq-default, length-drop}
+use lib.Seq.{drop-cons}
+use native.Mathlib.Nat.{mul-assoc, mul-le-mul-right, le-mul-of-pos-right, not-suc-le-zero}
+use native.Mathlib.Omega.{arith}
+use native.Mathlib.Numerals.{add-one}
+use borrow.Author.Tests.{leb-true, ltb-true, ltb-false, eq-eqb, ne-eqb}
+use Rattle.lists.proofs.Tabs.{and-left, and-right}
+use Rattle.header.specs.declared.Number.{Number}
+use Rattle.header.specs.declared.Number.the-variants.{Read, Misfit}
+use Rattle.header.specs.declared.Head.{Head}
+use Rattle.header.specs.declared.Head.the-variants.{Found, Refused}
+use Rattle.header.specs.Header.{isWhite, isDigit, misfitOf, whiteOf, digitsOf, firstDigit, numberOf, pickNumber, pickHead, behind, endOf, headerOf}
+
+-- two numbers, compared
+pub lt-or-ge : (a b : ℕ) → (a < b) ⊎ (b ≤ a)
+lt-or-ge a b = go (ltb a b) refl
+  where
+    go : (t : Bool) → ltb a b ≡ t → (a < b) ⊎ (b ≤ a)
+    go true h = inl (ltb-true a b h)
+    go false h = inr (ltb-false a b h)
+
+-- ---- a byte that is something lies within the bytes
+
+-- a test that 0 fails holds only of bytes within the list
+pub within : (f : ℕ → Bool) → f 0 ≡ false → (s : List ℕ) (i : ℕ) → f (getD s i 0) ≡ true → i < length s
+within f z s i h = ⊎-elim (λ l. l) past (lt-or-ge i (length s))
+  where
+    past : length s ≤ i → i < length s
+    past l = let e : getD s i 0 ≡ 0 = List·getD-eq-default s 0 l in let q : true ≡ false = sym h ∙ (ap f e ∙ z) in absurd (no q)
+      where
+        no : true ≡ false → ⊥
+        no q = let z : _≡_ {A = ℕ} 0 1 = cc in omega arith
+
+-- white space lies within the bytes
+pub white-within : (s : List ℕ) (i : ℕ) → isWhite (getD s i 0) ≡ true → i < length s
+unfolding isWhite
+white-within s i h = within isWhite refl s i h
+
+-- a digit lies within the bytes
+pub digit-within : (s : List ℕ) (i : ℕ) → isDigit (getD s i 0) ≡ true → i < length s
+unfolding isDigit
+digit-within s i h = within isDigit refl s i h
+
+-- a digit is at least `0`
+pub digit-low : (b : ℕ) → isDigit b ≡ true → 48 ≤ b
+unfolding isDigit
+digit-low b h = leb-true 48 b (and-left (leb 48 b) (leb b 57) h)
+
+-- a digit is at most `9`
+pub digit-high : (b : ℕ) → isDigit b ≡ true → b ≤ 57
+unfolding isDigit
+digit-high b h = leb-true b 57 (and-right (leb 48 b) (leb b 57) h)
+
+-- ---- white space
+
+-- white space in front is passed over
+pub white-cons : (b : ℕ) (bs : List ℕ) (i : ℕ) → isWhite b ≡ true → whiteOf (b ∷ bs) i ≡ whiteOf bs (i + 1)
+unfolding whiteOf
+white-cons b bs i h = ap (λ (t : Bool). elim t [ true ↦ whiteOf bs (i + 1) | false ↦ i ]) h
+
+-- any other byte ends the white space
+pub white-other : (b : ℕ) (bs : List ℕ) (i : ℕ) → isWhite b ≡ false → whiteOf (b ∷ bs) i ≡ i
+unfolding whiteOf
+white-other b bs i h = ap (λ (t : Bool). elim t [ true ↦ whiteOf bs (i + 1) | false ↦ i ]) h
+
+-- a turn of the loop over white space
+pub white-step : (s : List ℕ) (i : ℕ) → isWhite (getD s i 0) ≡ true → whiteOf (drop i s) i ≡ whiteOf (drop (i + 1) s) (i + 1)
+white-step s i h = rw (drop-cons s i 0 (white-within s i h)) (white-cons (getD s i 0) (drop (suc i) s) i h ∙ rw (add-one i) refl)
+
+-- its end at another byte
+pub white-stop : (s : List ℕ) (i : ℕ) → isWhite (getD s i 0) ≡ false → whiteOf (drop i s) i ≡ i
+unfolding whiteOf
+white-stop s i h =
+    ⊎-elim
+    (λ l. rw (drop-cons s i 0 l) (white-other (getD s i 0) (drop (suc i) s) i h))
+    (λ l. rw (drop-of-length-le s l) refl)
+    (lt-or-ge i (length s))
+
+-- past the end nothing is white
+pub white-end : (s : List ℕ) (i : ℕ) → length s ≤ i → whiteOf (drop i s) i ≡ i
+unfolding whiteOf
+white-end s i l = rw (drop-of-length-le s l) refl
+
+-- white space ends at most where the bytes end
+pub white-upto : (bs : List ℕ) (i : ℕ) → whiteOf bs i ≤ i + length bs
+unfolding whiteOf
+white-upto [] i = omega arith
+white-upto (b ∷ bs) i = go (isWhite b) (white-upto bs (i + 1))
+  where
+    go : (t : Bool) → whiteOf bs (i + 1) ≤ i + 1 + length bs → elim t [ true ↦ whiteOf bs (i + 1) | false ↦ i ] ≤ i + length (b ∷ bs)
+    go true h = omega arith
+    go false h = omega arith
+
+-- the same, from a place within the bytes on
+pub white-le : (s : List ℕ) (i : ℕ) → i ≤ length s → whiteOf (drop i s) i ≤ length s
+white-le s i h = omega (arith, white-upto (drop i s) i, length-drop i s)
+
+-- ---- digits
+
+-- no bytes, no digits
+pub digit-nil : (k v i : ℕ) → digitsOf k [] v i ≡ Read v i
+unfolding digitsOf
+digit-nil zero v i = refl
+digit-nil (suc k) v i = refl
+
+-- a digit in front is taken in
+pub digit-cons : (b : ℕ) (bs : List ℕ) (k v i : ℕ) → isDigit b ≡ true → digitsOf (suc k) (b ∷ bs) v i ≡ digitsOf k bs (v * 10 + (b - 48)) (i + 1)
+unfolding digitsOf
+digit-cons b bs k v i h = ap (λ (t : Bool). elim t [ true ↦ digitsOf k bs (v * 10 + (b - 48)) (i + 1) | false ↦ Read v i ]) h
+
+-- any other byte ends the digits
+pub digit-other : (b : ℕ) (bs : List ℕ) (k v i : ℕ) → isDigit b ≡ false → digitsOf k (b ∷ bs) v i ≡ Read v i
+unfolding digitsOf
+digit-other b bs zero v i h = refl
+digit-other b bs (suc k) v i h = ap (λ (t : Bool). elim t [ true ↦ digitsOf k bs (v * 10 + (b - 48)) (i + 1) | false ↦ Read v i ]) h
+
+-- a turn of the loop over digits
+pub digit-step : (s : List ℕ) (i k v : ℕ) → isDigit (getD s i 0) ≡ true
+    → digitsOf (suc k) (drop i s) v i ≡ digitsOf k (drop (i + 1) s) (v * 10 + (getD s i 0 - 48)) (i + 1)
+digit-step s i k v h = rw (drop-cons s i 0 (digit-within s i h)) (digit-cons (getD s i 0) (drop (suc i) s) k v i h ∙ rw (add-one i) refl)
+
+-- its end at another byte
+pub digit-stop : (s : List ℕ) (i k v : ℕ) → isDigit (getD s i 0) ≡ false → digitsOf k (drop i s) v i ≡ Read v i
+digit-stop s i k v h =
+    ⊎-elim
+    (λ l. rw (drop-cons s i 0 l) (digit-other (getD s i 0) (drop (suc i) s) k v i h))
+    (λ l. ap (λ t. digitsOf k t v i) (drop-of-length-le s l) ∙ digit-nil k v i)
+    (lt-or-ge i (length s))
+
+-- no digit more is allowed
+pub digit-none : (bs : List ℕ) (i v : ℕ) → digitsOf 0 bs v i ≡ Read v i
+unfolding digitsOf
+digit-none bs i v = refl
+
+-- digits end at most where the bytes end
+pub digits-upto : (k : ℕ) (bs : List ℕ) (v i w e : ℕ) → digitsOf k bs v i ≡ Read w e → e ≤ i + length bs
+unfolding digitsOf
+digits-upto zero bs v i w e h = let q : i ≡ e = cc in omega arith
+digits-upto (suc k) [] v i w e h = let q : i ≡ e = cc in omega arith
+digits-upto (suc k) (b ∷ bs) v i w e h = go (isDigit b) (λ q. digits-upto k bs (v * 10 + (b - 48)) (i + 1) w e q) h
+  where
+    go : (t : Bool) → (digitsOf k bs (v * 10 + (b - 48)) (i + 1) ≡ Read w e → e ≤ i + 1 + length bs)
+        → elim t [ true ↦ digitsOf k bs (v * 10 + (b - 48)) (i + 1) | false ↦ Read v i ] ≡ Read w e → e ≤ i + length (b ∷ bs)
+    go true f h = omega (arith, f h)
+    go false f h = let q : i ≡ e = cc in omega arith
+
+-- a turn of the loop that reads digits, where the byte read is b
+pub digit-next : (s : List ℕ) (i v left b : ℕ) → 0 < left → b ≡ getD s i 0 → isDigit b ≡ true
+    → digitsOf left (drop i s) v i ≡ digitsOf (left - 1) (drop (i + 1) s) (v * 10 + (b - 48)) (i + 1)
+digit-next s i v zero b l q h = absurd (not-suc-le-zero l)
+digit-next s i v (suc k) b l q h =
+    let e : suc k - 1 ≡ k = omega arith in
+    rw (e, q) (digit-step s i k v (rw q at h))
+
+-- 10 to the k
+unfoldable pub tens : ℕ → ℕ
+tens zero = 1
+tens (suc k) = 10 * tens k
+
+tens-pos : (k : ℕ) → 0 < tens k
+unfolding tens
+tens-pos zero = omega arith
+tens-pos (suc k) = omega (arith, tens-pos k)
+
+-- at the start there is room for five digits
+pub tens-five : 1 * tens 5 ≤ 100000
+unfolding tens
+tens-five = omega arith
+
+-- a number that has room for k more digits below 100000 is below 100000
+pub digits-small : (v k : ℕ) → (v + 1) * tens k ≤ 100000 → v < 100000
+digits-small v k h = omega (arith, le-mul-of-pos-right (v + 1) (tens-pos k))
+
+-- one digit more takes one place of the room
+pub digits-room : (v k d : ℕ) → 0 < k → d < 10 → (v + 1) * tens k ≤ 100000 → (v * 10 + d + 1) * tens (k - 1) ≤ 100000
+unfolding tens
+digits-room v zero d l q h = absurd (not-suc-le-zero l)
+digits-room v (suc k) d l q h =
+    let e : suc k - 1 ≡ k = omega arith in
+    let f : (v + 1) * 10 ≡ v * 10 + 10 = omega arith in
+    let g : (v * 10 + 10) * tens k ≤ 100000 = rw (← f, mul-assoc) h in
+    let m : v * 10 + d + 1 ≤ v * 10 + 10 = omega arith in
+    rw e (omega (arith, mul-le-mul-right (tens k) m))
+
+-- ---- a number
+
+-- a digit starts a number
+pub first-digits : (s : List ℕ) (at : ℕ) → isDigit (getD s at 0) ≡ true → firstDigit s at ≡ digitsOf 5 (drop at s) 0 at
+unfolding firstDigit
+first-digits s at h = rw h refl
+
+-- any other byte is a misfit
+pub first-misfit : (s : List ℕ) (at : ℕ) → isDigit (getD s at 0) ≡ false → firstDigit s at ≡ Misfit (misfitOf (getD s at 0))
+unfolding firstDigit
+first-misfit s at h = rw h refl
+
+-- behind white space a number is read
+pub number-behind : (s : List ℕ) (at : ℕ) → isWhite (getD s at 0) ≡ true → numberOf s at ≡ firstDigit s (whiteOf (drop at s) at)
+unfolding numberOf
+number-behind s at h = rw h refl
+
+-- any other byte is a misfit
+pub number-misfit : (s : List ℕ) (at : ℕ) → isWhite (getD s at 0) ≡ false → numberOf s at ≡ Misfit (misfitOf (getD s at 0))
+unfolding numberOf
+number-misfit s at h = rw h refl
+
+-- a number that was read ends within the bytes
+pub first-within : (s : List ℕ) (at v e : ℕ) → at ≤ length s → firstDigit s at ≡ Read v e → e ≤ length s
+unfolding firstDigit
+first-within s at v e l h = go (isDigit (getD s at 0)) h
+  where
+    go : (t : Bool) → pickNumber t (digitsOf 5 (drop at s) 0 at) (Misfit (misfitOf (getD s at 0))) ≡ Read v e → e ≤ length s
+    go true h = omega (arith, digits-upto 5 (drop at s) 0 at v e h, length-drop at s)
+    go false h = let z : _≡_ {A = ℕ} 0 1 = cc in omega arith
+
+-- the same behind white space
+pub number-within : (s : List ℕ) (at v e : ℕ) → at ≤ length s → numberOf s at ≡ Read v e → e ≤ length s
+unfolding numberOf
+number-within s at v e l h = go (isWhite (getD s at 0)) h
+  where
+    go : (t : Bool) → pickNumber t (firstDigit s (whiteOf (drop at s) at)) (Misfit (misfitOf (getD s at 0))) ≡ Read v e → e ≤ length s
+    go true h = first-within s (whiteOf (drop at s) at) v e (white-le s at l) h
+    go false h = let z : _≡_ {A = ℕ} 0 1 = cc in omega arith
+
+-- ---- the header
+
+-- white space ends the header
+pub end-found : (s : List ℕ) (w h m at : ℕ) → isWhite (getD s at 0) ≡ true → endOf s w h m at ≡ Found w h m (at + 1)
+unfolding endOf
+end-found s w h m at q = rw q refl
+
+-- any other byte is a misfit
+pub end-misfit : (s : List ℕ) (w h m at : ℕ) → isWhite (getD s at 0) ≡ false → endOf s w h m at ≡ Refused (misfitOf (getD s at 0))
+unfolding endOf
+end-misfit s w h m at q = rw q refl
+
+-- what stands behind a number that was read, and one that was not
+pub behind-read : {x : Number} {v e : ℕ} (k : ℕ → ℕ → Head) → x ≡ Read v e → behind x k ≡ k v e
+behind-read k q = ap (λ n. behind n k) q
+
+-- a misfit is the refusal
+pub behind-misfit : {x : Number} {n : ℕ} (k : ℕ → ℕ → Head) → x ≡ Misfit n → behind x k ≡ Refused n
+behind-misfit k q = ap (λ n. behind n k) q
+
+-- the magic's first byte is another, its second is another, or both are right
+pub header-first : (s : List ℕ) → (getD s 0 0 ≡ 80 → ⊥) → headerOf s ≡ Refused 20
+unfolding headerOf
+header-first s h = rw (ne-eqb (getD s 0 0) 80 h) refl
+
+-- the first is right, the second is another
+pub header-second : (s : List ℕ) → getD s 0 0 ≡ 80 → (getD s 1 0 ≡ 53 → ⊥) → headerOf s ≡ Refused 20
+unfolding headerOf
+header-second s p h = rw (eq-eqb (getD s 0 0) 80 p, ne-eqb (getD s 1 0) 53 h) refl
+
+-- both are right
+pub header-magic : (s : List ℕ) → getD s 0 0 ≡ 80 → getD s 1 0 ≡ 53
+    → headerOf s ≡ behind (numberOf s 2) (λ w e. behind (numberOf s e) (λ h e. behind (numberOf s e) (λ m e. endOf s w h m e)))
+unfolding headerOf
+header-magic s p q = rw (eq-eqb (getD s 0 0) 80 p, eq-eqb (getD s 1 0) 53 q) refl
+
+-- a second byte that is right is there
+pub magic-within : (s : List ℕ) → getD s 1 0 ≡ 53 → 2 ≤ length s
+magic-within s h = within (λ b. eqb b 53) refl s 1 (eq-eqb (getD s 1 0) 53 h)

@@ -1,0 +1,113 @@
+-- Laws of the factor and of the limit, for the crates above. Assumes nothing.
+use Prim.Native.Nat.{ℕ, zero, suc, _*_, _/_, _≤_, _<_, max}
+use native.Mathlib.Nat.{le-trans, le-of-eq, le-max-left, mul-comm, mul-assoc, mul-le-mul, mul-le-mul-left, le-of-mul-le-mul-right, div-mul-le-self}
+use native.Mathlib.Omega.{arith}
+use mathlib.Core.Bool.{Bool, true, false, _&&_, true≢false}
+use mathlib.Core.Path.{_≡_, refl, sym, ap, ap₂, _∙_, subst}
+use lib.Dec.{leb, lit≤}
+use lib.IntN.{ℤ}
+use lib.Ieee.{Float, nan, inf, fin, up, down}
+use lib.Ieee.Fits.{down-pos}
+use borrow.Author.Tests.{leb-true, le-leb, eqb-true, eqb-false}
+use Rattle.limit.specs.Limit.{accepted, isOne, limitOf}
+
+and-left : (a b : Bool) → (a && b) ≡ true → a ≡ true
+and-left true b h = refl
+and-left false b h = h
+
+and-right : (a b : Bool) → (a && b) ≡ true → b ≡ true
+and-right true b h = h
+and-right false true h = refl
+and-right false false h = h
+
+-- what an accepted number is: not below 1.0 and not above 1024.0
+pub record Accepted (m : ℕ) (e : ℤ) : Type 0 where
+  pub least : down e ≤ m * up e
+  pub most : m * up e ≤ 1024 * down e
+
+-- an accepted number is one between the bounds
+pub accepted-told : (m : ℕ) (e : ℤ) → accepted (fin false m e) ≡ true → Accepted m e
+unfolding accepted
+accepted-told m e h =
+    record {
+      least = leb-true (down e) (m * up e) (and-left (leb (down e) (m * up e)) (leb (m * up e) (1024 * down e)) h);
+      most = leb-true (m * up e) (1024 * down e) (and-right (leb (down e) (m * up e)) (leb (m * up e) (1024 * down e)) h);
+    }
+
+-- ---- the factor
+
+-- 1.0 is accepted
+pub one-accepted : (f : Float) → isOne f ≡ true → accepted f ≡ true
+unfolding isOne accepted
+one-accepted nan h = h
+one-accepted (inf s) h = h
+one-accepted (fin true m e) h = h
+one-accepted (fin false m e) h = within (m * up e) (down e) (eqb-true (m * up e) (down e) h)
+  where
+    within : (a d : ℕ) → a ≡ d → (leb d a && leb a (1024 * d)) ≡ true
+    within a d p = ap₂ _&&_ (le-leb d a (omega arith)) (le-leb a (1024 * d) (omega arith))
+
+-- an accepted factor other than 1.0 is above 1.0
+pub above-one : (s : Bool) (m : ℕ) (e : ℤ) → accepted (fin s m e) ≡ true → isOne (fin s m e) ≡ false → down e < m * up e
+unfolding isOne accepted
+above-one true m e h k = absurd (true≢false (sym h))
+above-one false m e h k = strict (m * up e) (down e) (accepted-told m e h .least) (eqb-false (m * up e) (down e) k)
+  where
+    strict : (a d : ℕ) → d ≤ a → (a ≡ d → ⊥) → d < a
+    strict a d p q = omega (arith, q)
+
+-- ---- the limit
+
+-- the limit is at least 1
+pub limit-least : (f : Float) (n b : ℕ) → 1 ≤ limitOf f n b
+unfolding limitOf
+limit-least nan n b = lit≤ tt
+limit-least (inf s) n b = lit≤ tt
+limit-least (fin s m e) n b = le-max-left 1 (m * up e * n / (down e * b))
+
+-- the floor times the bins is at most 1024 times the pixels
+floor-room : (a d n b : ℕ) → 0 < d → a ≤ 1024 * d → n ≤ 4194304 → a * n / (d * b) * b ≤ 4294967296
+floor-room a d n b p h k =
+    let q = a * n / (d * b) in
+    le-of-mul-le-mul-right
+    (le-trans (le-of-eq (mul-assoc q b d ∙ ap (λ (x : ℕ). q * x) (mul-comm b d)))
+    (le-trans (div-mul-le-self (a * n) (d * b)) (le-trans (mul-le-mul h k) (le-of-eq (turn d))))) p
+  where
+    turn : (x : ℕ) → 1024 * x * 4194304 ≡ 4294967296 * x
+    turn x = omega arith
+
+max-room : (q b : ℕ) → q * b ≤ 4294967296 → b ≤ 4096 → max 1 q * b ≤ 4294967296
+max-room q b h k = go q h
+  where
+    same : (x : ℕ) → suc x ≡ max 1 (suc x)
+    same x = omega arith
+
+    go : (x : ℕ) → x * b ≤ 4294967296 → max 1 x * b ≤ 4294967296
+    go zero p = omega arith
+    go (suc x) p = subst (λ (y : ℕ). y * b ≤ 4294967296) (same x) p
+
+-- the limit times the bins is at most 2 ^ 32
+pub limit-room : (f : Float) (n b : ℕ) → accepted f ≡ true → n ≤ 4194304 → 2 ≤ b → b ≤ 4096 → limitOf f n b * b ≤ 4294967296
+unfolding limitOf accepted
+limit-room nan n b h k l u = omega arith
+limit-room (inf s) n b h k l u = omega arith
+limit-room (fin true m e) n b h k l u = absurd (true≢false (sym h))
+limit-room (fin false m e) n b h k l u = max-room (m * up e * n / (down e * b)) b (floor-room (m * up e) (down e) n b (down-pos e) (accepted-told m e h .most) k) u
+
+half : (x b : ℕ) → x * b ≤ 4294967296 → 2 ≤ b → x ≤ 2147483648
+half x b h l = halved (le-trans (mul-le-mul-left x l) h)
+  where
+    halved : x * 2 ≤ 4294967296 → x ≤ 2147483648
+    halved p = omega arith
+
+max-most : (q : ℕ) → q ≤ 2147483648 → max 1 q ≤ 2147483648
+max-most q h = omega arith
+
+-- the limit is at most 2 ^ 31
+pub limit-most : (f : Float) (n b : ℕ) → accepted f ≡ true → n ≤ 4194304 → 2 ≤ b → limitOf f n b ≤ 2147483648
+unfolding limitOf accepted
+limit-most nan n b h k l = lit≤ tt
+limit-most (inf s) n b h k l = lit≤ tt
+limit-most (fin true m e) n b h k l = absurd (true≢false (sym h))
+limit-most (fin false m e) n b h k l =
+    max-most (m * up e * n / (down e * b)) (half (m * up e * n / (down e * b)) b (floor-room (m * up e) (down e) n b (down-pos e) (accepted-told m e h .most) k) l)

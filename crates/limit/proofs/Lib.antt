@@ -1,0 +1,4 @@
+pub mod Factor
+pub mod Pattern
+pub mod Laws
+pub mod Worked

@@ -1,0 +1,61 @@
+-- Document 01, "Settings and sizes" and "From pixels to mappings", rule 2, and the footer's factor used.
+-- A float is `nan`, an infinity, or `fin s m e`: m x 2 ^ e, negative where s is true; 2 ^ e is the fraction up e / down e.
+-- Assumes nothing.
+use Prim.Native.Nat.{ℕ, _+_, _*_, _/_, _≤_, _<_, _^_, max}
+use mathlib.Core.Bool.{Bool, true, false, not, _&&_}
+use mathlib.Core.Path.{_≡_}
+use lib.Dec.{leb, ltb, eqb}
+use lib.IntN.{pos}
+use lib.Ieee.{Float, nan, inf, fin, up, down, div, ofInt, binary64}
+use Rattle.limit.specs.declared.Clip.{Clip}
+use Rattle.limit.specs.declared.Clip.the-variants.{Off, Factor}
+use Rattle.limit.specs.declared.Judged.{Judged}
+use Rattle.limit.specs.declared.Judged.the-variants.{Refused, One, Above}
+
+-- "A factor is 1.0 to 1024.0"; refusal 10: "factor NaN, infinite, below 1.0 or above 1024.0"
+unfoldable pub accepted : Float → Bool
+accepted nan = false
+accepted (inf s) = false
+accepted (fin s m e) = not s && leb (down e) (m * up e) && leb (m * up e) (1024 * down e)
+
+-- "exactly 1.0"
+unfoldable pub isOne : Float → Bool
+isOne nan = false
+isOne (inf s) = false
+isOne (fin s m e) = not s && eqb (m * up e) (down e)
+
+-- what a factor is judged to be, by whether it is accepted and whether it is 1.0
+abbrev pub judgedBy : Bool → Bool → Judged
+judgedBy false one = Refused
+judgedBy true true = One
+judgedBy true false = Above
+
+unfoldable pub judgeOf : Float → Judged
+judgeOf f = judgedBy (accepted f) (isOne f)
+
+-- "the factor's f32 bits are taken as the exact binary fraction they denote. L = floor(factor x N / B) in whole numbers,
+-- and at least 1. Nothing is rounded before the floor." No limit is worked out of a float that is no number.
+unfoldable pub limitOf : Float → ℕ → ℕ → ℕ
+limitOf nan n b = 1
+limitOf (inf s) n b = 1
+limitOf (fin s m e) n b = max 1 (m * up e * n / (down e * b))
+
+-- "the factor used as f64: L x B and N are each converted exactly and divided once"
+unfoldable pub usedOf : ℕ → ℕ → ℕ → Float
+usedOf l b n = div binary64 (ofInt binary64 (pos (l * b))) (ofInt binary64 (pos n))
+
+-- refusal 14: "factor above 1.0 and L x B < N"
+unfoldable pub tooTight : Clip → ℕ → ℕ → Bool
+tooTight Off n b = false
+tooTight (Factor f) n b = not (isOne f) && ltb (limitOf f n b * b) n
+
+-- what `limit` asks: an accepted factor, a tile of at most 2048 x 2048 pixels, and bins as document 01 has them
+pub record LimitAsks (f : Float) (n b : ℕ) : Type 0 where
+  pub good : accepted f ≡ true
+  pub pixels : n ≤ 4194304
+  pub least : 2 ≤ b
+  pub most : b ≤ 4096
+
+-- what `used` asks: a product that an f64 holds exactly
+pub record UsedAsks (l b : ℕ) : Type 0 where
+  pub exact : l * b ≤ 4294967296

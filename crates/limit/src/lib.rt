@@ -1,0 +1,56 @@
+// The clip setting, the judgement of its factor, the limit L from the factor's exact fraction, and the factor used.
+ghost use mathlib.Core.Path.{_≡_};
+ghost use Rattle.limit.specs.Limit.{accepted, judgeOf, limitOf, usedOf, LimitAsks, UsedAsks};
+
+// The clip setting is one of two: off, or a factor carried as f32.
+pub enum Clip {
+    Off,
+    Factor(f32),
+}
+
+// What a factor is worth: refused with 10, exactly 1.0, or above it.
+pub enum Judged {
+    Refused,
+    One,
+    Above,
+}
+
+pub fn judge(factor: f32) -> Judged
+    ensures { λ r. ⌜ r ≡ judgeOf factor ⌝ }
+{
+    if 1.0 <= factor {
+        if factor <= 1024.0 {
+            if factor == 1.0 {
+                return Judged::One;
+            }
+            return Judged::Above;
+        }
+    }
+    Judged::Refused
+}
+
+// The limit L of a tile of `pixels` pixels: factor x pixels / bins in whole numbers, rounded down once, and at least 1.
+pub fn limit(factor: f32, pixels: u32, bins: u32) -> u32
+    requires { ⌜ LimitAsks factor pixels bins ⌝ }
+    ensures { λ r. ⌜ r ≡ limitOf factor pixels bins ⌝ }
+{
+    let bits = f32::to_bits(factor) as u64;
+    let exponent = bits / 8388608;
+    let digits = bits % 8388608 + 8388608;
+    let whole = (digits << (exponent - 127)) * (pixels as u64);
+    let floor = whole / ((bins as u64) * 8388608);
+    if floor == 0 {
+        return 1;
+    }
+    floor as u32
+}
+
+// The factor that the limit really stands for: L x B and N, each cast exactly, divided once.
+pub fn used(limit: u32, bins: u32, pixels: u32) -> f64
+    requires { ⌜ UsedAsks limit bins ⌝ }
+    ensures { λ r. ⌜ r ≡ usedOf limit bins pixels ⌝ }
+{
+    let room = ((limit as u64) * (bins as u64)) as f64;
+    let counted = pixels as f64;
+    room / counted
+}

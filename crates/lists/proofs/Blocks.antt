@@ -1,0 +1,218 @@
+-- Laws of `joined` and `blocks`, lists made of blocks of k entries, and of `all` and `every`, a test of each entry.
+-- Assumes nothing.
+use Prim.Native.Nat.{ℕ, zero, suc, _+_, _-_, _*_, _≤_, _<_}
+use mathlib.Core.Bool.{Bool, true, false, _&&_}
+use mathlib.Core.List.{List, [], _∷_, _++_, append-assoc}
+use mathlib.Core.Logic.{⊎-elim}
+use mathlib.Core.Path.{_≡_, refl, sym, ap, ap₂, _∙_}
+use lib.Arith.{digits-lt}
+use lib.ListN.{length, take, drop, getD, set, length-set, length-append, length-drop, List·getD-append, take-append-drop}
+use lib.Seq.{set-split, take-suc-set, drop-set-lt, append-snoc, take-suc, take-all, take-at, drop-at, drop-drop, getD-append-add}
+use native.Mathlib.Nat.{suc-mul, add-mul, one-mul, eq-or-lt-of-le, le-of-suc-le-suc, not-suc-le-zero, mul-le-mul-right}
+use native.Mathlib.Omega.{arith}
+use native.Mathlib.Numerals.{add-one}
+use borrow.Rule.Slice.PartMut.{putMid}
+use Rattle.lists.specs.Lists.{tab, joined, blocks, onto, over, all, every}
+use Rattle.lists.proofs.Tabs.{and-left, and-right, and-both}
+use Rattle.lists.proofs.Fills.{joined-suc, length-joined}
+
+-- ---- joined
+
+-- entry i of block t stands at t * k + i
+pub getD-joined : (k n : ℕ) (f : ℕ → List ℕ) → ((j : ℕ) → j < n → length (f j) ≡ k) → (t i d : ℕ) → t < n → i < k → getD (joined n f) (t * k + i) d ≡ getD (f t) i d
+unfolding joined
+getD-joined k zero f h t i d l b = absurd (not-suc-le-zero l)
+getD-joined k (suc n) f h t i d l b = ⊎-elim last (λ m. before m (getD-joined k n f (λ j q. h j (omega arith)) t i d m b)) (eq-or-lt-of-le (le-of-suc-le-suc l))
+  where
+    front : length (joined n f) ≡ n * k
+    front = length-joined k n f (λ j q. h j (omega arith))
+
+    last : t ≡ n → getD (joined n f ++ f n) (t * k + i) d ≡ getD (f t) i d
+    last e = ap (λ p. getD (joined n f ++ f n) (p + i) d) (ap (λ s. s * k) e ∙ sym front) ∙ (getD-append-add (joined n f) (f n) i d ∙ ap (λ s. getD (f s) i d) (sym e))
+
+    before : t < n → getD (joined n f) (t * k + i) d ≡ getD (f t) i d → getD (joined n f ++ f n) (t * k + i) d ≡ getD (f t) i d
+    before m e = List·getD-append (joined n f) (f n) d (t * k + i) (rw front (digits-lt m b)) ∙ e
+
+-- blocks of one entry each are the list of these entries
+pub joined-ones : (n : ℕ) (f : ℕ → ℕ) → joined n (λ i. f i ∷ []) ≡ tab n f
+unfolding joined tab
+joined-ones zero f = refl
+joined-ones (suc n) f = ap (λ t. t ++ (f n ∷ [])) (joined-ones n f)
+
+-- ---- over
+
+-- one entry written
+pub over-one : (d : List ℕ) (a x : ℕ) → a < length d → set d a x ≡ over d a (x ∷ [])
+unfolding over
+over-one d a x h = rw (set-split d a x h, add-one a) refl
+
+-- two entries written, one behind the other
+pub over-two : (d : List ℕ) (a x y : ℕ) → a + 1 < length d → set (set d a x) (a + 1) y ≡ over d a (x ∷ y ∷ [])
+unfolding over
+over-two d a x y h =
+    let l : suc a < length (set d a x) = rw length-set (omega arith) in
+    let q : suc (suc a) ≡ a + 2 = omega arith in
+    rw (add-one a, set-split (set d a x) (suc a) y l, take-suc-set d a x (omega arith), drop-set-lt (suc (suc a)) d a x (omega arith), append-snoc, q) refl
+
+-- ---- blocks
+
+pub length-blocks : (k : ℕ) (f : ℕ → List ℕ) (d : List ℕ) (n : ℕ) → ((i : ℕ) → i < n → length (f i) ≡ k) → n * k ≤ length d → length (blocks k f d n) ≡ length d
+unfolding blocks
+length-blocks k f d n h l = rw (length-append, length-joined k n f h, length-drop) (omega arith)
+
+-- the front of n blocks
+pub take-blocks : (k : ℕ) (f : ℕ → List ℕ) (d : List ℕ) (n : ℕ) → ((i : ℕ) → i < n → length (f i) ≡ k) → take (n * k) (blocks k f d n) ≡ joined n f
+unfolding blocks
+take-blocks k f d n h = take-at (joined n f) (drop (n * k) d) (n * k) (length-joined k n f h)
+
+-- what lies behind the blocks stays
+pub drop-blocks : (k : ℕ) (f : ℕ → List ℕ) (d : List ℕ) (n : ℕ) → ((i : ℕ) → i < n → length (f i) ≡ k) → drop (n * k) (blocks k f d n) ≡ drop (n * k) d
+unfolding blocks
+drop-blocks k f d n h = drop-at (joined n f) (drop (n * k) d) (n * k) (length-joined k n f h)
+
+-- the blocks are laid down from the front
+pub blocks-onto : (k : ℕ) (f : ℕ → List ℕ) (d : List ℕ) (n : ℕ) → ((i : ℕ) → i < n → length (f i) ≡ k) → blocks k f d n ≡ onto d (joined n f)
+unfolding blocks onto
+blocks-onto k f d n h = rw (length-joined k n f h) refl
+
+-- one block more, list by list
+pub blocks-more : (k : ℕ) (f : ℕ → List ℕ) (d : List ℕ) (t : ℕ) → joined t f ++ (f t ++ drop (t * k + k) d) ≡ blocks k f d (t + 1)
+unfolding blocks
+blocks-more k f d t = rw (joined-suc t f, add-mul, one-mul, append-assoc) refl
+
+-- one block more, where the part from t * k on is replaced by ys
+pub blocks-put : (k : ℕ) (f : ℕ → List ℕ) (d : List ℕ) (t : ℕ) → ((i : ℕ) → i < t → length (f i) ≡ k)
+    → take (t * k) (blocks k f d t) ++ (f t ++ drop k (drop (t * k) (blocks k f d t))) ≡ blocks k f d (t + 1)
+blocks-put k f d t h = rw (take-blocks k f d t h, drop-blocks k f d t h, drop-drop) (blocks-more k f d t)
+
+-- a turn of the loop that lends block t, from a = t * k to e = a + k, and gets ys back: one more block is f's
+pub blocks-part : (k : ℕ) (f : ℕ → List ℕ) (d : List ℕ) {m ys : List ℕ} {t a e : ℕ} → ((i : ℕ) → i < t → length (f i) ≡ k) → a ≡ t * k → e ≡ a + k → m ≡ blocks k f d t → ys ≡ f t → putMid a (e - a) m ys ≡ blocks k f d (t + 1)
+blocks-part k f d {m} {ys} {t} {a} {e} h p q r s =
+    let w : e - a ≡ k = omega arith in
+    ap₂ (λ x y. take x m ++ (ys ++ drop y (drop x m))) p w ∙ (ap₂ (λ x y. take (t * k) x ++ (y ++ drop k (drop (t * k) x))) r s ∙ blocks-put k f d t h)
+
+-- the same with the numbers written out
+pub blocks-step : (k : ℕ) (f : ℕ → List ℕ) (d : List ℕ) {m ys : List ℕ} {t : ℕ} → ((i : ℕ) → i < t → length (f i) ≡ k) → m ≡ blocks k f d t → ys ≡ f t → putMid (t * k) (t * k + k - t * k) m ys ≡ blocks k f d (t + 1)
+blocks-step k f d h r s = blocks-part k f d h refl refl r s
+
+-- a turn of the loop that writes block t over what stands there
+pub blocks-over : (k : ℕ) (f : ℕ → List ℕ) (d : List ℕ) {m n : List ℕ} (t : ℕ) → ((i : ℕ) → i < t + 1 → length (f i) ≡ k) → m ≡ blocks k f d t → n ≡ over m (t * k) (f t) → n ≡ blocks k f d (t + 1)
+unfolding over
+blocks-over k f d {m} {n} t h r s =
+    s ∙ rw (r, h t (omega arith), ← drop-drop k (t * k) (blocks k f d t)) (blocks-put k f d t (λ i l. h i (omega arith)))
+
+-- its end
+pub blocks-end : (k : ℕ) (f : ℕ → List ℕ) (d : List ℕ) {m : List ℕ} {t n : ℕ} → m ≡ blocks k f d t → t ≤ n → n ≤ t → m ≡ blocks k f d n
+blocks-end k f d {m} {t} {n} r h l = let q : t ≡ n = omega arith in r ∙ ap (blocks k f d) q
+
+-- block t lies within a list that has room for n blocks
+pub block-fits : (k n : ℕ) {t len : ℕ} → t < n → n * k ≤ len → t * k + k ≤ len
+block-fits k n {t} {len} l r =
+    let s : t * k + k ≡ suc t * k = sym (suc-mul t k) in
+    let m : suc t * k ≤ n * k = mul-le-mul-right k l in
+    omega arith
+
+-- ---- every
+
+-- one more that is met
+pub every-more : (f : ℕ → Bool) {n : ℕ} → every n f ≡ true → f n ≡ true → every (n + 1) f ≡ true
+unfolding every
+every-more f {n} h q = rw add-one (and-both (every n f) (f n) h q)
+
+-- the end of a loop that met one after the other
+pub every-end : (f : ℕ → Bool) {i n : ℕ} → every i f ≡ true → i ≤ n → n ≤ i → every n f ≡ true
+every-end f {i} {n} h l m = let q : i ≡ n = omega arith in ap (λ k. every k f) (sym q) ∙ h
+
+pub every-cong : (n : ℕ) {f g : ℕ → Bool} → ((i : ℕ) → i < n → f i ≡ g i) → every n f ≡ every n g
+unfolding every
+every-cong zero h = refl
+every-cong (suc n) h = ap₂ (λ a b. a && b) (every-cong n (λ i l. h i (omega arith))) (h n (omega arith))
+
+-- ---- all
+
+pub all-append : (p : ℕ → Bool) (xs ys : List ℕ) → all p (xs ++ ys) ≡ (all p xs && all p ys)
+unfolding all
+all-append p [] ys = refl
+all-append p (x ∷ xs) ys = ap (λ b. p x && b) (all-append p xs ys) ∙ regroup (p x)
+  where
+    regroup : (a : Bool) → (a && (all p xs && all p ys)) ≡ (a && all p xs && all p ys)
+    regroup true = refl
+    regroup false = refl
+
+-- a list of one entry
+pub all-one : (p : ℕ → Bool) {x : ℕ} → p x ≡ true → all p (x ∷ []) ≡ true
+unfolding all
+all-one p {x} h = and-both (p x) true h refl
+
+-- both parts of a list
+pub all-both : (p : ℕ → Bool) (xs ys : List ℕ) → all p xs ≡ true → all p ys ≡ true → all p (xs ++ ys) ≡ true
+all-both p xs ys h l = all-append p xs ys ∙ and-both (all p xs) (all p ys) h l
+
+-- each entry meets it
+pub all-at : (p : ℕ → Bool) (xs : List ℕ) → all p xs ≡ true → (i d : ℕ) → i < length xs → p (getD xs i d) ≡ true
+unfolding all
+all-at p [] h i d l = absurd (not-suc-le-zero l)
+all-at p (x ∷ xs) h zero d l = and-left (p x) (all p xs) h
+all-at p (x ∷ xs) h (suc i) d l = all-at p xs (and-right (p x) (all p xs) h) i d (omega arith)
+
+-- each entry meets it, so all do
+pub all-from : (p : ℕ → Bool) (xs : List ℕ) (d : ℕ) → ((i : ℕ) → i < length xs → p (getD xs i d) ≡ true) → all p xs ≡ true
+unfolding all
+all-from p [] d h = refl
+all-from p (x ∷ xs) d h = and-both (p x) (all p xs) (h zero (omega arith)) (all-from p xs d (λ i l. h (suc i) (omega arith)))
+
+-- one that fails is enough
+pub all-not : (p : ℕ → Bool) (xs : List ℕ) (i d : ℕ) → i < length xs → p (getD xs i d) ≡ false → all p xs ≡ false
+all-not p xs i d l e = go (all p xs) refl
+  where
+    go : (b : Bool) → all p xs ≡ b → all p xs ≡ false
+    go false q = q
+    go true q = q ∙ (sym (all-at p xs q i d l) ∙ e)
+
+pub all-tab : (p : ℕ → Bool) (n : ℕ) (f : ℕ → ℕ) → all p (tab n f) ≡ every n (λ i. p (f i))
+unfolding all tab every
+all-tab p zero f = refl
+all-tab p (suc n) f = all-append p (tab n f) (f n ∷ []) ∙ ap₂ (λ a b. a && b) (all-tab p n f) (last (p (f n)))
+  where
+    last : (b : Bool) → (b && true) ≡ b
+    last true = refl
+    last false = refl
+
+pub all-joined : (p : ℕ → Bool) (n : ℕ) (f : ℕ → List ℕ) → all p (joined n f) ≡ every n (λ i. all p (f i))
+unfolding all joined every
+all-joined p zero f = refl
+all-joined p (suc n) f = all-append p (joined n f) (f n) ∙ ap (λ a. a && all p (f n)) (all-joined p n f)
+
+-- what implies p entry by entry
+pub all-weak : {p q : ℕ → Bool} → ((x : ℕ) → p x ≡ true → q x ≡ true) → (xs : List ℕ) → all p xs ≡ true → all q xs ≡ true
+unfolding all
+all-weak h [] e = refl
+all-weak {p} {q} h (x ∷ xs) e = and-both (q x) (all q xs) (h x (and-left (p x) (all p xs) e)) (all-weak h xs (and-right (p x) (all p xs) e))
+
+pub all-take-drop : (p : ℕ → Bool) (n : ℕ) (xs : List ℕ) → (all p (take n xs) && all p (drop n xs)) ≡ all p xs
+all-take-drop p n xs = sym (all-append p (take n xs) (drop n xs)) ∙ ap (all p) (take-append-drop n xs)
+
+pub all-take : (p : ℕ → Bool) (n : ℕ) (xs : List ℕ) → all p xs ≡ true → all p (take n xs) ≡ true
+all-take p n xs h = and-left (all p (take n xs)) (all p (drop n xs)) (all-take-drop p n xs ∙ h)
+
+pub all-drop : (p : ℕ → Bool) (n : ℕ) (xs : List ℕ) → all p xs ≡ true → all p (drop n xs) ≡ true
+all-drop p n xs h = and-right (all p (take n xs)) (all p (drop n xs)) (all-take-drop p n xs ∙ h)
+
+pub all-set : (p : ℕ → Bool) (xs : List ℕ) (i v : ℕ) → all p xs ≡ true → p v ≡ true → all p (set xs i v) ≡ true
+unfolding all
+all-set p [] i v h e = refl
+all-set p (x ∷ xs) zero v h e = and-both (p v) (all p xs) e (and-right (p x) (all p xs) h)
+all-set p (x ∷ xs) (suc i) v h e = and-both (p x) (all p (set xs i v)) (and-left (p x) (all p xs) h) (all-set p xs i v (and-right (p x) (all p xs) h) e)
+
+-- a loop that goes through a list: nothing was passed yet
+pub all-start : (p : ℕ → Bool) (xs : List ℕ) → all p (take 0 xs) ≡ true
+unfolding all
+all-start p xs = refl
+
+-- one entry more was passed
+pub all-pass : (p : ℕ → Bool) (xs : List ℕ) {i : ℕ} → all p (take i xs) ≡ true → i < length xs → p (getD xs i 0) ≡ true → all p (take (i + 1) xs) ≡ true
+all-pass p xs {i} h l e = rw (add-one, take-suc xs i 0 l) (all-both p (take i xs) (getD xs i 0 ∷ []) h (all-one p e))
+
+-- all were passed
+pub all-end : (p : ℕ → Bool) (xs : List ℕ) {i : ℕ} → all p (take i xs) ≡ true → length xs ≤ i → all p xs ≡ true
+all-end p xs {i} h l = ap (all p) (sym (take-all i xs l)) ∙ h

@@ -1,0 +1,29 @@
+// Filling and copying a slice.
+ghost use mathlib.Core.Path.{_≡_};
+ghost use Prim.Native.Nat.{_≤_};
+ghost use lib.ListN.{length};
+ghost use Rattle.lists.specs.Lists.{onto, filled};
+
+// Sets the first n entries to 0; entries behind keep their contents.
+pub fn clear(s: &mut [u32], n: usize)
+    requires { ⌜ n ≤ length (now s) ⌝ }
+    ensures { λ _. ⌜ now (s .exit) ≡ filled (λ k. 0) (now (s .entry)) n ⌝ }
+{
+    let mut i = 0;
+    while i < n {
+        s[i] = 0;
+        i += 1;
+    }
+}
+
+// Copies src to the front of dst; entries behind keep their contents.
+pub fn copy(src: &[u16], dst: &mut [u16])
+    requires { ⌜ length (now src) ≤ length (now dst) ⌝ }
+    ensures { λ _. ⌜ now (dst .exit) ≡ onto (now (dst .entry)) (now (src .entry)) ⌝ }
+{
+    let mut i = 0;
+    while i < src.len() {
+        dst[i] = src[i];
+        i += 1;
+    }
+}

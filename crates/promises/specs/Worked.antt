@@ -1,0 +1,83 @@
+-- Document 01, "Numbers to check by hand": the numbers marked (*), as rows of one table. The rules are the definitions that the contracts cite.
+-- Assumes nothing.
+use Prim.Native.Nat.{ℕ, _+_, _*_}
+use mathlib.Core.Bool.{Bool, true, false, _&&_, Bool·beq}
+use mathlib.Core.List.{List, [], _∷_}
+use lib.Dec.{eqb, ltb}
+use lib.ListN.{getD}
+use lib.Ieee.{ofBits, binary32}
+use Rattle.limit.specs.declared.Clip.the-variants.{Factor}
+use Rattle.limit.specs.Limit.{limitOf, tooTight}
+use Rattle.clip.specs.Clip.{clipped}
+use Rattle.tile.specs.Tile.{binOf, mappingOf}
+use Rattle.blend.specs.declared.Place.{Place}
+use Rattle.blend.specs.Blend.{placeOf, greyOf}
+
+-- two lists of numbers are the same
+unfoldable pub same : List ℕ → List ℕ → Bool
+same [] [] = true
+same [] (y ∷ ys) = false
+same (x ∷ xs) [] = false
+same (x ∷ xs) (y ∷ ys) = eqb x y && same xs ys
+
+-- a worked number: what goes in, and last what the document says comes out
+pub data Row : Type 0 where
+  -- a factor's f32 bits, N and B: L, and whether 14 is given
+  limit : ℕ → ℕ → ℕ → ℕ → Bool → Row
+  -- L and counts: the clipped counts
+  clip : ℕ → List ℕ → List ℕ → Row
+  -- Min, Max, N and counts: the mapping
+  mapping : ℕ → ℕ → ℕ → List ℕ → List ℕ → Row
+  -- Min, Max, B and a grey: its bin
+  bin : ℕ → ℕ → ℕ → ℕ → ℕ → Row
+  -- a pixel of a film of 2 by 2 tiles, each 2 by 2, whose mapped values are 10, 20, 30, 41: its grey
+  grey : ℕ → ℕ → ℕ → Row
+
+-- the grey of that pixel
+unfoldable pub greyAt : ℕ → ℕ → ℕ
+greyAt x y =
+    let column = placeOf 2 2 x in
+    let row = placeOf 2 2 y in
+    let tile : ℕ → ℕ → ℕ = λ j i. getD (10 ∷ 20 ∷ 30 ∷ 41 ∷ []) (j * 2 + i) 0 in
+    greyOf column row
+    (tile (row .lower) (column .lower)) (tile (row .lower) (column .upper))
+    (tile (row .upper) (column .lower)) (tile (row .upper) (column .upper))
+
+-- a row holds of the rules
+unfoldable pub holds : Row → Bool
+holds (limit f n b l tight) = eqb (limitOf (ofBits binary32 f) n b) l && Bool·beq (tooTight (Factor (ofBits binary32 f)) n b) tight
+holds (clip l cs ds) = same (clipped l cs) ds
+holds (mapping lo hi n cs vs) = same (mappingOf lo hi n cs) vs
+holds (bin lo hi b v k) = eqb (binOf lo hi b v) k
+holds (grey x y v) = eqb (greyAt x y) v
+
+unfoldable pub allHold : List Row → Bool
+allHold [] = true
+allHold (r ∷ rs) = holds r && allHold rs
+
+-- the marked numbers, in the document's order
+unfoldable pub worked : List Row
+worked =
+    -- N 100, B 64: factor 1.5 gives L 2; 1.25 gives L 1 and refusal 14. N 1, B 4, factor 2: L 1.
+    limit 0x3fc00000 100 64 2 false
+    ∷ limit 0x3fa00000 100 64 1 true
+    ∷ limit 0x40000000 1 4 1 false
+    -- B 4, L 6, counts 16,0,0,0: result 6,4,3,3; for range 0..15 the mapping is 5,9,12,15.
+    ∷ clip 6 (16 ∷ 0 ∷ 0 ∷ 0 ∷ []) (6 ∷ 4 ∷ 3 ∷ 3 ∷ [])
+    ∷ mapping 0 15 16 (6 ∷ 4 ∷ 3 ∷ 3 ∷ []) (5 ∷ 9 ∷ 12 ∷ 15 ∷ [])
+    -- L 6, 9,5,1,1: 6,6,2,2. L 6, 11,5,0,0: 6,6,3,1.
+    ∷ clip 6 (9 ∷ 5 ∷ 1 ∷ 1 ∷ []) (6 ∷ 6 ∷ 2 ∷ 2 ∷ [])
+    ∷ clip 6 (11 ∷ 5 ∷ 0 ∷ 0 ∷ []) (6 ∷ 6 ∷ 3 ∷ 1 ∷ [])
+    -- L 7, 19,6,0,0: 7,7,6,5
+    ∷ clip 7 (19 ∷ 6 ∷ 0 ∷ 0 ∷ []) (7 ∷ 7 ∷ 6 ∷ 5 ∷ [])
+    -- L 4, 16,0,0,0: 4,4,4,4. L 4, B 4, N 17: refusal 14 (the factor 1.125 gives L 4).
+    ∷ clip 4 (16 ∷ 0 ∷ 0 ∷ 0 ∷ []) (4 ∷ 4 ∷ 4 ∷ 4 ∷ [])
+    ∷ limit 0x3f900000 17 4 4 true
+    -- Range 0..255: B 128 puts 255 in bin 127; B 100 in bin 85.
+    ∷ bin 0 255 128 255 127
+    ∷ bin 0 255 100 255 85
+    -- Tiles 2 by 2, grid 2 by 2, mapped values 10, 20, 30, 41: pixel x 2, y 2 gives 25; x 1, y 2 gives 20; x 2, y 0 gives 15.
+    ∷ grey 2 2 25
+    ∷ grey 1 2 20
+    ∷ grey 2 0 15
+    ∷ []

@@ -1,0 +1,1 @@
+// No code: the demands as theorems over the contracts, and the table of worked numbers.

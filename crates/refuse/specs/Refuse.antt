@@ -1,0 +1,34 @@
+-- Document 01, the refusal table: "The first that applies is given."
+-- Assumes nothing.
+use Prim.Native.Nat.{ℕ, _<_}
+use mathlib.Core.Bool.{Bool, true, false}
+use mathlib.Core.List.{List, [], _∷_}
+use mathlib.Core.Path.{_≡_}
+
+-- a row of a table: a refusal's number, and whether it applies
+pub data Row : Type 0 where
+  row : ℕ → Bool → Row
+
+-- the number, where the row applies, else what the rows behind it give
+abbrev pub pick : Bool → ℕ → ℕ → ℕ
+pick true n rest = n
+pick false n rest = rest
+
+-- the number of the first row that applies, and 0 where none does
+unfoldable pub first : List Row → ℕ
+first [] = 0
+first (row n b ∷ rows) = pick b n (first rows)
+
+-- no row applies
+abbrev pub None : List Row → Type 0
+None [] = Unit {0}
+None (row n b ∷ rows) = (b ≡ false) × None rows
+
+-- each row's number is above 0, so that 0 says that no row applies
+abbrev pub Numbered : List Row → Type 0
+Numbered [] = Unit {0}
+Numbered (row n b ∷ rows) = (0 < n) × Numbered rows
+
+-- the rows in front of `rest` do not apply: what is left of the table gives the whole table's number
+pub record Past (whole rest : List Row) : Type 0 where
+  pub same : first whole ≡ first rest

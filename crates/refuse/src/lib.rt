@@ -1,0 +1,1 @@
+// Refusals as tables: definitions and laws alone, in specs/ and proofs/.

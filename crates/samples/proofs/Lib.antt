@@ -1,0 +1,4 @@
+pub mod Widths
+pub mod Bounds
+pub mod Packing
+pub mod Trips

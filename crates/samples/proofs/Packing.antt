@@ -1,0 +1,42 @@
+-- A raster that is laid down sample by sample.
+-- Assumes nothing.
+use Prim.Native.Nat.{ℕ, _+_, _*_, _≤_, _<_}
+use mathlib.Core.Bool.{Bool}
+use mathlib.Core.List.{List}
+use mathlib.Core.Path.{_≡_, _∙_}
+use lib.ListN.{length, getD}
+use Rattle.lists.specs.Lists.{blocks, onto, over}
+use Rattle.lists.proofs.Fills.{blocks-none, length-joined}
+use Rattle.lists.proofs.Blocks.{blocks-over, blocks-end, blocks-onto, block-fits}
+use Rattle.samples.specs.Samples.{sizeOf, bytesOf, packed}
+use Rattle.samples.proofs.Widths.{length-bytes}
+
+-- d with the first n greys laid down at its front
+unfoldable pub laid : Bool → List ℕ → List ℕ → ℕ → List ℕ
+laid two vs d n = blocks (sizeOf two) (λ k. bytesOf two (getD vs k 0)) d n
+
+-- nothing was laid down yet
+pub laid-first : (two : Bool) (vs d : List ℕ) → d ≡ laid two vs d 0
+unfolding laid
+laid-first two vs d = blocks-none (sizeOf two) (λ k. bytesOf two (getD vs k 0)) d
+
+-- one grey more was laid down
+pub laid-next : (two : Bool) (vs d : List ℕ) {m n : List ℕ} (i : ℕ) → m ≡ laid two vs d i → n ≡ over m (i * sizeOf two) (bytesOf two (getD vs i 0)) → n ≡ laid two vs d (i + 1)
+unfolding laid
+laid-next two vs d i e o = blocks-over (sizeOf two) (λ k. bytesOf two (getD vs k 0)) d i (λ j l. length-bytes two (getD vs j 0)) e o
+
+-- all greys were laid down
+pub laid-end : (two : Bool) (vs d : List ℕ) {m : List ℕ} {i : ℕ} → m ≡ laid two vs d i → i ≤ length vs → length vs ≤ i → m ≡ onto d (packed two vs)
+unfolding laid packed
+laid-end two vs d e h l =
+    let f : ℕ → List ℕ = λ k. bytesOf two (getD vs k 0) in
+    blocks-end (sizeOf two) f d e h l ∙ blocks-onto (sizeOf two) f d (length vs) (λ j l. length-bytes two (getD vs j 0))
+
+-- room for all greys is room for grey i
+pub laid-fits : (two : Bool) (vs : List ℕ) (i : ℕ) {len : ℕ} → i < length vs → length vs * sizeOf two ≤ len → i * sizeOf two + sizeOf two ≤ len
+laid-fits two vs i l r = block-fits (sizeOf two) (length vs) l r
+
+-- greys laid down take as many bytes as samples times the bytes of one
+pub length-packed : (two : Bool) (vs : List ℕ) → length (packed two vs) ≡ length vs * sizeOf two
+unfolding packed
+length-packed two vs = length-joined (sizeOf two) (length vs) (λ k. bytesOf two (getD vs k 0)) (λ i l. length-bytes two (getD vs i 0))

@@ -1,0 +1,11 @@
+use mathlib.Core.Path.{refl}
+use Rattle.samples.specs.Samples.{isWide}
+use Rattle.samples.proofs.is_wide.Statement.{statement}
+use Rattle.samples.proofs.is_wide.Tie as tie
+
+returns : tie.Need-returns
+unfolding isWide
+returns c = refl
+
+pub is-wide-spec : {M : Type 1} → statement M
+is-wide-spec = tie.close (tie.spec returns)

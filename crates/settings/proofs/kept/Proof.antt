@@ -1,0 +1,18 @@
+use mathlib.Core.Path.{refl}
+use borrow.Author.Needs.{needs}
+use Rattle.settings.proofs.kept.Statement.{statement}
+use Rattle.settings.proofs.kept.Tie as tie
+use Rattle.settings.proofs.kept.Reads as reads
+use Rattle.settings.proofs.kept.Lts as lts
+use Rattle.settings.proofs.bins.Reads as bins-reads
+
+-- src/lib.rt:59:15
+bins-requires : tie.Need-bins-requires
+bins-requires c κs = search needs
+
+-- src/lib.rt:52:1
+returns : tie.Need-returns
+returns c = rw (c .bins .ensures) refl
+
+pub kept-spec : {M : Type 1} → statement M
+kept-spec = tie.close (tie.spec bins-requires returns)

@@ -1,0 +1,58 @@
+use native.Mathlib.Nat.{mul-le-mul, lt-of-le-of-lt}
+use lib.Dec.{lit<}
+use mathlib.Core.Path.{refl}
+use borrow.Author.Tests.{lt-ltb, le-ltb}
+use Rattle.refuse.specs.Refuse.{first}
+use Rattle.settings.specs.Settings.{roomRows}
+use Rattle.settings.proofs.Ready.{entries-small}
+use borrow.Author.Needs.{needs}
+use Rattle.settings.proofs.room_refusal.Statement.{statement}
+use Rattle.settings.proofs.room_refusal.Tie as tie
+use Rattle.settings.proofs.room_refusal.Reads as reads
+use Rattle.settings.proofs.room_refusal.Lts as lts
+use Rattle.settings.proofs.bins.Reads as bins-reads
+
+-- src/lib.rt:192:18
+cast-across : tie.Need-cast-across
+cast-across c = search needs
+
+-- src/lib.rt:193:16
+cast-down : tie.Need-cast-down
+cast-down c = search needs
+
+-- src/lib.rt:194:16
+bins-requires : tie.Need-bins-requires
+bins-requires c κs = search needs
+
+-- src/lib.rt:194:16
+cast-each : tie.Need-cast-each
+cast-each c = search needs
+
+-- src/lib.rt:195:15
+mul-if1 : tie.Need-mul-if1
+mul-if1 c = record { fits = lt-of-le-of-lt (mul-le-mul (c .before .before .before .pre .0) (c .before .before .before .pre .1)) (lit< tt) }
+
+-- src/lib.rt:195:15
+mul-if1-2 : tie.Need-mul-if1-2
+mul-if1-2 c =
+    record {
+      fits =
+          lt-of-le-of-lt
+          (entries-small _ _ _ (c .before .before .before .pre .0) (c .before .before .before .pre .1) (rw (c .bins .ensures) (c .before .before .before .pre .2)))
+          (lit< tt);
+    }
+
+-- src/lib.rt:196:9
+returns : tie.Need-returns
+unfolding first roomRows
+returns c = rw (← c .before .bins .ensures, lt-ltb _ _ (c .if1 .taken)) refl
+
+-- src/lib.rt:188:1
+returns-2 : tie.Need-returns-2
+unfolding first roomRows
+returns-2 c = rw (← c .before .bins .ensures, le-ltb _ _ (c .if1 .left)) refl
+
+pub room-refusal-spec : {M : Type 1} → statement M
+room-refusal-spec =
+    tie.close
+    (tie.spec cast-across cast-down bins-requires cast-each mul-if1 mul-if1-2 returns returns-2)

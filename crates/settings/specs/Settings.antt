@@ -1,0 +1,111 @@
+-- Document 01, "Settings and sizes", and the rows of the refusal table that prepare, enhance and draw share.
+-- Assumes nothing.
+use Prim.Native.Nat.{ℕ, _+_, _*_, _/_, _%_, _≤_, _<_}
+use mathlib.Core.Bool.{Bool, true, false, not, cond}
+use mathlib.Core.List.{List, [], _∷_, _++_}
+use mathlib.Core.Path.{_≡_}
+use lib.Dec.{leb, ltb, eqb}
+use lib.Ieee.{eq}
+use Rattle.limit.specs.declared.Clip.{Clip}
+use Rattle.limit.specs.declared.Clip.the-variants.{Off, Factor}
+use Rattle.limit.specs.Limit.{accepted, isOne}
+use Rattle.refuse.specs.Refuse.{Row, row}
+use Rattle.settings.specs.declared.Settings.{Settings}
+use Rattle.settings.specs.declared.MapRecord.{MapRecord}
+
+-- "Bins B: 2 to 4096. 0 means 128."
+unfoldable pub binsOf : Settings → ℕ
+binsOf s = cond (eqb (s .bins) 0) 128 (s .bins)
+
+-- the settings "with bins 0 kept as 128"
+abbrev pub keptOf : Settings → Settings
+keptOf s = record { across = s .across; down = s .down; bins = binsOf s; min = s .min; max = s .max; clip = s .clip }
+
+-- "A map record holds the film's number .., sizes and settings, with bins 0 kept as 128."
+abbrev pub recordOf : ℕ → ℕ → ℕ → Settings → MapRecord
+recordOf film w h s = record { film = film; width = w; height = h; settings = keptOf s }
+
+-- "tw and th are tile width and height, N = tw x th"
+abbrev pub tileWidth : ℕ → Settings → ℕ
+tileWidth w s = w / s .across
+
+abbrev pub tileHeight : ℕ → Settings → ℕ
+tileHeight h s = h / s .down
+
+abbrev pub tilePixels : ℕ → ℕ → Settings → ℕ
+tilePixels w h s = tileWidth w s * tileHeight h s
+
+-- "(grid across) x (grid down) x B"
+abbrev pub entriesOf : Settings → ℕ
+entriesOf s = s .across * s .down * binsOf s
+
+-- 10: "factor NaN, infinite, below 1.0 or above 1024.0"
+abbrev pub clipBad : Clip → Bool
+clipBad Off = false
+clipBad (Factor f) = not (accepted f)
+
+-- "exactly 1.0"
+abbrev pub clipOne : Clip → Bool
+clipOne Off = false
+clipOne (Factor f) = isOne f
+
+-- two clip settings are the same: both off, or two factors that are equal as numbers
+unfoldable pub sameClip : Clip → Clip → Bool
+sameClip Off Off = true
+sameClip Off (Factor g) = false
+sameClip (Factor f) Off = false
+sameClip (Factor f) (Factor g) = eq f g
+
+-- 1 and 2: "width or height is 0 or above 4096", "picture length is not width x height"
+unfoldable pub sizeRows : ℕ → ℕ → ℕ → List Row
+sizeRows w h size =
+    row 1 (eqb w 0) ∷ row 1 (ltb 4096 w) ∷ row 1 (eqb h 0) ∷ row 1 (ltb 4096 h) ∷ row 2 (not (eqb size (w * h))) ∷ []
+
+-- 3 to 6: "grid across / down is not 2 to 16", "width / height is no multiple of the grid"
+unfoldable pub gridRows : ℕ → ℕ → Settings → List Row
+gridRows w h s =
+    row 3 (ltb (s .across) 2)
+    ∷ row 3 (ltb 16 (s .across))
+    ∷ row 4 (ltb (s .down) 2)
+    ∷ row 4 (ltb 16 (s .down))
+    ∷ row 5 (not (eqb (w % s .across) 0))
+    ∷ row 6 (not (eqb (h % s .down) 0))
+    ∷ []
+
+-- 7 to 10: "Max above 4095 / Min not below Max", "bins 1 or above 4096", the factor
+unfoldable pub greyRows : Settings → List Row
+greyRows s =
+    row 7 (ltb 4095 (s .max))
+    ∷ row 8 (leb (s .max) (s .min))
+    ∷ row 9 (eqb (s .bins) 1)
+    ∷ row 9 (ltb 4096 (s .bins))
+    ∷ row 10 (clipBad (s .clip))
+    ∷ []
+
+-- 11: "map buffer shorter than (grid across) x (grid down) x B"
+unfoldable pub roomRows : Settings → ℕ → List Row
+roomRows s room = row 11 (ltb room (entriesOf s)) ∷ []
+
+-- the rows 1 to 11
+unfoldable pub sharedRows : ℕ → ℕ → ℕ → Settings → ℕ → List Row
+sharedRows w h size s room = sizeRows w h size ++ (gridRows w h s ++ (greyRows s ++ roomRows s room))
+
+-- what a call knows once none of the rows 1 to 11 applies
+pub record Ready (w h size : ℕ) (s : Settings) (room : ℕ) : Type 0 where
+  pub wide : 0 < w
+  pub widest : w ≤ 4096
+  pub high : 0 < h
+  pub highest : h ≤ 4096
+  pub whole : size ≡ w * h
+  pub across : 2 ≤ s .across
+  pub acrossmost : s .across ≤ 16
+  pub down : 2 ≤ s .down
+  pub downmost : s .down ≤ 16
+  pub columns : w % s .across ≡ 0
+  pub rows : h % s .down ≡ 0
+  pub max : s .max ≤ 4095
+  pub min : s .min < s .max
+  pub bins : 2 ≤ binsOf s
+  pub binsmost : binsOf s ≤ 4096
+  pub clip : clipBad (s .clip) ≡ false
+  pub fitting : entriesOf s ≤ room

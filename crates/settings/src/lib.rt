@@ -1,0 +1,218 @@
+// The records that a station hands in and gets back, and the refusals that all calls on films share.
+ghost use mathlib.Core.Path.{_≡_};
+ghost use Prim.Native.Nat.{_≤_};
+ghost use Rattle.refuse.specs.Refuse.{first};
+ghost use Rattle.settings.specs.Settings.{binsOf, keptOf, clipBad, clipOne, sameClip, sizeRows, gridRows, greyRows, roomRows, sharedRows};
+use limit::Clip;
+use limit::Judged;
+
+// Grid across and down, bins, grey range and clip setting.
+pub struct Settings {
+    pub across: u32,
+    pub down: u32,
+    pub bins: u32,
+    pub min: u32,
+    pub max: u32,
+    pub clip: Clip,
+}
+
+// What a film's mappings were made for: its number, sizes and settings, with bins 0 kept as 128.
+pub struct MapRecord {
+    pub film: u32,
+    pub width: u32,
+    pub height: u32,
+    pub settings: Settings,
+}
+
+// The limit, the factor asked for and the factor that the limit really stands for.
+pub struct Footer {
+    pub limit: u32,
+    pub asked: f32,
+    pub used: f64,
+}
+
+// A part of a film.
+pub struct Window {
+    pub left: u32,
+    pub top: u32,
+    pub width: u32,
+    pub height: u32,
+}
+
+// The bins, with 0 read as 128.
+pub fn bins(s: Settings) -> u32
+    ensures { λ r. ⌜ r ≡ binsOf s ⌝ }
+{
+    if s.bins == 0 {
+        return 128;
+    }
+    s.bins
+}
+
+// The settings with bins 0 as 128.
+pub fn kept(s: Settings) -> Settings
+    ensures { λ r. ⌜ r ≡ keptOf s ⌝ }
+{
+    let clip = s.clip;
+    Settings {
+        across: s.across,
+        down: s.down,
+        bins: bins(s),
+        min: s.min,
+        max: s.max,
+        clip,
+    }
+}
+
+// Whether the factor is refused.
+pub fn clip_bad(clip: Clip) -> bool
+    ensures { λ r. ⌜ r ≡ clipBad clip ⌝ }
+{
+    match clip {
+        Clip::Off => false,
+        Clip::Factor(f) => {
+            let judged = limit::judge(f);
+            match judged {
+                Judged::Refused => true,
+                Judged::One => false,
+                Judged::Above => false,
+            }
+        }
+    }
+}
+
+// Whether the factor is exactly 1.0.
+pub fn clip_one(clip: Clip) -> bool
+    ensures { λ r. ⌜ r ≡ clipOne clip ⌝ }
+{
+    match clip {
+        Clip::Off => false,
+        Clip::Factor(f) => {
+            let judged = limit::judge(f);
+            match judged {
+                Judged::Refused => false,
+                Judged::One => true,
+                Judged::Above => false,
+            }
+        }
+    }
+}
+
+// Whether two clip settings are the same.
+pub fn same_clip(a: Clip, b: Clip) -> bool
+    ensures { λ r. ⌜ r ≡ sameClip a b ⌝ }
+{
+    match a {
+        Clip::Off => match b {
+            Clip::Off => true,
+            Clip::Factor(_) => false,
+        },
+        Clip::Factor(f) => match b {
+            Clip::Off => false,
+            Clip::Factor(g) => f == g,
+        },
+    }
+}
+
+// The first of the refusals 1 and 2 that applies, else 0.
+fn size_refusal(width: u32, height: u32, size: usize) -> u32
+    ensures { λ r. ⌜ r ≡ first (sizeRows width height size) ⌝ }
+{
+    if width == 0 {
+        return 1;
+    }
+    if 4096 < width {
+        return 1;
+    }
+    if height == 0 {
+        return 1;
+    }
+    if 4096 < height {
+        return 1;
+    }
+    if size != (width as usize) * (height as usize) {
+        return 2;
+    }
+    0
+}
+
+// The first of the refusals 3 to 6 that applies, else 0.
+fn grid_refusal(width: u32, height: u32, s: Settings) -> u32
+    ensures { λ r. ⌜ r ≡ first (gridRows width height s) ⌝ }
+{
+    if s.across < 2 {
+        return 3;
+    }
+    if 16 < s.across {
+        return 3;
+    }
+    if s.down < 2 {
+        return 4;
+    }
+    if 16 < s.down {
+        return 4;
+    }
+    if width % s.across != 0 {
+        return 5;
+    }
+    if height % s.down != 0 {
+        return 6;
+    }
+    0
+}
+
+// The first of the refusals 7 to 10 that applies, else 0.
+fn grey_refusal(s: Settings) -> u32
+    ensures { λ r. ⌜ r ≡ first (greyRows s) ⌝ }
+{
+    if 4095 < s.max {
+        return 7;
+    }
+    if s.max <= s.min {
+        return 8;
+    }
+    if s.bins == 1 {
+        return 9;
+    }
+    if 4096 < s.bins {
+        return 9;
+    }
+    let clip = s.clip;
+    if clip_bad(clip) {
+        return 10;
+    }
+    0
+}
+
+// Refusal 11, where it applies, else 0.
+fn room_refusal(s: Settings, room: usize) -> u32
+    requires { ⌜ (s .across ≤ 16) × (s .down ≤ 16) × (binsOf s ≤ 4096) ⌝ }
+    ensures { λ r. ⌜ r ≡ first (roomRows s room) ⌝ }
+{
+    let across = s.across as usize;
+    let down = s.down as usize;
+    let each = bins(s) as usize;
+    if room < across * down * each {
+        return 11;
+    }
+    0
+}
+
+// The first of the refusals 1 to 11 that applies, else 0.
+pub fn shared(width: u32, height: u32, size: usize, s: Settings, room: usize) -> u32
+    ensures { λ r. ⌜ r ≡ first (sharedRows width height size s room) ⌝ }
+{
+    let sizes = size_refusal(width, height, size);
+    if sizes != 0 {
+        return sizes;
+    }
+    let grid = grid_refusal(width, height, s);
+    if grid != 0 {
+        return grid;
+    }
+    let greys = grey_refusal(s);
+    if greys != 0 {
+        return greys;
+    }
+    room_refusal(s, room)
+}

@@ -1,0 +1,98 @@
+-- Laws of `greysOf`, the greys of a rectangle of a picture, row by row.
+-- Assumes nothing.
+use Prim.Native.Nat.{ℕ, zero, suc, _+_, _-_, _*_, _/_, _≤_, _<_}
+use mathlib.Core.Bool.{Bool, true, false}
+use mathlib.Core.List.{List, [], _∷_, _++_, map}
+use mathlib.Core.Path.{_≡_, refl, sym, ap, ap₂, _∙_}
+use lib.ListN.{length, take, drop, getD}
+use native.Mathlib.Nat.{mul-comm, suc-mul, zero-mul, mul-zero, mul-le-mul-right, le-mul-of-pos-right, le-trans}
+use native.Mathlib.Omega.{arith}
+use Rattle.lists.specs.Lists.{tab, joined, all}
+use Rattle.lists.proofs.Tabs.{length-tab, tab-cong}
+use Rattle.lists.proofs.Fills.{length-joined, joined-cong}
+use Rattle.lists.proofs.Tallies.{all-at, all-tab, all-joined, all-joined-at, part-tab}
+use Rattle.tile.specs.declared.Rect.{Rect}
+use Rattle.tile.specs.Tile.{greysOf, countsOf, Inside}
+
+-- the greys of row y of the rectangle
+unfoldable pub rowOf : List ℕ → ℕ → Rect → ℕ → List ℕ
+rowOf pic stride r y = tab (r .width) (λ x. getD pic ((r .top + y) * stride + (r .left + x)) 0)
+
+pub greys-rows : (pic : List ℕ) (stride : ℕ) (r : Rect) → greysOf pic stride r ≡ joined (r .height) (rowOf pic stride r)
+unfolding greysOf rowOf
+greys-rows pic stride r = refl
+
+pub length-row : (pic : List ℕ) (stride : ℕ) (r : Rect) (y : ℕ) → length (rowOf pic stride r y) ≡ r .width
+unfolding rowOf
+length-row pic stride r y = length-tab (r .width) _
+
+-- the rows down to row y have y times the rectangle's width greys
+pub length-rows : (pic : List ℕ) (stride : ℕ) (r : Rect) (y : ℕ) → length (joined y (rowOf pic stride r)) ≡ y * r .width
+length-rows pic stride r y = length-joined (r .width) y (rowOf pic stride r) (λ i l. length-row pic stride r i)
+
+-- there is a grey for each pixel of the rectangle
+pub length-greys : (pic : List ℕ) (stride : ℕ) (r : Rect) → length (greysOf pic stride r) ≡ r .width * r .height
+length-greys pic stride r = ap length (greys-rows pic stride r) ∙ length-rows pic stride r (r .height) ∙ mul-comm (r .height) (r .width)
+
+-- ---- where the pixels of a row lie
+
+-- a row ends inside the picture
+pub row-room : {size stride : ℕ} {r : Rect} → Inside size stride r → (y : ℕ) → y < r .height → (r .top + y) * stride + (r .left + r .width) ≤ size
+row-room {size} {stride} {r} inside y h =
+    let next : suc (r .top + y) * stride ≤ (r .top + r .height) * stride = mul-le-mul-right stride (omega arith) in
+    omega (arith, suc-mul (r .top + y) stride, inside .across, inside .down)
+
+-- a rectangle has a column at least
+pub some-width : {size stride : ℕ} {r : Rect} → Inside size stride r → 0 < r .width
+some-width {size} {stride} {r} inside = go (r .width) (inside .some)
+  where
+    go : (w : ℕ) → 0 < w * r .height → 0 < w
+    go zero h = omega (arith, zero-mul (r .height))
+    go (suc w) h = omega arith
+
+-- it ends no further down than the picture has pixels
+pub bottom-room : {size stride : ℕ} {r : Rect} → Inside size stride r → r .top + r .height ≤ size
+bottom-room {size} {stride} {r} inside =
+    let wide : 0 < stride = omega (arith, some-width inside, inside .across) in
+    le-trans (le-mul-of-pos-right (r .top + r .height) wide) (inside .down)
+
+-- the row as a part of the picture
+pub part-row : (pic : List ℕ) (stride : ℕ) (r : Rect) → Inside (length pic) stride r → (y : ℕ) → y < r .height
+    → take ((r .top + y) * stride + r .left + r .width - ((r .top + y) * stride + r .left)) (drop ((r .top + y) * stride + r .left) pic) ≡ rowOf pic stride r y
+unfolding rowOf
+part-row pic stride r inside y h =
+    let a : ℕ = (r .top + y) * stride + r .left in
+    let w : a + r .width - a ≡ r .width = omega arith in
+    ap (λ k. take k (drop a pic)) w
+    ∙ part-tab pic a (r .width) (omega (arith, row-room inside y h))
+    ∙ tab-cong (r .width) (λ x l. ap (λ i. getD pic i 0) (omega arith))
+
+-- ---- what the greys speak of
+
+-- the index of a pixel of the rectangle is inside the picture
+pub pixel-room : {size stride : ℕ} {r : Rect} → Inside size stride r → (y x : ℕ) → y < r .height → x < r .width
+    → (r .top + y) * stride + (r .left + x) < size
+pixel-room inside y x h l = omega (arith, row-room inside y h)
+
+-- what holds of each pixel of the picture holds of each grey of the rectangle
+pub greys-all : (p : ℕ → Bool) (pic : List ℕ) (stride : ℕ) (r : Rect) → Inside (length pic) stride r → all p pic ≡ true → all p (greysOf pic stride r) ≡ true
+unfolding greysOf
+greys-all p pic stride r inside h =
+    all-joined p (r .height) _ (λ y l. all-tab p (r .width) _ (λ x m. all-at p pic 0 h _ (pixel-room inside y x l m)))
+
+-- what holds of each grey of the rectangle holds of each grey of a row
+pub row-all : (p : ℕ → Bool) (pic : List ℕ) (stride : ℕ) (r : Rect) → all p (greysOf pic stride r) ≡ true → (y : ℕ) → y < r .height → all p (rowOf pic stride r y) ≡ true
+row-all p pic stride r h y l = all-joined-at p (r .height) (rowOf pic stride r) (ap (all p) (sym (greys-rows pic stride r)) ∙ h) y l
+
+-- the greys speak only of the rectangle's pixels: two pictures that agree there have the same
+pub greys-only : (pic pic′ : List ℕ) (stride : ℕ) (r : Rect)
+    → ((y x : ℕ) → y < r .height → x < r .width → getD pic ((r .top + y) * stride + (r .left + x)) 0 ≡ getD pic′ ((r .top + y) * stride + (r .left + x)) 0)
+    → greysOf pic stride r ≡ greysOf pic′ stride r
+unfolding greysOf
+greys-only pic pic′ stride r h = joined-cong (r .height) (λ y l. tab-cong (r .width) (λ x m. h y x l m))
+
+-- and so do the counts
+pub counts-only : (lo hi b : ℕ) (pic pic′ : List ℕ) (stride : ℕ) (r : Rect)
+    → ((y x : ℕ) → y < r .height → x < r .width → getD pic ((r .top + y) * stride + (r .left + x)) 0 ≡ getD pic′ ((r .top + y) * stride + (r .left + x)) 0)
+    → countsOf lo hi b (greysOf pic stride r) ≡ countsOf lo hi b (greysOf pic′ stride r)
+counts-only lo hi b pic pic′ stride r h = ap (countsOf lo hi b) (greys-only pic pic′ stride r h)

@@ -1,0 +1,40 @@
+-- The turns of `count_row`: what each grey of a row does to the counts.
+-- Assumes nothing.
+use Prim.Native.Nat.{ℕ, zero, suc, _+_, _-_, _*_, _/_, _≤_, _<_}
+use mathlib.Core.Bool.{Bool, true, false}
+use mathlib.Core.List.{List, [], _∷_, _++_, map}
+use mathlib.Core.Path.{_≡_, refl, sym, ap, ap₂, _∙_}
+use lib.ListN.{length, take, drop, getD, set, length-take}
+use lib.Seq.{take-suc, take-all, length-take-le}
+use native.Mathlib.Numerals.{add-one}
+use native.Mathlib.Omega.{arith}
+use Rattle.lists.proofs.Tallies.{all-at}
+use Rattle.tile.specs.Tile.{within, binOf, addedOf, RowAsks}
+use Rattle.tile.proofs.Bins.{within-low, within-high, bin-below}
+use Rattle.tile.proofs.Counts.{added-one, added-le}
+
+module _ {row : List ℕ} {lo hi b : ℕ} {cs₀ : List ℕ} (asks : RowAsks row lo hi b cs₀) where
+  pub row-within : (x : ℕ) → x < length row → within lo hi (getD row x 0) ≡ true
+  row-within x l = all-at (within lo hi) row 0 (asks .greys) x l
+
+  -- the grey at x has a bin
+  pub row-bin : (x k : ℕ) → x < length row → k ≡ binOf lo hi b (getD row x 0) → k < b
+  row-bin x k l e = omega (arith, bin-below lo hi b (getD row x 0) (row-within x l) (asks .some))
+
+  -- there is room for one more in a bin
+  pub row-fits : {cs : List ℕ} {x k : ℕ} → x < length row → cs ≡ addedOf lo hi b cs₀ (take x row) → k < b → getD cs k 0 + 1 < 4294967296
+  row-fits {cs} {x} {k} l e h =
+      let at : getD cs k 0 ≡ getD (addedOf lo hi b cs₀ (take x row)) k 0 = ap (λ s. getD s k 0) e in
+      omega (arith, added-le lo hi b cs₀ (take x row) k h, length-take-le x row (omega arith), asks .fits k h)
+
+  -- one grey more
+  pub row-next : {cs : List ℕ} {x k : ℕ} → x < length row → cs ≡ addedOf lo hi b cs₀ (take x row) → k ≡ binOf lo hi b (getD row x 0)
+      → set cs k (getD cs k 0 + 1) ≡ addedOf lo hi b cs₀ (take (x + 1) row)
+  row-next {cs} {x} {k} l e q =
+      ap₂ (λ s j. set s j (getD s j 0 + 1)) e q
+      ∙ added-one lo hi b cs₀ (take x row) (getD row x 0) (bin-below lo hi b (getD row x 0) (row-within x l) (asks .some))
+      ∙ ap (addedOf lo hi b cs₀) (sym (rw add-one (take-suc row x 0 l)))
+
+-- the whole row
+pub row-end : (lo hi b : ℕ) (cs₀ row : List ℕ) {cs : List ℕ} {x : ℕ} → cs ≡ addedOf lo hi b cs₀ (take x row) → length row ≤ x → cs ≡ addedOf lo hi b cs₀ row
+row-end lo hi b cs₀ row {cs} {x} e h = e ∙ ap (addedOf lo hi b cs₀) (take-all x row h)

@@ -1,0 +1,236 @@
+-- Laws of `clippedBy`, `tileCounts` and `tileMapping`: the counts of a tile by its clip setting, and their mapping.
+-- Assumes nothing.
+use Prim.Native.Nat.{ℕ, zero, suc, _+_, _-_, _*_, _/_, _≤_, _<_}
+use mathlib.Core.Bool.{Bool, true, false}
+use mathlib.Core.List.{List, [], _∷_, _++_}
+use mathlib.Core.Path.{_≡_, refl, sym, ap, ap₂, _∙_, subst}
+use lib.ListN.{length, take, drop, getD}
+use lib.Ieee.{Float}
+use lib.Seq.{take-at}
+use native.Mathlib.Omega.{arith}
+use Rattle.lists.specs.Lists.{total, all, onto}
+use Rattle.lists.proofs.Fills.{take-onto, drop-onto}
+use Rattle.limit.specs.declared.Clip.{Clip}
+use Rattle.limit.specs.declared.Clip.the-variants.{Off, Factor}
+use Rattle.limit.specs.Limit.{limitOf, accepted, LimitAsks}
+use Rattle.clip.specs.Clip.{clipped}
+use Rattle.clip.specs.Asks.{ClipAsks}
+use Rattle.clip.proofs.Laws.{length-clipped, total-clipped, clipped-most}
+use Rattle.tile.specs.Tile.{within, countsOf, clippedBy, mappedOf, mappingOf, tileCounts, tileMapping, greysOf, Holds, off, factor, ClipByAsks, MapAsks, TileAsks, TileMapped}
+use Rattle.tile.specs.declared.Rect.{Rect}
+use Rattle.tile.proofs.Greys.{length-greys}
+use Rattle.tile.proofs.Counts.{length-counts, total-counts}
+use Rattle.tile.proofs.Mapped.{length-mapping, getD-mapping, mapping-within, mapped-mono, mapped-rise, mapped-first, mapped-last}
+
+-- ---- what a clip setting asks and gives
+
+pub holds-accepted : {f : Float} {n b : ℕ} → Holds (Factor f) n b → accepted f ≡ true
+holds-accepted (factor good room) = good
+
+pub holds-room : {f : Float} {n b : ℕ} → Holds (Factor f) n b → n ≤ limitOf f n b * b
+holds-room (factor good room) = room
+
+pub limit-asks : {clip : Clip} {f : Float} {n : ℕ} {cs : List ℕ} → ClipByAsks clip n cs → clip ≡ Factor f → LimitAsks f n (length cs)
+limit-asks {clip} {f} {n} {cs} asks e =
+    let h : Holds (Factor f) n (length cs) = subst (λ c. Holds c n (length cs)) e (asks .holds) in
+    record { good = holds-accepted h; pixels = asks .few-pixels; least = asks .some; most = asks .few }
+
+pub clip-asks : {clip : Clip} {f : Float} {n : ℕ} {cs : List ℕ} {l : ℕ} → ClipByAsks clip n cs → clip ≡ Factor f → l ≡ limitOf f n (length cs)
+    → ClipAsks l cs
+clip-asks {clip} {f} {n} {cs} {l} asks e q =
+    let h : Holds (Factor f) n (length cs) = subst (λ c. Holds c n (length cs)) e (asks .holds) in
+    let room : n ≤ l * length cs = rw q (holds-room h) in
+    record {
+      some-bin = omega (arith, asks .some);
+      few-bins = asks .few;
+      few-pixels = omega (arith, asks .all-pixels, asks .few-pixels);
+      holds = omega (arith, asks .all-pixels);
+    }
+
+-- with clip off the raw counts stay
+pub clipped-off : {clip : Clip} (n : ℕ) (cs : List ℕ) → clip ≡ Off → cs ≡ clippedBy clip n cs
+unfolding clippedBy
+clipped-off n cs e = rw e refl
+
+-- else they are clipped at the limit
+pub clipped-factor : {clip : Clip} {f : Float} (n : ℕ) (cs : List ℕ) {l : ℕ} {ds : List ℕ} → clip ≡ Factor f → l ≡ limitOf f n (length cs) → ds ≡ clipped l cs
+    → ds ≡ clippedBy clip n cs
+unfolding clippedBy
+clipped-factor n cs e q h = rw e (h ∙ ap (λ k. clipped k cs) q)
+
+pub length-clipped-by : (clip : Clip) (n : ℕ) (cs : List ℕ) → length (clippedBy clip n cs) ≡ length cs
+unfolding clippedBy
+length-clipped-by Off n cs = refl
+length-clipped-by (Factor f) n cs = length-clipped (limitOf f n (length cs)) cs
+
+-- clipping keeps the total, where the limit has room
+pub total-clipped-by : (clip : Clip) (n : ℕ) (cs : List ℕ) → Holds clip n (length cs) → total cs ≡ n → 0 < length cs → total (clippedBy clip n cs) ≡ n
+unfolding clippedBy
+total-clipped-by Off n cs h e p = e
+total-clipped-by (Factor f) n cs h e p = total-clipped (limitOf f n (length cs)) cs p (omega (arith, holds-room h)) ∙ e
+
+-- ---- the counts of a tile
+
+-- there is a count for each bin
+pub length-tile-counts : (lo hi b : ℕ) (clip : Clip) (vs : List ℕ) → length (tileCounts lo hi b clip vs) ≡ b
+unfolding tileCounts
+length-tile-counts lo hi b clip vs = length-clipped-by clip (length vs) (countsOf lo hi b vs) ∙ length-counts lo hi b vs
+
+-- they add up to the tile's pixels
+pub total-tile-counts : (lo hi b : ℕ) (clip : Clip) (vs : List ℕ) → all (within lo hi) vs ≡ true → 0 < b → Holds clip (length vs) b
+    → total (tileCounts lo hi b clip vs) ≡ length vs
+unfolding tileCounts
+total-tile-counts lo hi b clip vs h p room =
+    total-clipped-by
+    clip
+    (length vs)
+    (countsOf lo hi b vs)
+    (subst (λ k. Holds clip (length vs) k) (sym (length-counts lo hi b vs)) room)
+    (total-counts lo hi b vs h p)
+    (omega (arith, length-counts lo hi b vs))
+
+-- with a factor, none is above the limit
+pub tile-counts-most : (lo hi b : ℕ) (f : Float) (vs : List ℕ) (k : ℕ) → getD (tileCounts lo hi b (Factor f) vs) k 0 ≤ limitOf f (length vs) b
+unfolding tileCounts clippedBy
+tile-counts-most lo hi b f vs k =
+    let n : ℕ = limitOf f (length vs) (length (countsOf lo hi b vs)) in
+    let same : n ≡ limitOf f (length vs) b = ap (limitOf f (length vs)) (length-counts lo hi b vs) in
+    omega (arith, clipped-most n (countsOf lo hi b vs) k)
+
+-- ---- the mapping of a tile
+
+-- a mapped value for each bin
+pub length-tile-mapping : (lo hi b : ℕ) (clip : Clip) (vs : List ℕ) → length (tileMapping lo hi b clip vs) ≡ b
+unfolding tileMapping
+length-tile-mapping lo hi b clip vs = length-mapping lo hi (length vs) (tileCounts lo hi b clip vs) ∙ length-tile-counts lo hi b clip vs
+
+-- each within Min to Max
+pub tile-mapping-within : (lo hi b : ℕ) (clip : Clip) (vs : List ℕ) → all (within lo hi) vs ≡ true → 0 < b → lo ≤ hi → Holds clip (length vs) b
+    → all (within lo hi) (tileMapping lo hi b clip vs) ≡ true
+unfolding tileMapping
+tile-mapping-within lo hi b clip vs h p l room =
+    mapping-within lo hi (length vs) (tileCounts lo hi b clip vs) (omega (arith, total-tile-counts lo hi b clip vs h p room)) l
+
+-- the mapped value of bin k
+pub getD-tile-mapping : (lo hi b : ℕ) (clip : Clip) (vs : List ℕ) (k : ℕ) → k < b
+    → getD (tileMapping lo hi b clip vs) k 0 ≡ mappedOf lo hi (length vs) (tileCounts lo hi b clip vs) k
+unfolding tileMapping
+getD-tile-mapping lo hi b clip vs k h =
+    getD-mapping lo hi (length vs) (tileCounts lo hi b clip vs) k (omega (arith, length-tile-counts lo hi b clip vs))
+
+-- it never falls
+pub tile-mapping-mono : (lo hi b : ℕ) (clip : Clip) (vs : List ℕ) → 0 < length vs → (k j : ℕ) → k ≤ j → j < b
+    → getD (tileMapping lo hi b clip vs) k 0 ≤ getD (tileMapping lo hi b clip vs) j 0
+tile-mapping-mono lo hi b clip vs p k j h l =
+    omega (
+      arith,
+      getD-tile-mapping lo hi b clip vs k (omega arith),
+      getD-tile-mapping lo hi b clip vs j l,
+      mapped-mono lo hi (length vs) (tileCounts lo hi b clip vs) p k j h,
+    )
+
+-- with a factor, it rises from a bin to the next by at most L x R over N, rounded up
+pub tile-mapping-rise : (lo hi b : ℕ) (f : Float) (vs : List ℕ) → 0 < length vs → (k : ℕ) → k + 1 < b
+    → getD (tileMapping lo hi b (Factor f) vs) (k + 1) 0
+    ≤ getD (tileMapping lo hi b (Factor f) vs) k 0 + (limitOf f (length vs) b * (hi - lo) + length vs - 1) / length vs
+tile-mapping-rise lo hi b f vs p k h =
+    omega (
+      arith,
+      getD-tile-mapping lo hi b (Factor f) vs (k + 1) h,
+      getD-tile-mapping lo hi b (Factor f) vs k (omega arith),
+      mapped-rise lo hi (length vs) (limitOf f (length vs) b) (tileCounts lo hi b (Factor f) vs) p k (tile-counts-most lo hi b f vs (k + 1)),
+    )
+
+-- and from Min to the first bin by at most as much
+pub tile-mapping-first : (lo hi b : ℕ) (f : Float) (vs : List ℕ) → 0 < length vs → 0 < b
+    → getD (tileMapping lo hi b (Factor f) vs) 0 0 ≤ lo + (limitOf f (length vs) b * (hi - lo) + length vs - 1) / length vs
+tile-mapping-first lo hi b f vs p h =
+    omega (
+      arith,
+      getD-tile-mapping lo hi b (Factor f) vs 0 h,
+      mapped-first lo hi (length vs) (limitOf f (length vs) b) (tileCounts lo hi b (Factor f) vs) p (tile-counts-most lo hi b f vs 0),
+    )
+
+-- the last bin maps to Max
+pub tile-mapping-last : (lo hi b : ℕ) (clip : Clip) (vs : List ℕ) → all (within lo hi) vs ≡ true → 0 < b → lo ≤ hi → 0 < length vs → Holds clip (length vs) b
+    → getD (tileMapping lo hi b clip vs) (b - 1) 0 ≡ hi
+tile-mapping-last lo hi b clip vs h p l some room =
+    let cs : List ℕ = tileCounts lo hi b clip vs in
+    let n : length cs ≡ b = length-tile-counts lo hi b clip vs in
+    getD-tile-mapping lo hi b clip vs (b - 1) (omega arith)
+    ∙ ap (λ k. mappedOf lo hi (length vs) cs (k - 1)) (sym n)
+    ∙ mapped-last lo hi (length vs) cs some (total-tile-counts lo hi b clip vs h p room) l (omega arith)
+
+-- ---- the steps of `mapping`: counted, clipped, mapped
+
+module _ {pic : List ℕ} {stride : ℕ} {r : Rect} {lo hi b : ℕ} {clip : Clip} {scratch out : ℕ} (asks : TileAsks pic stride r lo hi b clip scratch out) where
+  -- the greys are as many as the tile's pixels
+  tile-pixels : length (greysOf pic stride r) ≡ r .width * r .height
+  tile-pixels = length-greys pic stride r
+
+  tile-holds : Holds clip (length (greysOf pic stride r)) b
+  tile-holds = subst (λ n. Holds clip n b) (sym tile-pixels) (asks .holds)
+
+  -- the front of the scratch holds the counts
+  pub tile-counted : (d : List ℕ) {s : List ℕ} → s ≡ onto d (countsOf lo hi b (greysOf pic stride r)) → take b s ≡ countsOf lo hi b (greysOf pic stride r)
+  tile-counted d {s} e = ap (take b) e ∙ take-onto d (countsOf lo hi b (greysOf pic stride r)) b (length-counts lo hi b (greysOf pic stride r))
+
+  pub tile-part : (d : List ℕ) {s : List ℕ} → s ≡ onto d (countsOf lo hi b (greysOf pic stride r)) → b ≡ length (take b s)
+  tile-part d e = sym (ap length (tile-counted d e) ∙ length-counts lo hi b (greysOf pic stride r))
+
+  pub tile-clip-asks : (d : List ℕ) {s : List ℕ} → s ≡ onto d (countsOf lo hi b (greysOf pic stride r)) → ClipByAsks clip (r .width * r .height) (take b s)
+  tile-clip-asks d {s} e =
+      record {
+        holds = subst (λ k. Holds clip (r .width * r .height) k) (tile-part d e) (asks .holds);
+        all-pixels = ap total (tile-counted d e) ∙ total-counts lo hi b (greysOf pic stride r) (asks .counts .greys) (omega (arith, asks .counts .scale .some)) ∙ tile-pixels;
+        few-pixels = asks .counts .inside .few;
+        some = omega (arith, tile-part d e, asks .counts .scale .some);
+        few = omega (arith, tile-part d e, asks .counts .scale .few);
+      }
+
+  -- then the clipped counts
+  pub tile-clipped : (d : List ℕ) {s p : List ℕ} → s ≡ onto d (countsOf lo hi b (greysOf pic stride r)) → p ≡ clippedBy clip (r .width * r .height) (take b s)
+      → p ≡ tileCounts lo hi b clip (greysOf pic stride r)
+  unfolding tileCounts
+  tile-clipped d e q = q ∙ ap₂ (clippedBy clip) (sym tile-pixels) (tile-counted d e)
+
+  pub tile-front : (d : List ℕ) {s p : List ℕ} → s ≡ onto d (countsOf lo hi b (greysOf pic stride r)) → p ≡ clippedBy clip (r .width * r .height) (take b s)
+      → take b (p ++ drop b s) ≡ tileCounts lo hi b clip (greysOf pic stride r)
+  tile-front d {s} {p} e q =
+      let f : p ≡ tileCounts lo hi b clip (greysOf pic stride r) = tile-clipped d e q in
+      take-at p (drop b s) b (ap length f ∙ length-tile-counts lo hi b clip (greysOf pic stride r)) ∙ f
+
+  pub tile-front-part : (d : List ℕ) {s p : List ℕ} → s ≡ onto d (countsOf lo hi b (greysOf pic stride r)) → p ≡ clippedBy clip (r .width * r .height) (take b s)
+      → b ≡ length (take b (p ++ drop b s))
+  tile-front-part d e q = sym (ap length (tile-front d e q) ∙ length-tile-counts lo hi b clip (greysOf pic stride r))
+
+  pub tile-map-asks : (d : List ℕ) {s p : List ℕ} → s ≡ onto d (countsOf lo hi b (greysOf pic stride r)) → p ≡ clippedBy clip (r .width * r .height) (take b s)
+      → MapAsks (take b (p ++ drop b s)) (r .width * r .height) lo hi out
+  tile-map-asks d {s} {p} e q =
+      let t : total (take b (p ++ drop b s)) ≡ length (greysOf pic stride r)
+      = ap total (tile-front d e q) ∙ total-tile-counts lo hi b clip (greysOf pic stride r) (asks .counts .greys) (omega (arith, asks .counts .scale .some)) tile-holds in
+      record {
+        sum = omega (arith, tile-pixels);
+        some = asks .counts .inside .some;
+        few = asks .counts .inside .few;
+        order = asks .counts .scale .order;
+        most = asks .counts .scale .most;
+        enough = omega (arith, tile-front-part d e q, asks .room);
+      }
+
+  -- at the end
+  pub tile-mapped : (d o : List ℕ) {s p o′ : List ℕ} → s ≡ onto d (countsOf lo hi b (greysOf pic stride r)) → p ≡ clippedBy clip (r .width * r .height) (take b s)
+      → o′ ≡ onto o (mappingOf lo hi (r .width * r .height) (take b (p ++ drop b s)))
+      → TileMapped lo hi b clip (greysOf pic stride r) d (p ++ drop b s) o o′
+  unfolding tileMapping onto
+  tile-mapped d o {s} {p} {o′} e q h =
+      record {
+        counts = ap₂ (λ x y. x ++ y) (tile-clipped d e q) behind;
+        mapping = h ∙ ap₂ (λ n cs. onto o (mappingOf lo hi n cs)) (sym tile-pixels) (tile-front d e q);
+      }
+    where
+      behind : drop b s ≡ drop (length (tileCounts lo hi b clip (greysOf pic stride r))) d
+      behind =
+          ap (drop b) e
+          ∙ drop-onto d (countsOf lo hi b (greysOf pic stride r)) b (length-counts lo hi b (greysOf pic stride r))
+          ∙ ap (λ k. drop k d) (sym (length-tile-counts lo hi b clip (greysOf pic stride r)))

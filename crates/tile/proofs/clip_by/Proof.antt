@@ -1,0 +1,42 @@
+use borrow.Author.Needs.{needs}
+use Rattle.clip.specs.Asks.{ClipAsks}
+use Rattle.tile.proofs.Tiles.{limit-asks, clip-asks, clipped-off, clipped-factor}
+use Rattle.tile.proofs.clip_by.Statement.{statement}
+use Rattle.tile.proofs.clip_by.Tie as tie
+
+enum-told : tie.Need-enum-told
+enum-told c = search needs
+
+enum-known-clip : tie.Need-enum-known-clip
+enum-known-clip c = search needs
+
+cast-limit : tie.Need-cast-limit
+cast-limit c = search needs
+
+limit-requires : tie.Need-limit-requires
+limit-requires c κs = limit-asks (c .before .before .before .before .pre) (c .before .clip .given .1)
+
+clip-requires : tie.Need-clip-requires
+clip-requires c κs = clip-asks (c .before .before .before .before .before .before .pre) (c .before .before .before .clip .given .1) (c .before .limit .ensures)
+
+returns : tie.Need-returns
+returns c = clipped-off _ _ (c .enum-told .given .1)
+
+same-length : tie.Need-same-length
+same-length c = search needs
+
+returns-2 : tie.Need-returns-2
+returns-2 c = clipped-factor _ _ (c .before .before .before .before .before .before .clip .given .1) (c .before .before .before .before .limit .ensures) (c .before .before .clip2 .ensures)
+
+pub clip-by-spec : {M : Type 1} → statement M
+clip-by-spec =
+    tie.close
+    (tie.spec
+    enum-told
+    enum-known-clip
+    cast-limit
+    limit-requires
+    clip-requires
+    returns
+    same-length
+    returns-2)
