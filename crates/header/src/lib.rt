@@ -210,7 +210,7 @@ fn decimal(out: &mut [u8], at: usize, n: u32) -> usize
 }
 
 // Writes the digits of n from `at` on and one byte behind them; hands back the place behind it.
-fn field(out: &mut [u8], at: usize, n: u32, end: u8) -> usize
+pub fn field(out: &mut [u8], at: usize, n: u32, end: u8) -> usize
     requires { ⌜ (n < 100000) × (at + length (decimalOf 5 n) < length (now out)) ⌝ }
     ensures { λ r. ⌜ (now (out .exit) ≡ over (now (out .entry)) at (decimalOf 5 n ++ (end ∷ []))) × (r ≡ at + length (decimalOf 5 n) + 1) ⌝ }
 {

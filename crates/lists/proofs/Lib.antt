@@ -5,3 +5,5 @@ pub mod Tallies
 pub mod Totals
 pub mod Blocks
 pub mod Overs
+pub mod Windows
+pub mod Maps

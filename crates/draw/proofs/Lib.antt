@@ -1,0 +1,4 @@
+pub mod Frames
+pub mod Tables
+pub mod Works
+pub mod Laws

@@ -1,0 +1,67 @@
+-- The work of draw: what its steps ask, and the outcome of each of its returns.
+-- Assumes nothing.
+use Prim.Native.Nat.{ℕ, zero, suc, _*_}
+use mathlib.Core.Bool.{false}
+use mathlib.Core.List.{List}
+use mathlib.Core.Path.{_≡_, refl, sym, ap, _∙_}
+use lib.ListN.{length}
+use Rattle.lists.specs.Lists.{all}
+use Rattle.lists.proofs.Fills.{length-joined}
+use Rattle.refuse.specs.Refuse.{first}
+use Rattle.tile.specs.Tile.{within, greysOf}
+use Rattle.settings.specs.declared.Settings.{Settings}
+use Rattle.settings.specs.declared.MapRecord.{MapRecord}
+use Rattle.settings.specs.declared.Window.{Window}
+use Rattle.settings.specs.Settings.{clipOne}
+use Rattle.render.specs.Render.{rectOf, renderOf, Mapped, Shown}
+use Rattle.render.proofs.Laws.{ready-mapped}
+use Rattle.draw.specs.declared.Drawn.the-variants.{Done, Refused}
+use Rattle.draw.specs.Draw.{drawRows, drawnOf, drawOf, showing, settled, CopyAsks, WindowReady}
+use Rattle.draw.proofs.Frames.{line, greys-lines, length-line}
+use Rattle.draw.proofs.Tables.{framed}
+
+-- there is a grey for each pixel of the window
+pub length-greys : (pic : List ℕ) (stride : ℕ) (win : Window) → length (greysOf pic stride (rectOf win)) ≡ win .height * win .width
+length-greys pic stride win =
+    ap length (greys-lines pic stride win)
+    ∙ length-joined (win .width) (win .height) (line pic stride win) (λ y l. length-line pic stride win y)
+
+-- what the copying asks
+pub copy-asks : {w h : ℕ} {pic : List ℕ} {s : Settings} {win : Window} {m : List ℕ} (out : List ℕ) → WindowReady w h pic s win m (length out) → CopyAsks pic w win out
+copy-asks out ready =
+    record { framed = framed (ready .wide) (ready .across) (ready .down) (ready .ready .whole); size = ready .area }
+
+-- what the rendering of the copied pixels asks
+pub render-asks : {w h : ℕ} {pic : List ℕ} {s : Settings} {win : Window} {m out : List ℕ} {room : ℕ} → WindowReady w h pic s win m room → out ≡ greysOf pic w (rectOf win)
+    → clipOne (s .clip) ≡ false → Mapped w h s m × Shown w h s win out
+render-asks {w} {h} {pic} {s} {win} {m} {out} ready e one = (
+  ready-mapped (ready .ready) refl (ready .mappings one),
+  record {
+    across = ready .across;
+    down = ready .down;
+    size = ap length e ∙ length-greys pic w win;
+    greys = ap (all (within (s .min) (s .max))) e ∙ ready .greys;
+  },
+)
+
+-- ---- the returns of draw
+
+-- a number above 0 is a refusal, and leaves the output as it was
+settled-refused : (x : ℕ) (out pixels : List ℕ) → (x ≡ 0 → ⊥) → showing (Refused x) out ≡ settled x out pixels
+settled-refused zero out pixels z = absurd (z refl)
+settled-refused (suc n) out pixels z = refl
+
+module _ (film w h : ℕ) (pic : List ℕ) (s : Settings) (r : MapRecord) (win : Window) (m out : List ℕ) where
+  -- the pixels that draw leaves where it refuses nothing
+  unfoldable pixels : List ℕ
+  pixels = drawnOf (clipOne (s .clip)) (greysOf pic w (rectOf win)) (renderOf w h s m win (greysOf pic w (rectOf win)))
+
+  pub ends-refused : {x : ℕ} → x ≡ first (drawRows film w h pic s r win m (length out)) → (x ≡ 0 → ⊥) → showing (Refused x) out ≡ drawOf film w h pic s r win m out
+  unfolding drawOf pixels
+  ends-refused {x} e z = settled-refused x out pixels z ∙ ap (λ n. settled n out pixels) e
+
+  pub ends-well : {x : ℕ} {end : List ℕ} → x ≡ first (drawRows film w h pic s r win m (length out)) → x ≡ 0
+      → end ≡ drawnOf (clipOne (s .clip)) (greysOf pic w (rectOf win)) (renderOf w h s m win (greysOf pic w (rectOf win)))
+      → showing Done end ≡ drawOf film w h pic s r win m out
+  unfolding drawOf pixels
+  ends-well e z q = ap (showing Done) q ∙ ap (λ n. settled n out pixels) (sym z ∙ e)

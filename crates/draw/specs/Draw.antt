@@ -1,0 +1,130 @@
+-- Document 01, "What each call hands back" for draw: what it answers, and what the output holds at the end.
+-- film, w, h, pic and s come with the call, r is the map record, win the window, m the map buffer and out the output as lent.
+-- Assumes nothing.
+use Prim.Native.Nat.{ℕ, zero, suc, _+_, _*_, _≤_, _<_}
+use mathlib.Core.Bool.{Bool, true, false, not, _&&_}
+use mathlib.Core.List.{List, [], _∷_, _++_}
+use mathlib.Core.Path.{_≡_}
+use lib.Dec.{ltb, eqb}
+use lib.ListN.{length, take}
+use Rattle.lists.specs.Lists.{all}
+use Rattle.refuse.specs.Refuse.{Row, row, first}
+use Rattle.tile.specs.Tile.{within, greysOf}
+use Rattle.settings.specs.declared.Settings.{Settings}
+use Rattle.settings.specs.declared.MapRecord.{MapRecord}
+use Rattle.settings.specs.declared.Window.{Window}
+use Rattle.settings.specs.Settings.{binsOf, entriesOf, clipOne, sameClip, sharedRows, Ready}
+use Rattle.render.specs.Render.{renderOf, rectOf}
+use Rattle.draw.specs.declared.Drawn.{Drawn}
+use Rattle.draw.specs.declared.Drawn.the-variants.{Done, Refused}
+
+-- 15: "record differs in film number, size or any setting (bins 0 read as 128 on both sides)", a row for each field
+unfoldable pub recordRows : ℕ → ℕ → ℕ → Settings → MapRecord → List Row
+recordRows film w h s r =
+    row 15 (not (eqb film (r .film)))
+    ∷ row 15 (not (eqb w (r .width)))
+    ∷ row 15 (not (eqb h (r .height)))
+    ∷ row 15 (not (eqb (s .across) (r .settings .across)))
+    ∷ row 15 (not (eqb (s .down) (r .settings .down)))
+    ∷ row 15 (not (eqb (binsOf s) (binsOf (r .settings))))
+    ∷ row 15 (not (eqb (s .min) (r .settings .min)))
+    ∷ row 15 (not (eqb (s .max) (r .settings .max)))
+    ∷ row 15 (not (sameClip (s .clip) (r .settings .clip)))
+    ∷ []
+
+-- 16 and 17: "window empty or not inside the film / output length is not the window's area"
+unfoldable pub windowRows : ℕ → ℕ → Window → ℕ → List Row
+windowRows w h win room =
+    row 16 (eqb (win .width) 0)
+    ∷ row 16 (eqb (win .height) 0)
+    ∷ row 16 (ltb w (win .left + win .width))
+    ∷ row 16 (ltb h (win .top + win .height))
+    ∷ row 17 (not (eqb room (win .height * win .width)))
+    ∷ []
+
+-- "then 13 over the window, then 18 (not at factor 1.0)": 18 is "one of the first (grid across) x (grid down) x B map entries outside Min to Max"
+unfoldable pub pixelRows : ℕ → List ℕ → Settings → Window → List ℕ → List Row
+pixelRows w pic s win m =
+    row 13 (not (all (within (s .min) (s .max)) (greysOf pic w (rectOf win))))
+    ∷ row 18 (not (clipOne (s .clip)) && not (all (within (s .min) (s .max)) (take (entriesOf s) m)))
+    ∷ []
+
+-- "Draw: 1 to 11, 15, 16, 17, then 13 over the window, then 18 (not at factor 1.0)"
+unfoldable pub drawRows : ℕ → ℕ → ℕ → List ℕ → Settings → MapRecord → Window → List ℕ → ℕ → List Row
+drawRows film w h pic s r win m room =
+    sharedRows w h (length pic) s (length m) ++ (recordRows film w h s r ++ (windowRows w h win room ++ pixelRows w pic s win m))
+
+-- "the window's pixels row by row in the output, each by the rule above from the map entries as lent, whoever wrote them. At factor 1.0 it copies them."
+abbrev pub drawnOf : Bool → List ℕ → List ℕ → List ℕ
+drawnOf true greys rendered = greys
+drawnOf false greys rendered = rendered
+
+-- what draw leaves: its answer and the output
+pub record Shows : Type 0 where
+  pub answer : Drawn
+  pub out : List ℕ
+
+-- a refusal leaves the output as it was
+abbrev pub settled : ℕ → List ℕ → List ℕ → Shows
+settled zero out pixels = record { answer = Done; out = pixels }
+settled (suc n) out pixels = record { answer = Refused (suc n); out = out }
+
+unfoldable pub drawOf : ℕ → ℕ → ℕ → List ℕ → Settings → MapRecord → Window → List ℕ → List ℕ → Shows
+drawOf film w h pic s r win m out =
+    settled (first (drawRows film w h pic s r win m (length out))) out
+    (drawnOf (clipOne (s .clip)) (greysOf pic w (rectOf win)) (renderOf w h s m win (greysOf pic w (rectOf win))))
+
+-- the answer and the output at the end, as draw leaves them
+abbrev pub showing : Drawn → List ℕ → Shows
+showing answer out = record { answer = answer; out = out }
+
+-- ---- what the functions ask
+
+-- a window inside a picture of `size` pixels, `stride` wide, of a column at least
+pub record Framed (size stride : ℕ) (win : Window) : Type 0 where
+  pub some : 0 < win .width
+  pub across : win .left + win .width ≤ stride
+  pub down : (win .top + win .height) * stride ≤ size
+
+-- what the copying of a window asks: it lies inside the picture, and the output has its area
+pub record CopyAsks (pic : List ℕ) (stride : ℕ) (win : Window) (out : List ℕ) : Type 0 where
+  pub framed : Framed (length pic) stride win
+  pub size : length out ≡ win .height * win .width
+
+-- what the search for 13 and 18 asks: a window inside the film, a grid and bins as document 01 has them, and room for the mappings
+pub record LookAsks (size w : ℕ) (s : Settings) (win : Window) (room : ℕ) : Type 0 where
+  pub framed : Framed size w win
+  pub acrossmost : s .across ≤ 16
+  pub downmost : s .down ≤ 16
+  pub binsmost : binsOf s ≤ 4096
+  pub fitting : entriesOf s ≤ room
+
+-- what the work of draw asks: settings that are not refused, a window inside the film with a pixel at least, an output of its area,
+-- pixels from Min to Max, and but at factor 1.0 mappings from Min to Max
+pub record WindowReady (w h : ℕ) (pic : List ℕ) (s : Settings) (win : Window) (m : List ℕ) (room : ℕ) : Type 0 where
+  pub ready : Ready w h (length pic) s (length m)
+  pub wide : 0 < win .width
+  pub high : 0 < win .height
+  pub across : win .left + win .width ≤ w
+  pub down : win .top + win .height ≤ h
+  pub area : room ≡ win .height * win .width
+  pub greys : all (within (s .min) (s .max)) (greysOf pic w (rectOf win)) ≡ true
+  pub mappings : clipOne (s .clip) ≡ false → all (within (s .min) (s .max)) (take (entriesOf s) m) ≡ true
+
+-- ---- what draw knows once none of its rows applies
+
+-- a record that was made for this film, this size and these settings
+pub record Held (film w h : ℕ) (s : Settings) (r : MapRecord) : Type 0 where
+  pub number : film ≡ r .film
+  pub wide : w ≡ r .width
+  pub high : h ≡ r .height
+  pub across : s .across ≡ r .settings .across
+  pub down : s .down ≡ r .settings .down
+  pub bins : binsOf s ≡ binsOf (r .settings)
+  pub least : s .min ≡ r .settings .min
+  pub most : s .max ≡ r .settings .max
+  pub clip : sameClip (s .clip) (r .settings .clip) ≡ true
+
+pub record DrawReady (film w h : ℕ) (pic : List ℕ) (s : Settings) (r : MapRecord) (win : Window) (m : List ℕ) (room : ℕ) : Type 0 where
+  pub held : Held film w h s r
+  pub shown : WindowReady w h pic s win m room

@@ -1,0 +1,35 @@
+-- Laws of entries: of a slice that is filled from the front, and of lists that agree in front.
+-- Assumes nothing.
+use Prim.Native.Nat.{ℕ, zero, suc, _+_, _-_, _*_, _≤_, _<_}
+use mathlib.Core.List.{List, [], _∷_, _++_, append-nil}
+use mathlib.Core.Path.{_≡_, refl, sym, ap, _∙_}
+use lib.ListN.{length, take, drop, getD}
+use lib.Seq.{getD-append-add, getD-drop, getD-take, drop-length}
+use native.Mathlib.Omega.{arith}
+use Rattle.lists.specs.Lists.{tab, joined, filled, blocks}
+use Rattle.lists.proofs.Tabs.{length-tab}
+
+-- an entry behind those that were filled is as it was
+pub getD-behind : (f : ℕ → ℕ) (d : List ℕ) (n i : ℕ) → n ≤ i → getD (filled f d n) i 0 ≡ getD d i 0
+unfolding filled
+getD-behind f d n i h =
+    let at : i ≡ length (tab n f) + (i - n) = omega (arith, length-tab n f) in
+    let back : n + (i - n) ≡ i = omega arith in
+    ap (λ k. getD (tab n f ++ drop n d) k 0) at
+    ∙ getD-append-add (tab n f) (drop n d) (i - n) 0
+    ∙ getD-drop n d (i - n) 0
+    ∙ ap (λ k. getD d k 0) back
+
+-- lists that are the same up to n have the same entries there
+pub getD-front : (n : ℕ) (a b : List ℕ) → take n a ≡ take n b → (i : ℕ) → i < n → getD a i 0 ≡ getD b i 0
+getD-front n a b e i h = sym (getD-take n a i 0 h) ∙ ap (λ t. getD t i 0) e ∙ getD-take n b i 0 h
+
+-- a slice that is filled to its end holds nothing else
+pub filled-whole : (f : ℕ → ℕ) (d : List ℕ) → filled f d (length d) ≡ tab (length d) f
+unfolding filled
+filled-whole f d = rw (drop-length d, append-nil) refl
+
+-- nor does one that is filled with blocks to its end
+pub blocks-whole : (k : ℕ) (f : ℕ → List ℕ) (d : List ℕ) (n : ℕ) → length d ≡ n * k → blocks k f d n ≡ joined n f
+unfolding blocks
+blocks-whole k f d n e = rw (← e, drop-length d, append-nil) refl

@@ -1,0 +1,68 @@
+-- How prepare ends: refused, with the factor 1.0, or with the mappings laid down.
+-- Assumes nothing.
+use Prim.Native.Nat.{ℕ, zero, suc, _*_, _/_, _≤_, _<_}
+use mathlib.Core.Bool.{Bool, true, false}
+use mathlib.Core.List.{List}
+use mathlib.Core.Path.{_≡_, refl, sym, ap, ap₂, _∙_}
+use native.Mathlib.Omega.{arith}
+use lib.ListN.{length}
+use Rattle.refuse.specs.Refuse.{first}
+use Rattle.lists.specs.Lists.{onto, filled}
+use Rattle.settings.specs.declared.Settings.{Settings}
+use Rattle.settings.specs.declared.Footer.{Footer}
+use Rattle.settings.specs.Settings.{binsOf, keptOf, tilePixels, clipOne, Ready}
+use Rattle.prepare.specs.declared.Prepared.the-variants as Prepared
+use Rattle.prepare.specs.Prepare.{mappings, prepareRows, footerOf, stays, Ended, ending, settled, preparedOf, prepareOf, TightAsks, Work, TilesAsk, TilesDone}
+use Rattle.prepare.proofs.Table.{work, tight-asks}
+
+-- a number that is not 0 is a refusal
+pub settles : (n : ℕ) (m t : List ℕ) (ok : Ended) → (n ≡ 0 → ⊥) → ending (Prepared.Refused n) m t ≡ settled n m t ok
+settles zero m t ok z = absurd (z refl)
+settles (suc n) m t ok z = refl
+
+-- ---- what the work asks, once none of the rows applies
+
+module _ (w h : ℕ) (pic : List ℕ) (s : Settings) (room scratch : ℕ) {r : ℕ} (e : r ≡ first (prepareRows w h pic s room scratch)) (z : r ≡ 0) where
+  pub asks-work : Work w h pic s room scratch
+  asks-work = work w h pic s room scratch (sym e ∙ z)
+
+  -- the footer
+  pub asks-footer : {b : ℕ} → b ≡ binsOf s → TightAsks (s .clip) (tilePixels w h s) b
+  asks-footer q = tight-asks (asks-work .ready) q
+
+  -- the tiles
+  pub asks-tiles : {o : Bool} → o ≡ clipOne (s .clip) → o ≡ false → TilesAsk w h pic s room scratch
+  asks-tiles q f = record { work = asks-work; changes = sym q ∙ f }
+
+-- ---- the endings
+
+module _ (film w h : ℕ) (pic : List ℕ) (s : Settings) (m t : List ℕ) where
+  -- a refusal, as it was worked out
+  pub ends-refused : {r : ℕ} → r ≡ first (prepareRows w h pic s (length m) (length t)) → (r ≡ 0 → ⊥)
+      → ending (Prepared.Refused r) m t ≡ prepareOf film w h pic s m t
+  unfolding prepareOf
+  ends-refused {r} e z = settles r m t (preparedOf film w h pic s m t) z ∙ ap (λ n. settled n m t (preparedOf film w h pic s m t)) e
+
+  -- no refusal
+  pub ends-done : {r : ℕ} → r ≡ first (prepareRows w h pic s (length m) (length t)) → r ≡ 0 → preparedOf film w h pic s m t ≡ prepareOf film w h pic s m t
+  unfolding prepareOf
+  ends-done {r} e z = ap (λ n. settled n m t (preparedOf film w h pic s m t)) (sym z ∙ e)
+
+  -- at the factor 1.0 the buffers stay
+  pub ends-one : {r b : ℕ} {kept : Settings} {foot : Footer} {o : Bool} → r ≡ first (prepareRows w h pic s (length m) (length t)) → r ≡ 0
+      → b ≡ binsOf s → foot ≡ footerOf (s .clip) (tilePixels w h s) b → kept ≡ keptOf s → o ≡ clipOne (s .clip) → o ≡ true
+      → ending (Prepared.Done record { film = film; width = w; height = h; settings = kept } foot) m t ≡ prepareOf film w h pic s m t
+  unfolding preparedOf
+  ends-one e z q f k c y =
+      let one : clipOne (s .clip) ≡ true = sym c ∙ y in
+      rw (f, q, k, one) refl ∙ ends-done e z
+
+  -- else the mappings are laid down and the scratch is zero
+  pub ends-well : {r b : ℕ} {kept : Settings} {foot : Footer} {o : Bool} {m′ t′ : List ℕ} → r ≡ first (prepareRows w h pic s (length m) (length t)) → r ≡ 0
+      → b ≡ binsOf s → foot ≡ footerOf (s .clip) (tilePixels w h s) b → kept ≡ keptOf s → o ≡ clipOne (s .clip) → o ≡ false
+      → TilesDone w h pic s m m′ t t′
+      → ending (Prepared.Done record { film = film; width = w; height = h; settings = kept } foot) m′ t′ ≡ prepareOf film w h pic s m t
+  unfolding preparedOf
+  ends-well e z q f k c y done =
+      let one : clipOne (s .clip) ≡ false = sym c ∙ y in
+      rw (f, q, k, done .map, done .scratch, one) refl ∙ ends-done e z

@@ -1,0 +1,6 @@
+pub mod Tight
+pub mod Table
+pub mod Films
+pub mod Turns
+pub mod Endings
+pub mod Renders

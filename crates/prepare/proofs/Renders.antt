@@ -1,0 +1,95 @@
+-- How enhance ends: refused, with the factor 1.0, or with the picture rendered.
+-- Assumes nothing.
+use Prim.Native.Nat.{ℕ, zero, suc, _+_, _*_, _/_, _≤_, _<_}
+use mathlib.Core.Bool.{Bool, true, false}
+use mathlib.Core.List.{List}
+use mathlib.Core.Path.{_≡_, refl, sym, ap, ap₂, _∙_}
+use native.Mathlib.Nat.{mul-comm}
+use native.Mathlib.Omega.{arith}
+use lib.ListN.{length, take, getD}
+use lib.Seq.{take-all}
+use Rattle.refuse.specs.Refuse.{first}
+use Rattle.lists.specs.Lists.{onto, filled, all}
+use Rattle.lists.proofs.Fills.{take-onto, length-onto}
+use Rattle.tile.specs.Tile.{within}
+use Rattle.settings.specs.declared.Settings.{Settings}
+use Rattle.settings.specs.declared.Footer.{Footer}
+use Rattle.settings.specs.Settings.{binsOf, entriesOf, tilePixels, clipOne, Ready}
+use Rattle.render.specs.Render.{renderOf, whole, Mapped, Shown}
+use Rattle.render.proofs.Laws.{render-front, ready-mapped}
+use Rattle.prepare.specs.declared.Enhanced.the-variants as Enhanced
+use Rattle.prepare.specs.Prepare.{mappings, prepareRows, footerOf, stays, Over, overing, settledOver, enhancedOf, enhanceOf, Work, TilesAsk, TilesDone}
+use Rattle.prepare.proofs.Films.{length-mappings, mappings-within}
+use Rattle.prepare.proofs.Endings.{asks-tiles}
+
+-- a number that is not 0 is a refusal
+pub settles-over : (n : ℕ) (pic m t : List ℕ) (ok : Over) → (n ≡ 0 → ⊥) → overing (Enhanced.Refused n) pic m t ≡ settledOver n pic m t ok
+settles-over zero pic m t ok z = absurd (z refl)
+settles-over (suc n) pic m t ok z = refl
+
+-- ---- what rendering asks, once the mappings are laid down
+
+-- the whole film is a window whose pixels lie in Min to Max
+pub whole-shown : {w h : ℕ} {pic : List ℕ} {s : Settings} {room scratch : ℕ} → Work w h pic s room scratch → Shown w h s (whole w h) pic
+whole-shown {w} {h} {pic} {s} {room} work =
+    let ready : Ready w h (length pic) s room = work .ready in
+    record { across = omega arith; down = omega arith; size = ready .whole ∙ mul-comm w h; greys = work .greys }
+
+module _ (m : List ℕ) {w h : ℕ} {pic : List ℕ} {s : Settings} {scratch : ℕ} (asks : TilesAsk w h pic s (length m) scratch) where
+  -- the front of the map buffer holds the mappings
+  pub laid-front : {n : List ℕ} → n ≡ onto m (mappings w h pic s) → take (entriesOf s) n ≡ mappings w h pic s
+  laid-front e = ap (take (entriesOf s)) e ∙ take-onto m (mappings w h pic s) (entriesOf s) (length-mappings w h pic s)
+
+  -- so pixels can be rendered from it
+  pub laid-mapped : {n : List ℕ} → n ≡ onto m (mappings w h pic s) → Mapped w h s n
+  laid-mapped {n} e = ready-mapped (asks .work .ready) size (ap (all (within (s .min) (s .max))) (laid-front e) ∙ mappings-within asks)
+    where
+      size : length n ≡ length m
+      size = ap length e ∙ length-onto m (mappings w h pic s) (omega (arith, length-mappings w h pic s, asks .work .ready .fitting))
+
+  -- and the picture is the one from the mappings alone
+  pub laid-render : {n ys : List ℕ} → n ≡ onto m (mappings w h pic s) → ys ≡ renderOf w h s n (whole w h) pic
+      → ys ≡ renderOf w h s (mappings w h pic s) (whole w h) pic
+  laid-render {n} {ys} e q = q ∙ render-front (laid-mapped e) (whole-shown (asks .work)) (mappings w h pic s) (laid-front e ∙ sym all-taken)
+    where
+      all-taken : take (entriesOf s) (mappings w h pic s) ≡ mappings w h pic s
+      all-taken = take-all (entriesOf s) (mappings w h pic s) (omega (arith, length-mappings w h pic s))
+
+-- what `render` asks
+pub asks-render : {w h : ℕ} {pic : List ℕ} {s : Settings} {m t n u : List ℕ} → TilesAsk w h pic s (length m) (length t) → TilesDone w h pic s m n t u
+    → Mapped w h s n × Shown w h s (whole w h) pic
+asks-render {m = m} asks done = (laid-mapped m asks (done .map), whole-shown (asks .work))
+
+-- ---- the endings
+
+module _ (w h : ℕ) (pic : List ℕ) (s : Settings) (m t : List ℕ) where
+  -- a refusal, as it was worked out
+  pub over-refused : {r : ℕ} → r ≡ first (prepareRows w h pic s (length m) (length t)) → (r ≡ 0 → ⊥)
+      → overing (Enhanced.Refused r) pic m t ≡ enhanceOf w h pic s m t
+  unfolding enhanceOf
+  over-refused {r} e z = settles-over r pic m t (enhancedOf w h pic s m t) z ∙ ap (λ n. settledOver n pic m t (enhancedOf w h pic s m t)) e
+
+  -- no refusal
+  pub over-done : {r : ℕ} → r ≡ first (prepareRows w h pic s (length m) (length t)) → r ≡ 0 → enhancedOf w h pic s m t ≡ enhanceOf w h pic s m t
+  unfolding enhanceOf
+  over-done {r} e z = ap (λ n. settledOver n pic m t (enhancedOf w h pic s m t)) (sym z ∙ e)
+
+  -- "Factor 1.0: nothing changes."
+  pub over-one : {r b : ℕ} {foot : Footer} {o : Bool} → r ≡ first (prepareRows w h pic s (length m) (length t)) → r ≡ 0
+      → b ≡ binsOf s → foot ≡ footerOf (s .clip) (tilePixels w h s) b → o ≡ clipOne (s .clip) → o ≡ true
+      → overing (Enhanced.Done foot) pic m t ≡ enhanceOf w h pic s m t
+  unfolding enhancedOf
+  over-one e z q f c y =
+      let one : clipOne (s .clip) ≡ true = sym c ∙ y in
+      rw (f, q, one) refl ∙ over-done e z
+
+  -- else the picture is rendered from the mappings
+  pub over-well : {r b : ℕ} {foot : Footer} {o : Bool} {ys m′ t′ : List ℕ} → r ≡ first (prepareRows w h pic s (length m) (length t)) → r ≡ 0
+      → b ≡ binsOf s → foot ≡ footerOf (s .clip) (tilePixels w h s) b → o ≡ clipOne (s .clip) → o ≡ false
+      → TilesDone w h pic s m m′ t t′ → ys ≡ renderOf w h s m′ (whole w h) pic
+      → overing (Enhanced.Done foot) ys m′ t′ ≡ enhanceOf w h pic s m t
+  unfolding enhancedOf
+  over-well e z q f c y done g =
+      let asks : TilesAsk w h pic s (length m) (length t) = asks-tiles w h pic s (length m) (length t) e z c y in
+      let one : clipOne (s .clip) ≡ false = sym c ∙ y in
+      rw (f, q, laid-render m asks (done .map) g, done .map, done .scratch, one) refl ∙ over-done e z

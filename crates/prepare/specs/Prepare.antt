@@ -1,0 +1,172 @@
+-- Document 01, "What each call hands back" for prepare and enhance: what they answer, and what each lent buffer holds at the end.
+-- w and h are the film's width and height, pic its pixels, m the map buffer and t the scratch as lent.
+-- Assumes nothing.
+use Prim.Native.Nat.{ℕ, zero, suc, _*_, _/_, _%_, _≤_, _<_}
+use mathlib.Core.Path.{_≡_}
+use mathlib.Core.Bool.{Bool, true, false, not}
+use mathlib.Core.List.{List, [], _∷_, _++_}
+use lib.Dec.{ltb}
+use lib.IntN.{pos}
+use lib.Ieee.{Float, fin}
+use lib.ListN.{length, drop}
+use Rattle.lists.specs.Lists.{joined, onto, over, filled, all}
+use Rattle.refuse.specs.Refuse.{Row, row, first}
+use Rattle.limit.specs.declared.Clip.{Clip}
+use Rattle.limit.specs.declared.Clip.the-variants.{Off, Factor}
+use Rattle.limit.specs.Limit.{isOne, limitOf, usedOf, tooTight}
+use Rattle.tile.specs.declared.Rect.{Rect}
+use Rattle.tile.specs.Tile.{within, greysOf, tileMapping}
+use Rattle.settings.specs.declared.Settings.{Settings}
+use Rattle.settings.specs.declared.MapRecord.{MapRecord}
+use Rattle.settings.specs.declared.Footer.{Footer}
+use Rattle.settings.specs.Settings.{binsOf, recordOf, tileWidth, tileHeight, tilePixels, clipBad, clipOne, sharedRows, Ready}
+use Rattle.render.specs.Render.{renderOf, whole}
+use Rattle.prepare.specs.declared.Prepared.{Prepared}
+use Rattle.prepare.specs.declared.Prepared.the-variants as Prepared
+use Rattle.prepare.specs.declared.Enhanced.{Enhanced}
+use Rattle.prepare.specs.declared.Enhanced.the-variants as Enhanced
+
+-- tile k of a film, "tiles row by row"
+unfoldable pub tileRect : ℕ → ℕ → Settings → ℕ → Rect
+tileRect w h s k =
+    record {
+      left = k % s .across * tileWidth w s;
+      top = k / s .across * tileHeight h s;
+      width = tileWidth w s;
+      height = tileHeight h s;
+    }
+
+-- the mapping of tile k, from that tile's own pixels
+unfoldable pub tileMap : ℕ → ℕ → List ℕ → Settings → ℕ → List ℕ
+tileMap w h pic s k = tileMapping (s .min) (s .max) (binsOf s) (s .clip) (greysOf pic w (tileRect w h s k))
+
+-- "the mappings, tiles row by row, bins upward"
+unfoldable pub mappings : ℕ → ℕ → List ℕ → Settings → List ℕ
+mappings w h pic s = joined (s .across * s .down) (tileMap w h pic s)
+
+-- "Prepare and enhance: 1 to 14 upward": 12 "scratch shorter than B", 13 "a pixel outside Min to Max"
+unfoldable pub prepareRows : ℕ → ℕ → List ℕ → Settings → ℕ → ℕ → List Row
+prepareRows w h pic s room scratch =
+    sharedRows w h (length pic) s room
+    ++ (row 12 (ltb scratch (binsOf s))
+    ∷ row 13 (not (all (within (s .min) (s .max)) pic))
+    ∷ row 14 (tooTight (s .clip) (tilePixels w h s) (binsOf s))
+    ∷ [])
+
+-- the floats 0.0 and 1.0
+abbrev pub none : Float
+none = fin false 0 (pos 0)
+
+abbrev pub one : Float
+one = fin false 1 (pos 0)
+
+abbrev pub pickFooter : Bool → Footer → Footer → Footer
+pickFooter true a b = a
+pickFooter false a b = b
+
+-- "a footer record with L, the factor asked as f32 and the factor used as f64 .. Clip off: L 0, both factors 0.0. Factor 1.0: L 0, both 1.0"
+unfoldable pub footerOf : Clip → ℕ → ℕ → Footer
+footerOf Off n b = record { limit = 0; asked = none; used = none }
+footerOf (Factor f) n b =
+    pickFooter (isOne f) (record { limit = 0; asked = one; used = one })
+    (record { limit = limitOf f n b; asked = f; used = usedOf (limitOf f n b) b n })
+
+-- a list that stays where the factor is 1.0, and is another one else
+abbrev pub stays : Bool → List ℕ → List ℕ → List ℕ
+stays true old new = old
+stays false old new = new
+
+-- ---- prepare
+
+-- what prepare leaves: its answer, the map buffer and the scratch
+pub record Ended : Type 0 where
+  pub answer : Prepared
+  pub map : List ℕ
+  pub scratch : List ℕ
+
+abbrev pub ending : Prepared → List ℕ → List ℕ → Ended
+ending r m t = record { answer = r; map = m; scratch = t }
+
+-- a refusal leaves all memory as it was
+abbrev pub settled : ℕ → List ℕ → List ℕ → Ended → Ended
+settled zero m t ok = ok
+settled (suc n) m t ok = record { answer = Prepared.Refused (suc n); map = m; scratch = t }
+
+-- "the map buffer's first (grid across) x (grid down) x B entries are the mappings ..; the first B scratch entries are zero;
+-- all other entries keep their contents. It returns the map record and a footer record"; "Factor 1.0: .. map and scratch stay as they were"
+unfoldable pub preparedOf : ℕ → ℕ → ℕ → List ℕ → Settings → List ℕ → List ℕ → Ended
+preparedOf film w h pic s m t =
+    record {
+      answer = Prepared.Done (recordOf film w h s) (footerOf (s .clip) (tilePixels w h s) (binsOf s));
+      map = stays (clipOne (s .clip)) m (onto m (mappings w h pic s));
+      scratch = stays (clipOne (s .clip)) t (filled (λ k. 0) t (binsOf s));
+    }
+
+unfoldable pub prepareOf : ℕ → ℕ → ℕ → List ℕ → Settings → List ℕ → List ℕ → Ended
+prepareOf film w h pic s m t = settled (first (prepareRows w h pic s (length m) (length t))) m t (preparedOf film w h pic s m t)
+
+-- ---- enhance
+
+-- what enhance leaves: its answer, the picture, the map buffer and the scratch
+pub record Over : Type 0 where
+  pub answer : Enhanced
+  pub picture : List ℕ
+  pub map : List ℕ
+  pub scratch : List ℕ
+
+abbrev pub overing : Enhanced → List ℕ → List ℕ → List ℕ → Over
+overing r pic m t = record { answer = r; picture = pic; map = m; scratch = t }
+
+abbrev pub settledOver : ℕ → List ℕ → List ℕ → List ℕ → Over → Over
+settledOver zero pic m t ok = ok
+settledOver (suc n) pic m t ok = record { answer = Enhanced.Refused (suc n); picture = pic; map = m; scratch = t }
+
+-- "the same buffers and footer, and the picture rendered. Factor 1.0: nothing changes."
+unfoldable pub enhancedOf : ℕ → ℕ → List ℕ → Settings → List ℕ → List ℕ → Over
+enhancedOf w h pic s m t =
+    record {
+      answer = Enhanced.Done (footerOf (s .clip) (tilePixels w h s) (binsOf s));
+      picture = stays (clipOne (s .clip)) pic (renderOf w h s (mappings w h pic s) (whole w h) pic);
+      map = stays (clipOne (s .clip)) m (onto m (mappings w h pic s));
+      scratch = stays (clipOne (s .clip)) t (filled (λ k. 0) t (binsOf s));
+    }
+
+unfoldable pub enhanceOf : ℕ → ℕ → List ℕ → Settings → List ℕ → List ℕ → Over
+enhanceOf w h pic s m t = settledOver (first (prepareRows w h pic s (length m) (length t))) pic m t (enhancedOf w h pic s m t)
+
+-- ---- what the functions below ask
+
+-- a clip setting that is not refused, and a tile's sizes as document 01 has them
+pub record TightAsks (clip : Clip) (n b : ℕ) : Type 0 where
+  pub good : clipBad clip ≡ false
+  pub pixels : n ≤ 4194304
+  pub least : 2 ≤ b
+  pub most : b ≤ 4096
+
+-- what a call knows once none of the rows 1 to 14 applies
+pub record Work (w h : ℕ) (pic : List ℕ) (s : Settings) (room scratch : ℕ) : Type 0 where
+  pub ready : Ready w h (length pic) s room
+  pub bins : binsOf s ≤ scratch
+  pub greys : all (within (s .min) (s .max)) pic ≡ true
+  pub loose : tooTight (s .clip) (tilePixels w h s) (binsOf s) ≡ false
+
+-- what `map_tiles` asks: that, and a factor that is not 1.0
+pub record TilesAsk (w h : ℕ) (pic : List ℕ) (s : Settings) (room scratch : ℕ) : Type 0 where
+  pub work : Work w h pic s room scratch
+  pub changes : clipOne (s .clip) ≡ false
+
+-- what `map_tile` asks: that, of one of the tiles
+pub record TileAsks (w h : ℕ) (pic : List ℕ) (s : Settings) (k room scratch : ℕ) : Type 0 where
+  pub film : TilesAsk w h pic s room scratch
+  pub tile : k < s .across * s .down
+
+-- what `map_tile` leaves: the mapping in its place; the scratch behind its first B entries as it was
+pub record TileDone (w h : ℕ) (pic : List ℕ) (s : Settings) (k : ℕ) (m₀ m t₀ t : List ℕ) : Type 0 where
+  pub map : m ≡ over m₀ (k * binsOf s) (tileMap w h pic s k)
+  pub behind : drop (binsOf s) t ≡ drop (binsOf s) t₀
+  pub size : length t ≡ length t₀
+
+-- what `map_tiles` leaves
+pub record TilesDone (w h : ℕ) (pic : List ℕ) (s : Settings) (m₀ m t₀ t : List ℕ) : Type 0 where
+  pub map : m ≡ onto m₀ (mappings w h pic s)
+  pub scratch : t ≡ filled (λ k. 0) t₀ (binsOf s)

@@ -1,0 +1,166 @@
+-- Laws of rendering: where a window's pixels lie, a window against the whole film, and what the rendered greys are held to.
+-- Assumes nothing.
+use Prim.Native.Nat.{ℕ, zero, suc, _+_, _-_, _*_, _/_, _%_, _≤_, _<_}
+use mathlib.Core.Bool.{Bool, true, false}
+use mathlib.Core.List.{List}
+use mathlib.Core.Path.{_≡_, refl, sym, ap, ap₂, _∙_}
+use lib.Arith.{digits-lt}
+use lib.ListN.{length, getD, take}
+use lib.Seq.{length-take-le}
+use native.Mathlib.Nat.{zero-add, zero-mul, div-add-mod', div-le-of-le-mul, mul-le-mul-right}
+use native.Mathlib.Omega.{arith}
+use Rattle.lists.specs.Lists.{tab, joined, all, onto}
+use Rattle.lists.proofs.Tabs.{length-tab, getD-tab, tab-cong}
+use Rattle.lists.proofs.Fills.{length-joined, joined-cong, take-onto, length-onto}
+use Rattle.lists.proofs.Blocks.{getD-joined, block-fits, all-at}
+use Rattle.lists.proofs.Tallies.{all-tab, all-joined}
+use Rattle.lists.proofs.Windows.{getD-front}
+use Rattle.tile.specs.declared.Rect.{Rect}
+use Rattle.tile.specs.Tile.{within, binOf, greysOf}
+use Rattle.blend.specs.declared.Place.{Place}
+use Rattle.blend.specs.Blend.{greyOf}
+use Rattle.settings.specs.declared.Settings.{Settings}
+use Rattle.settings.specs.declared.Window.{Window}
+use Rattle.settings.specs.Settings.{binsOf, entriesOf, tileWidth, tileHeight, Ready}
+use Rattle.render.specs.Render.{mappedAt, pixelOf, renderedOf, renderOf, whole, rectOf, Mapped, Shown, PixelAsks}
+use Rattle.render.proofs.Pixels.{entry-index, pixel-bin, pixel-within}
+use Rattle.render.proofs.Rows.{pixel-asks}
+use Rattle.render.proofs.Strips.{strip, length-strip, render-strips}
+
+-- ---- a window's pixels
+
+-- there is a rendered grey for each pixel of the window
+pub length-render : (w h : ℕ) (s : Settings) (m : List ℕ) (win : Window) (vs : List ℕ) → length (renderOf w h s m win vs) ≡ win .height * win .width
+length-render w h s m win vs =
+    ap length (render-strips w h s m win vs)
+    ∙ length-joined (win .width) (win .height) (strip w h s m win vs) (λ j l. length-strip w h s m win vs j)
+
+-- "the window's pixels row by row": the pixel in row j and column i of the window is the film's in row top + j and column left + i
+pub render-at : (w h : ℕ) (s : Settings) (m : List ℕ) (win : Window) (vs : List ℕ) {j i : ℕ} → j < win .height → i < win .width
+    → getD (renderOf w h s m win vs) (j * win .width + i) 0 ≡ renderedOf w h s m (win .left + i) (win .top + j) (getD vs (j * win .width + i) 0)
+render-at w h s m win vs {j} {i} l k =
+    ap (λ t. getD t (j * win .width + i) 0) (render-strips w h s m win vs)
+    ∙ getD-joined (win .width) (win .height) (strip w h s m win vs) (λ t q. length-strip w h s m win vs t) j i 0 l k
+    ∙ getD-tab (win .width) (λ i. renderedOf w h s m (win .left + i) (win .top + j) (getD vs (j * win .width + i) 0)) i 0 k
+
+-- the grey of a rectangle's pixel in row j and column i
+pub getD-greys : (pic : List ℕ) (stride : ℕ) (r : Rect) {j i : ℕ} → j < r .height → i < r .width
+    → getD (greysOf pic stride r) (j * r .width + i) 0 ≡ getD pic ((r .top + j) * stride + (r .left + i)) 0
+unfolding greysOf
+getD-greys pic stride r {j} {i} l k =
+    getD-joined (r .width) (r .height) (λ y. tab (r .width) (λ x. getD pic ((r .top + y) * stride + (r .left + x)) 0)) (λ y q. length-tab (r .width) _) j i 0 l k
+    ∙ getD-tab (r .width) (λ x. getD pic ((r .top + j) * stride + (r .left + x)) 0) i 0 k
+
+-- a pixel of a window inside the film is the same pixel of the whole film
+pub window-law : (w h : ℕ) (s : Settings) (m : List ℕ) (win : Window) (pic : List ℕ) → win .left + win .width ≤ w → win .top + win .height ≤ h
+    → {j i : ℕ} → j < win .height → i < win .width
+    → getD (renderOf w h s m win (greysOf pic w (rectOf win))) (j * win .width + i) 0
+    ≡ getD (renderOf w h s m (whole w h) pic) ((win .top + j) * w + (win .left + i)) 0
+window-law w h s m win pic across down {j} {i} l k =
+    render-at w h s m win (greysOf pic w (rectOf win)) l k
+    ∙ ap (renderedOf w h s m (win .left + i) (win .top + j)) (getD-greys pic w (rectOf win) l k)
+    ∙ ap₂ (λ x y. renderedOf w h s m x y (getD pic ((win .top + j) * w + (win .left + i)) 0)) (sym (zero-add (win .left + i))) (sym (zero-add (win .top + j)))
+    ∙ sym (render-at w h s m (whole w h) pic {j = win .top + j} {i = win .left + i} (omega arith) (omega arith))
+
+-- ---- rendered greys lie in Min to Max
+
+-- each pixel of the film does
+pub rendered-within : {w h : ℕ} {s : Settings} {m : List ℕ} → Mapped w h s m → (x y v : ℕ) → x < w → y < h → within (s .min) (s .max) v ≡ true
+    → within (s .min) (s .max) (renderedOf w h s m x y v) ≡ true
+unfolding renderedOf
+rendered-within mapped x y v l k g = pixel-within (pixel-asks mapped l k g)
+
+-- a window's pixel has a grey from Min to Max
+pub shown-within : {w h : ℕ} {s : Settings} {win : Window} {vs : List ℕ} → Shown w h s win vs → {j i : ℕ} → j < win .height → i < win .width
+    → within (s .min) (s .max) (getD vs (j * win .width + i) 0) ≡ true
+shown-within {w} {h} {s} {win} {vs} shown {j} {i} l k =
+    let room : win .height * win .width ≤ length vs = omega (arith, shown .size) in
+    all-at (within (s .min) (s .max)) vs (shown .greys) (j * win .width + i) 0 (omega (arith, block-fits (win .width) (win .height) l room))
+
+-- so each pixel of a rendered window does
+pub render-within : {w h : ℕ} {s : Settings} {m : List ℕ} {win : Window} {vs : List ℕ} → Mapped w h s m → Shown w h s win vs
+    → all (within (s .min) (s .max)) (renderOf w h s m win vs) ≡ true
+unfolding renderOf
+render-within {w} {h} {s} {m} {win} {vs} mapped shown =
+    all-joined (within (s .min) (s .max)) (win .height) _
+    (λ j l. all-tab (within (s .min) (s .max)) (win .width) _ (λ i k. rendered-within mapped _ _ _ (omega (arith, shown .across)) (omega (arith, shown .down)) (shown-within shown l k)))
+
+-- ---- only the mappings' entries of the map buffer are read
+
+-- a mapped value is the same in buffers that agree in the mappings' entries
+pub mapped-front : (s : Settings) (m m′ : List ℕ) → take (entriesOf s) m ≡ take (entriesOf s) m′ → {j i k : ℕ} → j < s .down → i < s .across → k < binsOf s
+    → mappedAt s m j i k ≡ mappedAt s m′ j i k
+unfolding mappedAt
+mapped-front s m m′ e {j} {i} {k} h l q =
+    getD-front (entriesOf s) m m′ e ((j * s .across + i) * binsOf s + k) (entry-index {across = s .across} {down = s .down} h l q)
+
+-- and so is a pixel
+pub pixel-front : {s : Settings} {m : List ℕ} {column row : Place} {v : ℕ} → PixelAsks s m column row v → (m′ : List ℕ) → take (entriesOf s) m ≡ take (entriesOf s) m′
+    → pixelOf s m column row v ≡ pixelOf s m′ column row v
+unfolding pixelOf
+pixel-front {s} {m} {column} {row} {v} asks m′ e =
+    let a : mappedAt s m (row .lower) (column .lower) k ≡ mappedAt s m′ (row .lower) (column .lower) k = same (asks .row .lower) (asks .column .lower) in
+    let b : mappedAt s m (row .lower) (column .upper) k ≡ mappedAt s m′ (row .lower) (column .upper) k = same (asks .row .lower) (asks .column .upper) in
+    let c : mappedAt s m (row .upper) (column .lower) k ≡ mappedAt s m′ (row .upper) (column .lower) k = same (asks .row .upper) (asks .column .lower) in
+    let d : mappedAt s m (row .upper) (column .upper) k ≡ mappedAt s m′ (row .upper) (column .upper) k = same (asks .row .upper) (asks .column .upper) in
+    ap₂ (λ x y. greyOf column row x y (mappedAt s m (row .upper) (column .lower) k) (mappedAt s m (row .upper) (column .upper) k)) a b
+    ∙ ap₂ (greyOf column row (mappedAt s m′ (row .lower) (column .lower) k) (mappedAt s m′ (row .lower) (column .upper) k)) c d
+  where
+    k : ℕ
+    k = binOf (s .min) (s .max) (binsOf s) v
+
+    same : {j i : ℕ} → j < s .down → i < s .across → mappedAt s m j i (binOf (s .min) (s .max) (binsOf s) v) ≡ mappedAt s m′ j i (binOf (s .min) (s .max) (binsOf s) v)
+    same h l = mapped-front s m m′ e h l (pixel-bin asks)
+
+-- and so is a pixel of the film
+pub rendered-front : {w h : ℕ} {s : Settings} {m : List ℕ} → Mapped w h s m → (m′ : List ℕ) → take (entriesOf s) m ≡ take (entriesOf s) m′
+    → (x y v : ℕ) → x < w → y < h → within (s .min) (s .max) v ≡ true → renderedOf w h s m x y v ≡ renderedOf w h s m′ x y v
+unfolding renderedOf
+rendered-front mapped m′ e x y v l k g = pixel-front (pixel-asks mapped l k g) m′ e
+
+-- and so is a window
+pub render-front : {w h : ℕ} {s : Settings} {m : List ℕ} {win : Window} {vs : List ℕ} → Mapped w h s m → Shown w h s win vs → (m′ : List ℕ)
+    → take (entriesOf s) m ≡ take (entriesOf s) m′ → renderOf w h s m win vs ≡ renderOf w h s m′ win vs
+unfolding renderOf
+render-front {w} {h} {s} {m} {win} {vs} mapped shown m′ e =
+    joined-cong (win .height)
+    (λ j l. tab-cong (win .width) (λ i k. rendered-front mapped m′ e _ _ _ (omega (arith, shown .across)) (omega (arith, shown .down)) (shown-within shown l k)))
+
+-- mappings that are laid down in front of another buffer are the same mappings
+pub front-onto : (s : Settings) (d m : List ℕ) → entriesOf s ≤ length m → take (entriesOf s) (onto d (take (entriesOf s) m)) ≡ take (entriesOf s) m
+front-onto s d m h = take-onto d (take (entriesOf s) m) (entriesOf s) (length-take-le (entriesOf s) m h)
+
+-- ---- what a call knows once no refusal applies
+
+-- a number that is no remainder away from a product
+pub parts : (n k : ℕ) → n % k ≡ 0 → n ≡ n / k * k
+parts n k e = omega (arith, div-add-mod' n k)
+
+-- a factor of a number above 0 is above 0
+pub factor-some : (n q k : ℕ) → n ≡ q * k → 0 < n → 0 < q
+factor-some n zero k e h = omega (arith, zero-mul k)
+factor-some n (suc q) k e h = omega arith
+
+-- a side of at most 4096 pixels, in 2 parts or more
+pub part-most : (n k : ℕ) → n ≤ 4096 → 2 ≤ k → n / k ≤ 2048
+part-most n k h l = div-le-of-le-mul k (omega (arith, mul-le-mul-right 2048 l))
+
+-- settings that are not refused, and mappings from Min to Max in a buffer that is long enough: pixels can be rendered
+pub ready-mapped : {w h size : ℕ} {s : Settings} {room : ℕ} {m : List ℕ} → Ready w h size s room → length m ≡ room → all (within (s .min) (s .max)) (take (entriesOf s) m) ≡ true
+    → Mapped w h s m
+ready-mapped {w} {h} {size} {s} {room} {m} ready e g =
+    record {
+      acrossmost = ready .acrossmost;
+      downmost = ready .downmost;
+      most = ready .max;
+      bins = ready .bins;
+      binsmost = ready .binsmost;
+      wide = factor-some w (w / s .across) (s .across) (parts w (s .across) (ready .columns)) (ready .wide);
+      widest = part-most w (s .across) (ready .widest) (ready .across);
+      high = factor-some h (h / s .down) (s .down) (parts h (s .down) (ready .rows)) (ready .high);
+      highest = part-most h (s .down) (ready .highest) (ready .down);
+      columns = parts w (s .across) (ready .columns);
+      rows = parts h (s .down) (ready .rows);
+      room = rw e (ready .fitting);
+      greys = g;
+    }

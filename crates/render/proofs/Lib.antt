@@ -1,0 +1,4 @@
+pub mod Pixels
+pub mod Rows
+pub mod Strips
+pub mod Laws

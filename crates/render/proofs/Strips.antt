@@ -1,0 +1,88 @@
+-- The turns of `render`: each row of a window is rendered in its place.
+-- Assumes nothing.
+use Prim.Native.Nat.{ℕ, zero, suc, _+_, _-_, _*_, _/_, _≤_, _<_}
+use mathlib.Core.Bool.{Bool, true, false}
+use mathlib.Core.List.{List, _++_, append-nil}
+use mathlib.Core.Path.{_≡_, refl, sym, ap, ap₂, _∙_}
+use lib.ListN.{length, getD, take, drop, length-drop}
+use lib.Seq.{getD-take, getD-drop, length-take-le, drop-length}
+use native.Mathlib.Nat.{mul-le-mul-right}
+use native.Mathlib.Omega.{arith}
+use borrow.Rule.Slice.PartMut.{putMid}
+use Rattle.lists.specs.Lists.{tab, joined, blocks, all}
+use Rattle.lists.proofs.Tabs.{length-tab, tab-cong}
+use Rattle.lists.proofs.Blocks.{length-blocks, drop-blocks, blocks-step, blocks-end, block-fits, all-take, all-drop}
+use Rattle.lists.proofs.Windows.{blocks-whole}
+use Rattle.tile.specs.Tile.{within}
+use Rattle.settings.specs.declared.Settings.{Settings}
+use Rattle.settings.specs.declared.Window.{Window}
+use Rattle.render.specs.Render.{renderedOf, rowOf, renderOf, Mapped, Shown, RowAsks}
+
+-- row j of the window, rendered
+abbrev pub strip : ℕ → ℕ → Settings → List ℕ → Window → List ℕ → ℕ → List ℕ
+strip w h s m win vs j = tab (win .width) (λ i. renderedOf w h s m (win .left + i) (win .top + j) (getD vs (j * win .width + i) 0))
+
+-- it has the window's width
+pub length-strip : (w h : ℕ) (s : Settings) (m : List ℕ) (win : Window) (vs : List ℕ) (j : ℕ) → length (strip w h s m win vs j) ≡ win .width
+length-strip w h s m win vs j = length-tab (win .width) _
+
+-- a window is its rows
+pub render-strips : (w h : ℕ) (s : Settings) (m : List ℕ) (win : Window) (vs : List ℕ) → renderOf w h s m win vs ≡ joined (win .height) (strip w h s m win vs)
+unfolding renderOf
+render-strips w h s m win vs = refl
+
+module _ {w h : ℕ} {s : Settings} {m : List ℕ} {win : Window} {vs : List ℕ} (asks : Mapped w h s m × Shown w h s win vs) where
+  -- a row ends inside the window's pixels
+  pub strip-room : {j : ℕ} → j < win .height → j * win .width + win .width ≤ length vs
+  strip-room {j} l = block-fits (win .width) (win .height) l (omega (arith, asks .1 .size))
+
+  -- before row j is rendered it is as it was
+  pub strip-part : {px : List ℕ} (j : ℕ) → px ≡ blocks (win .width) (strip w h s m win vs) vs j
+      → take (j * win .width + win .width - j * win .width) (drop (j * win .width) px) ≡ take (win .width) (drop (j * win .width) vs)
+  strip-part {px} j e =
+      let wide : j * win .width + win .width - j * win .width ≡ win .width = omega arith in
+      ap₂ take wide (ap (drop (j * win .width)) e ∙ drop-blocks (win .width) (strip w h s m win vs) vs j (λ i l. length-strip w h s m win vs i))
+
+  -- and has the window's width
+  pub length-part : {j : ℕ} → j < win .height → length (take (win .width) (drop (j * win .width) vs)) ≡ win .width
+  length-part {j} l = length-take-le (win .width) (drop (j * win .width) vs) (rw length-drop (omega (arith, strip-room l)))
+
+  -- what rendering row j asks
+  pub strip-asks : {px : List ℕ} {j : ℕ} → px ≡ blocks (win .width) (strip w h s m win vs) vs j → j < win .height
+      → RowAsks w h s m (win .left) (win .top + j) (take (j * win .width + win .width - j * win .width) (drop (j * win .width) px))
+  strip-asks {px} {j} e l =
+      rw (strip-part j e)
+      record {
+        mapped = asks .0;
+        across = omega (arith, length-part l, asks .1 .across);
+        down = omega (arith, asks .1 .down);
+        greys = all-take _ (win .width) (drop (j * win .width) vs) (all-drop _ (j * win .width) vs (asks .1 .greys));
+      }
+
+  -- row j, rendered
+  pub strip-is : {j : ℕ} → j < win .height → rowOf w h s m (win .left) (win .top + j) (take (win .width) (drop (j * win .width) vs)) ≡ strip w h s m win vs j
+  unfolding rowOf
+  strip-is {j} l =
+      ap (λ n. tab n (λ i. renderedOf w h s m (win .left + i) (win .top + j) (getD (take (win .width) (drop (j * win .width) vs)) i 0))) (length-part l)
+      ∙ tab-cong (win .width)
+      (λ i k. ap (renderedOf w h s m (win .left + i) (win .top + j)) (getD-take (win .width) (drop (j * win .width) vs) i 0 k ∙ getD-drop (j * win .width) vs i 0))
+
+  -- one row more
+  pub strips-next : {px ys : List ℕ} {j : ℕ} → px ≡ blocks (win .width) (strip w h s m win vs) vs j → j < win .height
+      → ys ≡ rowOf w h s m (win .left) (win .top + j) (take (j * win .width + win .width - j * win .width) (drop (j * win .width) px))
+      → putMid (j * win .width) (j * win .width + win .width - j * win .width) px ys ≡ blocks (win .width) (strip w h s m win vs) vs (j + 1)
+  strips-next {px} {ys} {j} e l q =
+      blocks-step (win .width) (strip w h s m win vs) vs (λ i k. length-strip w h s m win vs i) e
+      (q ∙ ap (rowOf w h s m (win .left) (win .top + j)) (strip-part j e) ∙ strip-is l)
+
+  -- the length stays
+  pub strips-length : {px : List ℕ} {j : ℕ} → px ≡ blocks (win .width) (strip w h s m win vs) vs j → j ≤ win .height → length px ≡ length vs
+  strips-length {px} {j} e l =
+      ap length e ∙ length-blocks (win .width) (strip w h s m win vs) vs j (λ i k. length-strip w h s m win vs i) (omega (arith, mul-le-mul-right (win .width) l, asks .1 .size))
+
+  -- the whole window
+  pub strips-end : {px : List ℕ} {j : ℕ} → px ≡ blocks (win .width) (strip w h s m win vs) vs j → j ≤ win .height → win .height ≤ j → px ≡ renderOf w h s m win vs
+  strips-end e l k =
+      blocks-end (win .width) (strip w h s m win vs) vs e l k
+      ∙ blocks-whole (win .width) (strip w h s m win vs) vs (win .height) (asks .1 .size)
+      ∙ sym (render-strips w h s m win vs)
