@@ -23,6 +23,7 @@ settles (suc n) m t ok z = refl
 -- ---- what the work asks, once none of the rows applies
 
 module _ (w h : ℕ) (pic : List ℕ) (s : Settings) (room scratch : ℕ) {r : ℕ} (e : r ≡ first (prepareRows w h pic s room scratch)) (z : r ≡ 0) where
+  -- the whole of it
   pub asks-work : Work w h pic s room scratch
   asks-work = work w h pic s room scratch (sym e ∙ z)
 

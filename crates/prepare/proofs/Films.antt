@@ -70,6 +70,7 @@ holds (Factor f) n b g o t =
     factor (not-false (accepted f) g) (ltb-false (limitOf f n b * b) n q)
 
 module _ {w h : ℕ} {pic : List ℕ} {s : Settings} {room scratch : ℕ} (asks : TilesAsk w h pic s room scratch) where
+  -- so the limit has room for each tile
   pub tile-holds : Holds (s .clip) (tilePixels w h s) (binsOf s)
   tile-holds = holds (s .clip) (tilePixels w h s) (binsOf s) (asks .work .ready .clip) (asks .changes) (asks .work .loose)
 

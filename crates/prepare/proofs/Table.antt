@@ -48,7 +48,7 @@ module _ (w h : ℕ) (pic : List ℕ) (s : Settings) (room scratch : ℕ) where
         loose = t .1 .1 .0;
       }
 
-  -- the parts of the table one behind the other, as `refusal` asks them
+  -- one of the rows 1 to 11 applies
   pub table-shared : {r : ℕ} → r ≡ first (sharedRows w h (length pic) s room) → (r ≡ 0 → ⊥) → r ≡ first (prepareRows w h pic s room scratch)
   unfolding prepareRows
   table-shared e z = front (sharedRows w h (length pic) s room) _ e z
@@ -58,6 +58,7 @@ module _ (w h : ℕ) (pic : List ℕ) (s : Settings) (room scratch : ℕ) where
     pub table-ready : Ready w h (length pic) s room
     table-ready = ready w h (length pic) s room (sym e ∙ z)
 
+    -- 12 applies
     pub table-scratch : scratch < b → 12 ≡ first (prepareRows w h pic s room scratch)
     unfolding prepareRows first
     table-scratch l =
@@ -65,6 +66,7 @@ module _ (w h : ℕ) (pic : List ℕ) (s : Settings) (room scratch : ℕ) where
         behind (sharedRows w h (length pic) s room) _ (shared-numbered w h (length pic) s room) e z (rw t refl)
 
     module _ (l : b ≤ scratch) where
+      -- 13 applies
       pub table-greys : all (within (s .min) (s .max)) pic ≡ false → 13 ≡ first (prepareRows w h pic s room scratch)
       unfolding prepareRows first
       table-greys g =
@@ -72,6 +74,7 @@ module _ (w h : ℕ) (pic : List ℕ) (s : Settings) (room scratch : ℕ) where
           behind (sharedRows w h (length pic) s room) _ (shared-numbered w h (length pic) s room) e z (rw (t, g) refl)
 
       module _ (g : all (within (s .min) (s .max)) pic ≡ true) where
+        -- 14 applies
         pub table-tight : tooTight (s .clip) (tilePixels w h s) b ≡ true → 14 ≡ first (prepareRows w h pic s room scratch)
         unfolding prepareRows first
         table-tight q =
@@ -79,6 +82,7 @@ module _ (w h : ℕ) (pic : List ℕ) (s : Settings) (room scratch : ℕ) where
             let r : tooTight (s .clip) (tilePixels w h s) (binsOf s) ≡ true = ap (tooTight (s .clip) (tilePixels w h s)) (sym n) ∙ q in
             behind (sharedRows w h (length pic) s room) _ (shared-numbered w h (length pic) s room) e z (rw (t, g, r) refl)
 
+        -- none applies
         pub table-over : tooTight (s .clip) (tilePixels w h s) b ≡ false → 0 ≡ first (prepareRows w h pic s room scratch)
         unfolding prepareRows first
         table-over q =

@@ -1,0 +1,18 @@
+use mathlib.Core.Path.{refl, sym, _∙_}
+use borrow.Author.Needs.{needs}
+use Rattle.abi.proofs.flat.put_record.Statement.{statement}
+use Rattle.abi.proofs.flat.put_record.Tie as tie
+use Rattle.abi.proofs.flat.put_record.Reads as reads
+use Rattle.abi.proofs.flat.put_record.Lts as lts
+use Rattle.abi.proofs.flat.clip_number.Reads as clip-number-reads
+
+-- src/flat.rt:71:9
+clip-number-requires : tie.Need-clip-number-requires
+clip-number-requires c κs = search needs
+
+-- src/flat.rt:57:1
+returns : tie.Need-returns
+returns c = rw (c .before .clip-number .ensures) refl
+
+pub put-record-spec : {M : Type 1} → statement M
+put-record-spec = tie.close (tie.spec clip-number-requires returns)

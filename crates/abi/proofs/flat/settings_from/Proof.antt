@@ -1,0 +1,18 @@
+use mathlib.Core.Path.{refl, sym, _∙_}
+use borrow.Author.Needs.{needs}
+use Rattle.abi.proofs.flat.settings_from.Statement.{statement}
+use Rattle.abi.proofs.flat.settings_from.Tie as tie
+use Rattle.abi.proofs.flat.settings_from.Reads as reads
+use Rattle.abi.proofs.flat.settings_from.Lts as lts
+use Rattle.abi.proofs.flat.clip_from.Reads as clip-from-reads
+
+-- src/flat.rt:46:9
+clip-from-requires : tie.Need-clip-from-requires
+clip-from-requires c κs = search needs
+
+-- src/flat.rt:35:1
+returns : tie.Need-returns
+returns c = rw (c .clip-from .ensures) refl
+
+pub settings-from-spec : {M : Type 1} → statement M
+settings-from-spec = tie.close (tie.spec clip-from-requires returns)

@@ -1,0 +1,123 @@
+// The calls on films.
+ghost use mathlib.Core.Path.{_≡_};
+ghost use Rattle.prepare.specs.Prepare.{prepareOf, enhanceOf};
+ghost use Rattle.draw.specs.Draw.{drawOf};
+ghost use Rattle.abi.specs.Flat.{settingsFrom, recordFrom, windowFrom};
+ghost use Rattle.abi.specs.Films.{footed, preparedAs, flatPrepared, enhancedAs, flatEnhanced, drawnAs, flatDrawn};
+use crate::flat;
+use draw::Drawn;
+use prepare::Enhanced;
+use prepare::Prepared;
+use settings::Window;
+
+#[no_mangle]
+pub extern "C" fn tz_prepare(
+    film: u32,
+    width: u32,
+    height: u32,
+    picture: &[u16],
+    across: u32,
+    down: u32,
+    bins: u32,
+    min: u32,
+    max: u32,
+    clip: u32,
+    factor: f32,
+    map: &mut [u16],
+    scratch: &mut [u32],
+    numbers: &mut [u32; 9],
+    kept: &mut f32,
+    limit: &mut u32,
+    asked: &mut f32,
+    used: &mut f64,
+) -> u32
+    ensures { λ r. ⌜ preparedAs r (now (map .exit)) (now (scratch .exit)) (now (numbers .exit)) (now (kept .exit)) (footed (now (limit .exit)) (now (asked .exit)) (now (used .exit))) ≡ flatPrepared (prepareOf film width height (now (picture .entry)) (settingsFrom across down bins min max clip factor) (now (map .entry)) (now (scratch .entry))) (now (numbers .entry)) (now (kept .entry)) (footed (now (limit .entry)) (now (asked .entry)) (now (used .entry))) ⌝ }
+{
+    let s = flat::settings_from(across, down, bins, min, max, clip, factor);
+    let answer = prepare::prepare(film, width, height, picture, s, map, scratch);
+    match answer {
+        Prepared::Done(record, foot) => {
+            flat::put_record(numbers, record);
+            let made = record.settings;
+            let made_clip = made.clip;
+            *kept = flat::clip_factor(made_clip);
+            *limit = foot.limit;
+            *asked = foot.asked;
+            *used = foot.used;
+            0
+        }
+        Prepared::Refused(n) => n,
+    }
+}
+
+#[no_mangle]
+pub extern "C" fn tz_enhance(
+    width: u32,
+    height: u32,
+    picture: &mut [u16],
+    across: u32,
+    down: u32,
+    bins: u32,
+    min: u32,
+    max: u32,
+    clip: u32,
+    factor: f32,
+    map: &mut [u16],
+    scratch: &mut [u32],
+    limit: &mut u32,
+    asked: &mut f32,
+    used: &mut f64,
+) -> u32
+    ensures { λ r. ⌜ enhancedAs r (now (picture .exit)) (now (map .exit)) (now (scratch .exit)) (footed (now (limit .exit)) (now (asked .exit)) (now (used .exit))) ≡ flatEnhanced (enhanceOf width height (now (picture .entry)) (settingsFrom across down bins min max clip factor) (now (map .entry)) (now (scratch .entry))) (footed (now (limit .entry)) (now (asked .entry)) (now (used .entry))) ⌝ }
+{
+    let s = flat::settings_from(across, down, bins, min, max, clip, factor);
+    let answer = prepare::enhance(width, height, picture, s, map, scratch);
+    match answer {
+        Enhanced::Done(foot) => {
+            *limit = foot.limit;
+            *asked = foot.asked;
+            *used = foot.used;
+            0
+        }
+        Enhanced::Refused(n) => n,
+    }
+}
+
+#[no_mangle]
+pub extern "C" fn tz_draw(
+    film: u32,
+    width: u32,
+    height: u32,
+    picture: &[u16],
+    across: u32,
+    down: u32,
+    bins: u32,
+    min: u32,
+    max: u32,
+    clip: u32,
+    factor: f32,
+    numbers: &[u32; 9],
+    kept: f32,
+    left: u32,
+    top: u32,
+    window_width: u32,
+    window_height: u32,
+    map: &[u16],
+    out: &mut [u16],
+) -> u32
+    ensures { λ r. ⌜ drawnAs r (now (out .exit)) ≡ flatDrawn (drawOf film width height (now (picture .entry)) (settingsFrom across down bins min max clip factor) (recordFrom (now (numbers .entry)) kept) (windowFrom left top «window_width» «window_height») (now (map .entry)) (now (out .entry))) ⌝ }
+{
+    let s = flat::settings_from(across, down, bins, min, max, clip, factor);
+    let record = flat::record_from(numbers, kept);
+    let window = Window {
+        left,
+        top,
+        width: window_width,
+        height: window_height,
+    };
+    let answer = draw::draw(film, width, height, picture, s, record, window, map, out);
+    match answer {
+        Drawn::Done => 0,
+        Drawn::Refused(n) => n,
+    }
+}

@@ -1,0 +1,4 @@
+// The calls of prepare, draw and pgm for C: numbers and slices in, 0 or the refusal's number out.
+mod files;
+mod films;
+mod flat;

@@ -1,0 +1,56 @@
+-- `films::made::out` is safe and ends: the place is within the buffer, which keeps its length. The measure is the entries left. Assumes nothing.
+use borrow.Author.Needs.{needs}
+use Prim.Native.Nat.{_≤_, _-_}
+use mathlib.Core.Path.{_≡_}
+use lib.ListN.{length, length-set}
+use Rattle.films.proofs.made.out.Statement.{statement}
+use Rattle.films.proofs.made.out.Tie as tie
+
+abbrev Inv-loop : tie.InvT-loop
+Inv-loop entries₀ i₀ entries i = (i ≤ length entries₀) × (length entries ≡ length entries₀)
+
+abbrev μ-loop : tie.MeasureT-loop
+μ-loop entries₀ i₀ entries i = length entries₀ - i
+
+loop-holds : tie.Need-loop-holds Inv-loop μ-loop
+loop-holds c = search needs
+
+add-entries : tie.Need-add-entries Inv-loop μ-loop
+add-entries c = search needs
+
+cast-entries : tie.Need-cast-entries Inv-loop μ-loop
+cast-entries c = search needs
+
+slice-write-entries : tie.Need-slice-write-entries Inv-loop μ-loop
+slice-write-entries c = search needs
+
+add-i : tie.Need-add-i Inv-loop μ-loop
+add-i c = search needs
+
+loop-less : tie.Need-loop-less Inv-loop μ-loop
+loop-less c = search needs
+
+loop-again : tie.Need-loop-again Inv-loop μ-loop
+loop-again c = (search needs, rw length-set (search needs))
+
+same-length : tie.Need-same-length Inv-loop μ-loop
+same-length c = search needs
+
+returns : tie.Need-returns Inv-loop μ-loop
+returns c = search needs
+
+pub out-spec : {M : Type 1} → statement M
+out-spec =
+    tie.close
+    (tie.spec
+    Inv-loop
+    μ-loop
+    loop-holds
+    add-entries
+    cast-entries
+    slice-write-entries
+    add-i
+    loop-less
+    loop-again
+    same-length
+    returns)

@@ -1,0 +1,37 @@
+// The digest of a buffer: from 7 on, each entry and last the buffer's length are taken in.
+const SPAN: u64 = 4294967296;
+
+// The digest h with one entry more.
+fn taken(h: u64, v: u64) -> u64 {
+    ((h % SPAN) * 31 + v % SPAN + 1) % SPAN
+}
+
+pub fn greys(entries: &[u16]) -> u64 {
+    let mut h = 7;
+    let mut i = 0;
+    while i < entries.len() {
+        h = taken(h, entries[i] as u64);
+        i += 1;
+    }
+    taken(h, entries.len() as u64)
+}
+
+pub fn words(entries: &[u32]) -> u64 {
+    let mut h = 7;
+    let mut i = 0;
+    while i < entries.len() {
+        h = taken(h, entries[i] as u64);
+        i += 1;
+    }
+    taken(h, entries.len() as u64)
+}
+
+pub fn bytes(entries: &[u8]) -> u64 {
+    let mut h = 7;
+    let mut i = 0;
+    while i < entries.len() {
+        h = taken(h, entries[i] as u64);
+        i += 1;
+    }
+    taken(h, entries.len() as u64)
+}

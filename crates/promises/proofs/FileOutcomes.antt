@@ -1,0 +1,90 @@
+-- Document 01, "How tight the promises are", of read, greys and write: any two outcomes that a contract allows are equal, and a refusal keeps lent memory.
+-- `Post` is the contract itself: of the arguments a, an answer r and the lent memory s at the end.
+-- Assumes nothing.
+use Prim.Native.Nat.{ℕ, _*_, _≤_}
+use mathlib.Core.List.{[]}
+use mathlib.Core.Path.{_≡_, sym, ap, _∙_}
+use contract.Lifetimes.{Lfts}
+use denote.Ref.{now}
+use denote.Triple.Clauses.{AtExit}
+use borrow.Fn.Kinds.{Dens, endedOf, resT}
+use lib.ListN.{length, take}
+use Rattle.lists.specs.Lists.{onto}
+use Rattle.header.specs.declared.Head.the-variants as Head
+use Rattle.pgm.specs.declared.Sizes.the-variants as Sizes
+use Rattle.pgm.specs.declared.Turned.the-variants as Turned
+use Rattle.pgm.specs.declared.Written.the-variants as Written
+use Rattle.pgm.specs.Pgm.{readOf, sizesOf, greyedAs, Greyed, Wrote}
+use Rattle.pgm.proofs.read_sizes.Kinds as sizes
+use Rattle.pgm.proofs.read_sizes.Reads as read-sizes
+use Rattle.pgm.proofs.read_raster.Kinds as raster
+use Rattle.pgm.proofs.read_raster.Reads as read-raster
+use Rattle.pgm.proofs.read_greys.Kinds as greys
+use Rattle.pgm.proofs.read_greys.Reads as read-greys
+use Rattle.pgm.proofs.write.Kinds as write
+use Rattle.pgm.proofs.write.Reads as write-reads
+use Rattle.promises.proofs.Files.{refused-part, same-film, greys-kept, write-kept}
+
+-- ---- any two outcomes are equal
+
+-- read, asked for the sizes: one answer for each file
+pub sizes-determined : (κs : Lfts 1) (a : Dens κs sizes.ps) (r r′ : resT sizes.r κs .Denot) (s s′ : AtExit (endedOf 1 sizes.ps sizes.r) κs)
+    → read-sizes.Post κs a r s → read-sizes.Post κs a r′ s′ → r ≡ r′
+sizes-determined κs a r r′ s s′ p q = p ∙ sym q
+
+-- read, asked for the raster: one part for each file
+pub raster-determined : (κs : Lfts 1) (a : Dens κs raster.ps) (r r′ : resT raster.r κs .Denot) (s s′ : AtExit (endedOf 1 raster.ps raster.r) κs)
+    → read-raster.Post κs a r s → read-raster.Post κs a r′ s′ → now r ≡ now r′
+raster-determined κs a r r′ s s′ p q = p ∙ sym q
+
+-- greys: one answer and one target for each raster, numbers and target
+pub greys-determined : (κs : Lfts 2) (a : Dens κs greys.ps) (r r′ : resT greys.r κs .Denot) (s s′ : AtExit (endedOf 2 greys.ps greys.r) κs)
+    → read-greys.Post κs a r s → read-greys.Post κs a r′ s′ → (r ≡ r′) × (now (s .1 .1 .1 .1 .1 .0) ≡ now (s′ .1 .1 .1 .1 .1 .0))
+greys-determined κs a r r′ s s′ p q =
+    let e = p ∙ sym q in
+    (ap (λ (x : Greyed). x .answer) e, ap (λ (x : Greyed). x .target) e)
+
+-- write: one answer and one output for each picture, numbers and output
+pub write-determined : (κs : Lfts 2) (a : Dens κs write.ps) (r r′ : resT write.r κs .Denot) (s s′ : AtExit (endedOf 2 write.ps write.r) κs)
+    → write-reads.Post κs a r s → write-reads.Post κs a r′ s′ → (r ≡ r′) × (now (s .1 .1 .1 .1 .0) ≡ now (s′ .1 .1 .1 .1 .0))
+write-determined κs a r r′ s s′ p q =
+    let e = p ∙ sym q in
+    (ap (λ (x : Wrote). x .answer) e, ap (λ (x : Wrote). x .out) e)
+
+-- ---- a refusal keeps lent memory
+
+-- demand 1, "after a refusal all lent memory holds what it held before", of greys: the target
+pub greys-refusal-keeps : (κs : Lfts 2) (a : Dens κs greys.ps) (n : ℕ) (s : AtExit (endedOf 2 greys.ps greys.r) κs)
+    → read-greys.Post κs a (Turned.Refused n) s → now (s .1 .1 .1 .1 .1 .0) ≡ now (a .1 .1 .1 .1 .1 .0)
+greys-refusal-keeps κs a n s p = greys-kept _ _ _ _ _ _ _ n p
+
+-- the same of write: the output
+pub write-refusal-keeps : (κs : Lfts 2) (a : Dens κs write.ps) (n : ℕ) (s : AtExit (endedOf 2 write.ps write.r) κs)
+    → write-reads.Post κs a (Written.Refused n) s → now (s .1 .1 .1 .1 .0) ≡ now (a .1 .1 .1 .1 .0)
+write-refusal-keeps κs a n s p = write-kept _ _ _ _ _ _ n p
+
+-- "A refusal hands back an empty part.": where the sizes are refused, the raster is empty
+pub raster-refusal-empty : (κs : Lfts 1) (a : Dens κs raster.ps) (n : ℕ) (r : resT raster.r κs .Denot) (s : AtExit (endedOf 1 raster.ps raster.r) κs)
+    → readOf (now (a .0)) ≡ Head.Refused n → read-raster.Post κs a r s → now r ≡ []
+raster-refusal-empty κs a n r s q p = p ∙ refused-part (now (a .0)) q
+
+-- ---- a film written and read back, call by call
+
+-- one call of write: what it was handed, how many bytes it answered, and what it left
+module _ (κs : Lfts 2) (a : Dens κs write.ps) (n : ℕ) (s : AtExit (endedOf 2 write.ps write.r) κs) (wrote : write-reads.Post κs a (Written.Bytes n) s) where
+  -- demand 2, "a film written and read back is the same film": read over those bytes answers the film's width, height and maxval
+  pub sizes-read-back : (κ : Lfts 1) (b : Dens κ sizes.ps) (r : resT sizes.r κ .Denot) (t : AtExit (endedOf 1 sizes.ps sizes.r) κ)
+      → now (b .0) ≡ take n (now (s .1 .1 .1 .1 .0)) → read-sizes.Post κ b r t → r ≡ Sizes.Found (a .1 .0) (a .1 .1 .0) (a .1 .1 .1 .0)
+  sizes-read-back κ b r t e p = p ∙ (ap (λ x. sizesOf (readOf x)) e ∙ same-film _ _ _ _ _ _ n wrote .sizes)
+
+  -- and greys of the part that read hands back, in a target with room, leave the film's greys
+  pub greys-read-back : (κ : Lfts 1) (b : Dens κ raster.ps) (r : resT raster.r κ .Denot) (t : AtExit (endedOf 1 raster.ps raster.r) κ)
+      (κ′ : Lfts 2) (g : Dens κ′ greys.ps) (r′ : resT greys.r κ′ .Denot) (t′ : AtExit (endedOf 2 greys.ps greys.r) κ′)
+      → now (b .0) ≡ take n (now (s .1 .1 .1 .1 .0)) → read-raster.Post κ b r t
+      → now (g .0) ≡ now r → g .1 .0 ≡ 0 → g .1 .1 .0 ≡ a .1 .0 → g .1 .1 .1 .0 ≡ a .1 .1 .0 → g .1 .1 .1 .1 .0 ≡ a .1 .1 .1 .0
+      → a .1 .0 * a .1 .1 .0 ≤ length (now (g .1 .1 .1 .1 .1 .0)) → read-greys.Post κ′ g r′ t′
+      → (r′ ≡ Turned.Done) × (now (t′ .1 .1 .1 .1 .1 .0) ≡ onto (now (g .1 .1 .1 .1 .1 .0)) (now (a .0)))
+  greys-read-back κ b r t κ′ g r′ t′ e p i z w h m l q =
+      let x : greyedAs r′ (now (t′ .1 .1 .1 .1 .1 .0)) ≡ greyedAs Turned.Done (onto (now (g .1 .1 .1 .1 .1 .0)) (now (a .0))) =
+      q ∙ (rw (i, p, e, z, w, h, m) (same-film _ _ _ _ _ _ n wrote .greys (now (g .1 .1 .1 .1 .1 .0)) l)) in
+      (ap (λ (y : Greyed). y .answer) x, ap (λ (y : Greyed). y .target) x)

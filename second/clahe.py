@@ -1,0 +1,406 @@
+"""Prepare, draw and enhance: a second reading of document 01.
+
+Plain and slow. Whole numbers and fractions.Fraction only; the one float is
+the division behind the footer's "factor used", which Python rounds correctly
+for two whole numbers.
+
+A quoted sentence in a comment is document 01's own.
+
+An answer is either a whole number (the refusal) or a tuple (the results).
+Pictures, map buffers, scratch and outputs are lists that the caller lends.
+"""
+
+import struct
+from collections import namedtuple
+from fractions import Fraction
+
+# "The clip setting is one of two: off, or a factor carried as f32. It sits
+# inside the settings record."  clip is None for off, else the f32's 32 bits.
+Settings = namedtuple("Settings", "across down bins min max clip")
+
+# "A map record holds the film's number (any 32-bit number), sizes and
+# settings, with bins 0 kept as 128."
+Record = namedtuple("Record", "film_number width height settings")
+
+# "a footer record with L, the factor asked as f32 and the factor used as f64"
+# asked holds 32 bits, used holds 64 bits.
+Footer = namedtuple("Footer", "limit asked used")
+
+ONE_F32 = 0x3F800000
+
+
+def f64_bits(value):
+    """The 64 bits of an f64 (for the footer)."""
+    return struct.unpack(">Q", struct.pack(">d", value))[0]
+
+
+def factor_number(bits):
+    """"the factor's f32 bits are taken as the exact binary fraction they
+    denote."  None for NaN and the infinities, which denote none."""
+    sign = -1 if bits >> 31 else 1
+    exponent = (bits >> 23) & 0xFF
+    mantissa = bits & 0x7FFFFF
+    if exponent == 255:
+        return None
+    if exponent == 0:
+        return sign * Fraction(mantissa, 2 ** 149)
+    return sign * Fraction(mantissa + 2 ** 23, 2 ** 23) * Fraction(2) ** (exponent - 127)
+
+
+def bin_count(bins):
+    """"Bins B: 2 to 4096. 0 means 128." """
+    return 128 if bins == 0 else bins
+
+
+def bin_width(low, high, bins):
+    """"Bin width W = 1 + floor(R / B)", with "R = Max - Min." """
+    return 1 + (high - low) // bins
+
+
+def bin_of(grey, low, high, bins):
+    """"a grey v is in bin floor((v - Min) / W)." """
+    return (grey - low) // bin_width(low, high, bins)
+
+
+def limit_of(bits, pixels, bins):
+    """"L = floor(factor x N / B) in whole numbers, and at least 1. Nothing is
+    rounded before the floor." """
+    exact = factor_number(bits) * pixels / bins
+    return max(1, exact.numerator // exact.denominator)
+
+
+def excess_of(counts, limit):
+    """"Excess E is the sum over bins of what stands above L." """
+    return sum(count - limit for count in counts if count > limit)
+
+
+def clipped(counts, limit):
+    """Steps 3 and 4: the clipped counts of a tile (a new list)."""
+    counts = list(counts)
+    bins = len(counts)
+    excess = excess_of(counts, limit)
+    # "q = floor(E / B), U = L - q."
+    share = excess // bins
+    upper = limit - share
+    taken = 0
+    for b in range(bins):
+        if counts[b] > limit:
+            # "A bin above L becomes L;"
+            counts[b] = limit
+        elif counts[b] > upper:
+            # "a bin above U and not above L becomes L and takes L minus its
+            # count;"
+            taken += limit - counts[b]
+            counts[b] = limit
+        else:
+            # "any other takes q."
+            taken += share
+            counts[b] += share
+    # "What is left of E is r."
+    left = excess - taken
+    # "Leftover: while r > 0, starts run from bin 0 to bin B - 1, then from 0
+    # again."
+    start = 0
+    while left > 0:
+        # "At each start with r > 0 the step is floor(B / r), at least 1,
+        # fixed for this start."
+        step = max(1, bins // left)
+        # "From the start upward by that step, a bin under L gains one and r
+        # loses one."
+        for b in range(start, bins, step):
+            if counts[b] < limit:
+                counts[b] += 1
+                left -= 1
+                # "All of it stops the moment r reaches 0."
+                if left == 0:
+                    break
+        start += 1
+        if start == bins:
+            start = 0
+    return counts
+
+
+def mapping_of(counts, low, high, pixels):
+    """"Mapping of bin b: Min + floor(S x R / N), with S the sum of the clipped
+    counts of bins 0 to b." """
+    result = []
+    total = 0
+    for count in counts:
+        total += count
+        result.append(low + total * (high - low) // pixels)
+    return result
+
+
+def tile_counts(picture, width, tile_width, tile_height, row, column, low, high, bins):
+    """The raw counts of the tile in the given tile row and tile column."""
+    counts = [0] * bins
+    size = bin_width(low, high, bins)
+    for y in range(row * tile_height, (row + 1) * tile_height):
+        at = y * width + column * tile_width
+        for grey in picture[at:at + tile_width]:
+            counts[(grey - low) // size] += 1
+    return counts
+
+
+def all_mappings(width, height, picture, settings):
+    """Every tile's mapping in one list: "the mappings, tiles row by row, bins
+    upward".  "With clip off, steps 2 to 4 are skipped and the raw counts are
+    mapped." """
+    across, down, bins, low, high, clip = settings
+    bins = bin_count(bins)
+    tile_width = width // across
+    tile_height = height // down
+    pixels = tile_width * tile_height
+    result = []
+    for row in range(down):
+        for column in range(across):
+            counts = tile_counts(picture, width, tile_width, tile_height,
+                                 row, column, low, high, bins)
+            if clip is not None:
+                counts = clipped(counts, limit_of(clip, pixels, bins))
+            result.extend(mapping_of(counts, low, high, pixels))
+    return result
+
+
+def pair(place, tile, count):
+    """"Half = floor(tw / 2). A column x below half uses tile column 0 alone.
+    Otherwise k = floor((x - half) / tw), o the remainder; if k is the last
+    tile column it is used alone, else columns k and k + 1 with weights tw - o
+    and o."  Hands back the two tile columns (rows) and o.  "Where one tile
+    column (or row) is used alone, both sides of that pair are the same
+    tile." """
+    half = tile // 2
+    if place < half:
+        return 0, 0, 0
+    k = (place - half) // tile
+    o = (place - half) % tile
+    if k == count - 1:
+        return k, k, o
+    return k, k + 1, o
+
+
+def blend(tile_width, tile_height, o, p, a, b, c, d):
+    """"floor(((th - p)((tw - o)A + oB') + p((tw - o)C + oD)) / (tw x th))." """
+    upper = (tile_width - o) * a + o * b
+    lower = (tile_width - o) * c + o * d
+    return ((tile_height - p) * upper + p * lower) // (tile_width * tile_height)
+
+
+def grey_at(x, y, grey, width, height, settings, maps):
+    """The rendered grey of the pixel x, y: "With A, B', C, D the four tiles'
+    mapped values (upper left, upper right, lower left, lower right) of the
+    pixel's bin"."""
+    across, down, bins, low, high, _ = settings
+    bins = bin_count(bins)
+    tile_width = width // across
+    tile_height = height // down
+    k0, k1, o = pair(x, tile_width, across)
+    j0, j1, p = pair(y, tile_height, down)
+    b = bin_of(grey, low, high, bins)
+
+    def mapped(row, column):
+        return maps[(row * across + column) * bins + b]
+
+    return blend(tile_width, tile_height, o, p,
+                 mapped(j0, k0), mapped(j0, k1), mapped(j1, k0), mapped(j1, k1))
+
+
+def refusal_1_to_11(width, height, picture, settings, map_buffer):
+    """Rows 1 to 11 of the table, "The first that applies is given."  0 when
+    none applies."""
+    across, down, bins, low, high, clip = settings
+    # 1: "width or height is 0 or above 4096"
+    if width == 0 or width > 4096 or height == 0 or height > 4096:
+        return 1
+    # 2: "picture length is not width x height"
+    if len(picture) != width * height:
+        return 2
+    # 3 / 4: "grid across / down is not 2 to 16"
+    if not 2 <= across <= 16:
+        return 3
+    if not 2 <= down <= 16:
+        return 4
+    # 5 / 6: "width / height is no multiple of the grid"
+    if width % across != 0:
+        return 5
+    if height % down != 0:
+        return 6
+    # 7 / 8: "Max above 4095 / Min not below Max"
+    if high > 4095:
+        return 7
+    if not low < high:
+        return 8
+    # 9: "bins 1 or above 4096"
+    if bins == 1 or bins > 4096:
+        return 9
+    # 10: "factor NaN, infinite, below 1.0 or above 1024.0"
+    if clip is not None:
+        factor = factor_number(clip)
+        if factor is None or factor < 1 or factor > 1024:
+            return 10
+    # 11: "map buffer shorter than (grid across) x (grid down) x B"
+    if len(map_buffer) < across * down * bin_count(bins):
+        return 11
+    return 0
+
+
+def refusal_1_to_14(width, height, picture, settings, map_buffer, scratch):
+    """"Prepare and enhance: 1 to 14 upward."  0 when none applies."""
+    refusal = refusal_1_to_11(width, height, picture, settings, map_buffer)
+    if refusal:
+        return refusal
+    bins = bin_count(settings.bins)
+    # 12: "scratch shorter than B"
+    if len(scratch) < bins:
+        return 12
+    # 13: "a pixel outside Min to Max"
+    for grey in picture:
+        if grey < settings.min or grey > settings.max:
+            return 13
+    # 14: "factor above 1.0 and L x B < N"
+    if settings.clip is not None and factor_number(settings.clip) > 1:
+        pixels = (width // settings.across) * (height // settings.down)
+        if limit_of(settings.clip, pixels, bins) * bins < pixels:
+            return 14
+    return 0
+
+
+def factor_is_one(clip):
+    """"exactly 1.0 returns the film unchanged" """
+    return clip is not None and factor_number(clip) == 1
+
+
+def footer_of(width, height, settings):
+    """"a footer record with L, the factor asked as f32 and the factor used as
+    f64: L x B and N are each converted exactly and divided once. Clip off: L
+    0, both factors 0.0. Factor 1.0: L 0, both 1.0" """
+    if settings.clip is None:
+        return Footer(0, 0, f64_bits(0.0))
+    if factor_is_one(settings.clip):
+        return Footer(0, ONE_F32, f64_bits(1.0))
+    bins = bin_count(settings.bins)
+    pixels = (width // settings.across) * (height // settings.down)
+    limit = limit_of(settings.clip, pixels, bins)
+    # int / int is the correctly rounded quotient; both fit an f64 exactly.
+    return Footer(limit, settings.clip, f64_bits(limit * bins / pixels))
+
+
+def lay_down(width, height, picture, settings, map_buffer, scratch):
+    """"the map buffer's first (grid across) x (grid down) x B entries are the
+    mappings, tiles row by row, bins upward; the first B scratch entries are
+    zero; all other entries keep their contents."  "Factor 1.0: [...] map and
+    scratch stay as they were." """
+    if factor_is_one(settings.clip):
+        return
+    maps = all_mappings(width, height, picture, settings)
+    for i, value in enumerate(maps):
+        map_buffer[i] = value
+    for i in range(bin_count(settings.bins)):
+        scratch[i] = 0
+
+
+def prepare(film_number, width, height, picture, settings, map_buffer, scratch):
+    """"**prepare** (make the tile mappings of a film)".  "It returns the map
+    record and a footer record".  A refusal changes nothing."""
+    refusal = refusal_1_to_14(width, height, picture, settings, map_buffer, scratch)
+    if refusal:
+        return refusal
+    lay_down(width, height, picture, settings, map_buffer, scratch)
+    # "with bins 0 kept as 128."
+    kept = settings._replace(bins=bin_count(settings.bins))
+    return Record(film_number, width, height, kept), footer_of(width, height, settings)
+
+
+def enhance(width, height, picture, settings, map_buffer, scratch):
+    """"Enhance: the same buffers and footer, and the picture rendered. Factor
+    1.0: nothing changes." """
+    refusal = refusal_1_to_14(width, height, picture, settings, map_buffer, scratch)
+    if refusal:
+        return refusal
+    lay_down(width, height, picture, settings, map_buffer, scratch)
+    if not factor_is_one(settings.clip):
+        for y in range(height):
+            for x in range(width):
+                at = y * width + x
+                picture[at] = grey_at(x, y, picture[at], width, height, settings, map_buffer)
+    return footer_of(width, height, settings)
+
+
+def same_clip(asked, kept):
+    """The clip settings compared: off equals off only, factors as numbers (a
+    NaN equals nothing)."""
+    if asked is None or kept is None:
+        return asked is None and kept is None
+    a = factor_number(asked)
+    k = factor_number(kept)
+    return a is not None and k is not None and a == k
+
+
+def record_differs(film_number, width, height, settings, record):
+    """15: "draw: record differs in film number, size or any setting (bins 0
+    read as 128 on both sides)"; "the film number and settings for 15 come
+    with the call"."""
+    kept = record.settings
+    return not (film_number == record.film_number
+                and width == record.width
+                and height == record.height
+                and settings.across == kept.across
+                and settings.down == kept.down
+                and bin_count(settings.bins) == bin_count(kept.bins)
+                and settings.min == kept.min
+                and settings.max == kept.max
+                and same_clip(settings.clip, kept.clip))
+
+
+def refusal_of_draw(film_number, width, height, picture, settings, record, window,
+                    map_buffer, output):
+    """"Draw: 1 to 11, 15, 16, 17, then 13 over the window, then 18 (not at
+    factor 1.0)".  0 when none applies."""
+    refusal = refusal_1_to_11(width, height, picture, settings, map_buffer)
+    if refusal:
+        return refusal
+    if record_differs(film_number, width, height, settings, record):
+        return 15
+    left, top, window_width, window_height = window
+    # 16: "draw: window empty or not inside the film"
+    if window_width == 0 or window_height == 0:
+        return 16
+    if left + window_width > width or top + window_height > height:
+        return 16
+    # 17: "output length is not the window's area"
+    if len(output) != window_width * window_height:
+        return 17
+    # "then 13 over the window"
+    for y in range(top, top + window_height):
+        for x in range(left, left + window_width):
+            grey = picture[y * width + x]
+            if grey < settings.min or grey > settings.max:
+                return 13
+    # 18: "draw: one of the first (grid across) x (grid down) x B map entries
+    # outside Min to Max"
+    if not factor_is_one(settings.clip):
+        for i in range(settings.across * settings.down * bin_count(settings.bins)):
+            if map_buffer[i] < settings.min or map_buffer[i] > settings.max:
+                return 18
+    return 0
+
+
+def draw(film_number, width, height, picture, settings, record, window, map_buffer, output):
+    """"Draw: the window's pixels row by row in the output, each by the rule
+    above from the map entries as lent, whoever wrote them. At factor 1.0 it
+    copies them."  Answers 0 when drawn, else the refusal."""
+    refusal = refusal_of_draw(film_number, width, height, picture, settings, record, window,
+                              map_buffer, output)
+    if refusal:
+        return refusal
+    left, top, window_width, window_height = window
+    copy = factor_is_one(settings.clip)
+    at = 0
+    for y in range(top, top + window_height):
+        for x in range(left, left + window_width):
+            grey = picture[y * width + x]
+            if not copy:
+                grey = grey_at(x, y, grey, width, height, settings, map_buffer)
+            output[at] = grey
+            at += 1
+    return 0

@@ -1,0 +1,313 @@
+"""The film set of FILMS.md, run through the second program.
+
+Run: python3 second/films.py   prints the text that FILMS.md describes.
+The tables are read from FILMS.md, next to this file.
+
+The generator (no random source): g -> (g * 1103515245 + 12345) mod 2^31,
+started at the row's seed.  The digest of a buffer: h = 7, then
+h = (h * 31 + v + 1) mod 2^32 over its entries v and last over its length.
+"""
+
+import os
+import sys
+
+sys.dont_write_bytecode = True
+
+import clahe
+import pgm
+
+SMALL = 64
+
+FILM_COLUMNS = ("no film kind width height length lo hi seed across down bins min max clip "
+                "factor maplen scratchlen pokeat pokeval fillbase fillmod").split()
+DRAW_COLUMNS = ("no case film left top width height outlen field value "
+                "pixat pixval mapat mapval").split()
+WRITE_COLUMNS = ("no kind width height length lo hi seed maxval outlen "
+                 "pokeat pokeval target").split()
+
+RECORD_FIELDS = 10
+
+
+def tables():
+    """The rows of FILMS.md, by the name of their block."""
+    found = {}
+    name = None
+    path = os.path.join(os.path.dirname(os.path.abspath(__file__)), "FILMS.md")
+    with open(path, encoding="utf-8") as text:
+        for line in text:
+            if line.startswith("```"):
+                name = None if name is not None else line[3:].strip()
+                continue
+            row = line.split("#")[0].split()
+            if name is not None and row:
+                found.setdefault(name, []).append([int(number, 0) for number in row])
+    return found
+
+
+def named(columns, row):
+    """A row as a dictionary of its columns."""
+    assert len(columns) == len(row), row
+    return dict(zip(columns, row))
+
+
+# --- the film rule and the fills -------------------------------------------
+
+def film(row):
+    """The picture of a row, by the film rule."""
+    w, h, lo, seed = row["width"], row["height"], row["lo"], row["seed"]
+    span = row["hi"] - lo
+    g = seed
+    picture = []
+    for i in range(row["length"]):
+        if row["kind"] >= 2:
+            g = (g * 1103515245 + 12345) % 2 ** 31
+        if row["kind"] == 0:
+            t = seed % (span + 1)
+        elif row["kind"] == 1:
+            t = (i % w + i // w) * span // (w + h - 2)
+        elif row["kind"] == 2:
+            t = g // 256 % (span + 1)
+        elif row["kind"] == 3:
+            t = span if g // 65536 % 4 == 0 else 0
+        else:
+            col, line = i % w, i // w
+            u = abs(2 * line + 1 - h)
+            if 3 * u < h:
+                t = 5 * span // 8 + (3 * col + u) % 8 * span // 64
+            else:
+                t = span // 4 + col * span // (8 * w)
+            if u <= 1:
+                t -= span // 8
+            if u == 3 and col % 13 == 5:
+                t -= span // 8
+            t += g // 256 % (span // 16 + 1)
+        picture.append(lo + t)
+    if row["pokeat"] < len(picture):
+        picture[row["pokeat"]] = row["pokeval"]
+    return picture
+
+
+def map_fill(row):
+    """The map buffer before a call."""
+    return [row["fillbase"] + (i * 7 + 3) % row["fillmod"] for i in range(row["maplen"])]
+
+
+def scratch_fill(row):
+    """The scratch before a call."""
+    return [1 + i * 5 % 1000 for i in range(row["scratchlen"])]
+
+
+def output_fill(length):
+    """The output before draw."""
+    return [50000 + i % 1000 for i in range(length)]
+
+
+def target_fill(length):
+    """The target before greys."""
+    return [40000 + i % 1000 for i in range(length)]
+
+
+def out_fill(length):
+    """The out bytes before write."""
+    return [100 + i % 100 for i in range(length)]
+
+
+# --- settings and records ---------------------------------------------------
+
+def settings_of(row):
+    """The settings of a film row."""
+    return clahe.Settings(row["across"], row["down"], row["bins"], row["min"], row["max"],
+                          row["factor"] if row["clip"] else None)
+
+
+def record_numbers(row):
+    """The ten numbers of a film row's made record."""
+    return [row["film"], row["width"], row["height"], row["across"], row["down"], row["bins"],
+            row["min"], row["max"], row["clip"], row["factor"]]
+
+
+def record_of(numbers):
+    """The record that ten numbers make."""
+    number, width, height, across, down, bins, low, high, clip, factor = numbers
+    return clahe.Record(number, width, height,
+                        clahe.Settings(across, down, bins, low, high, factor if clip else None))
+
+
+# --- printing ---------------------------------------------------------------
+
+def digest(entries):
+    """The digest of a buffer."""
+    h = 7
+    for v in entries:
+        h = (h * 31 + v + 1) & 0xFFFFFFFF
+    return (h * 31 + len(entries) + 1) & 0xFFFFFFFF
+
+
+class Text:
+    """Collects the lines."""
+
+    def __init__(self):
+        self.lines = []
+
+    def line(self, letter, no, *fields):
+        self.lines.append("\t".join([letter, str(no)] + [str(field) for field in fields]))
+
+    def digests(self, letter, no, *buffers):
+        self.line(letter, no, *[digest(buffer) for buffer in buffers])
+
+    def small(self, letter, no, buffer):
+        if 1 <= len(buffer) <= SMALL:
+            self.line(letter, no, *buffer)
+
+
+def footer_fields(footer):
+    """L, asked f32, used f64."""
+    return [footer.limit, "%08x" % footer.asked, "%016x" % footer.used]
+
+
+def record_fields(record):
+    """The ten fields of a returned record."""
+    s = record.settings
+    return [record.film_number, record.width, record.height, s.across, s.down, s.bins, s.min,
+            s.max, 0 if s.clip is None else 1, "%08x" % (s.clip or 0)]
+
+
+# --- the five tables --------------------------------------------------------
+
+def run_film(text, row):
+    """One row of the table films."""
+    no, width, height = row["no"], row["width"], row["height"]
+    settings = settings_of(row)
+    picture, maps, scratch = film(row), map_fill(row), scratch_fill(row)
+    prepared = clahe.prepare(row["film"], width, height, picture, settings, maps, scratch)
+    record = record_of(record_numbers(row))
+    if isinstance(prepared, int):
+        text.line("P", no, prepared)
+    else:
+        record = prepared[0]
+        text.line("P", no, 0, *(footer_fields(prepared[1]) + record_fields(record)))
+    text.digests("p", no, picture, maps, scratch)
+    text.small("m", no, maps)
+
+    output = output_fill(row["length"])
+    drawn = clahe.draw(row["film"], width, height, picture, settings, record,
+                       (0, 0, width, height), maps, output)
+    text.line("D", no, drawn)
+    text.digests("d", no, picture, maps, output)
+    text.small("o", no, output)
+
+    maps, scratch = map_fill(row), scratch_fill(row)
+    enhanced = clahe.enhance(width, height, picture, settings, maps, scratch)
+    if isinstance(enhanced, int):
+        text.line("E", no, enhanced)
+    else:
+        text.line("E", no, 0, *footer_fields(enhanced))
+    text.digests("e", no, picture, maps, scratch)
+    text.small("i", no, picture)
+
+    if not isinstance(prepared, int) and drawn == 0 and not isinstance(enhanced, int):
+        text.line("K", no, 1 if output == picture else 0)
+
+
+def run_draw(text, row, films):
+    """One row of the table draws."""
+    case = films[row["case"]]
+    settings = settings_of(case)
+    picture, maps, scratch = film(case), map_fill(case), scratch_fill(case)
+    prepared = clahe.prepare(case["film"], case["width"], case["height"], picture, settings,
+                             maps, scratch)
+    numbers = record_numbers(case)
+    if row["field"] < RECORD_FIELDS:
+        numbers[row["field"]] = row["value"]
+        record = record_of(numbers)
+    elif isinstance(prepared, int):
+        record = record_of(numbers)
+    else:
+        record = prepared[0]
+    if row["pixat"] < len(picture):
+        picture[row["pixat"]] = row["pixval"]
+    if row["mapat"] < len(maps):
+        maps[row["mapat"]] = row["mapval"]
+    output = output_fill(row["outlen"])
+    window = (row["left"], row["top"], row["width"], row["height"])
+    drawn = clahe.draw(row["film"], case["width"], case["height"], picture, settings, record,
+                       window, maps, output)
+    text.line("W", row["no"], drawn)
+    text.digests("w", row["no"], picture, maps, output)
+    text.small("v", row["no"], output)
+
+
+def reading_steps(text, no, data, target_length):
+    """The reading steps; hands back the target when the greys were made."""
+    sizes = pgm.read_sizes(data)
+    if isinstance(sizes, int):
+        text.line("S", no, sizes)
+    else:
+        text.line("S", no, 0, *sizes[1:])
+    raster = pgm.read_raster(data)
+    text.line("R", no, len(raster), digest(raster), digest(data))
+    if isinstance(sizes, int):
+        return None
+    target = target_fill(target_length)
+    answer = pgm.greys(data, len(data) - len(raster), sizes[1], sizes[2], sizes[3], target)
+    text.line("G", no, answer)
+    text.digests("g", no, data, target)
+    text.small("t", no, target)
+    return target if answer == 0 else None
+
+
+def run_file(text, row):
+    """One row of the table files."""
+    no, target_length, count = row[:3]
+    reading_steps(text, no, bytes(row[3:3 + count]), target_length)
+
+
+def run_greys(text, row):
+    """One row of the table greys."""
+    no, start, width, height, maxval, target_length, count = row[:7]
+    data = bytes(row[7:7 + count])
+    target = target_fill(target_length)
+    text.line("H", no, pgm.greys(data, start, width, height, maxval, target))
+    text.digests("h", no, data, target)
+    text.small("u", no, target)
+
+
+def run_write(text, row):
+    """One row of the table writes."""
+    no = row["no"]
+    picture, out = film(row), out_fill(row["outlen"])
+    answer = pgm.write(picture, row["width"], row["height"], row["maxval"], out)
+    if isinstance(answer, int):
+        text.line("B", no, answer)
+    else:
+        text.line("B", no, 0, answer[1])
+    text.digests("b", no, picture, out)
+    text.small("c", no, out)
+    if not isinstance(answer, int):
+        target = reading_steps(text, no, bytes(out[:answer[1]]), row["target"])
+        if target is not None:
+            text.line("K", no, 1 if target[:len(picture)] == picture else 0)
+
+
+def run():
+    """The whole text."""
+    found = tables()
+    text = Text()
+    films = {}
+    for numbers in found["films"]:
+        row = named(FILM_COLUMNS, numbers)
+        films[row["no"]] = row
+        run_film(text, row)
+    for numbers in found["draws"]:
+        run_draw(text, named(DRAW_COLUMNS, numbers), films)
+    for numbers in found["files"]:
+        run_file(text, numbers)
+    for numbers in found["greys"]:
+        run_greys(text, numbers)
+    for numbers in found["writes"]:
+        run_write(text, named(WRITE_COLUMNS, numbers))
+    return "".join(line + "\n" for line in text.lines)
+
+
+if __name__ == "__main__":
+    sys.stdout.write(run())

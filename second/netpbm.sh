@@ -1,0 +1,81 @@
+#!/usr/bin/env bash
+# Holds raw PGM as we read and write it to Netpbm's own tools, where they are installed (docs/NETPBM.md).
+# Last line: 'netpbm: N files agree', or what does not agree and exit status 1.
+set -euo pipefail
+cd "$(dirname "$0")/.."
+if ! command -v pamtopnm > /dev/null; then
+    echo "netpbm: not installed, nothing compared"
+    exit 0
+fi
+PYTHONDONTWRITEBYTECODE=1 PYTHONPATH=second exec python3 - << 'END'
+import re
+import subprocess
+import sys
+
+import pgm
+
+agreed = 0
+
+
+def tool(command, data=b""):
+    """What a command of Netpbm's prints."""
+    done = subprocess.run(["bash", "-c", command], input=data, stdout=subprocess.PIPE, stderr=subprocess.DEVNULL)
+    return done.stdout
+
+
+def agree(what, ours, netpbm):
+    global agreed
+    if ours != netpbm:
+        sys.exit("netpbm: not the same: %s" % what)
+    agreed += 1
+
+
+# 1. The files that the program `outside` reads: the bytes in its source, and what it prints of them.
+source = open("crates/outside/src/files.rt").read()
+stored = {}
+for command, body in re.findall(r"// (pgm[^\n]*)\npub const \w+: \[u8; \d+\] = \[(.*?)\];", source, re.S):
+    stored[command] = bytes(int(n) for n in re.findall(r"\d+", body))
+printed = open("crates/outside/stdout").read()
+for command, data in stored.items():
+    if tool(command) != data:
+        # Another edition of the tools may make other noise: the stored bytes still are theirs.
+        print("netpbm: these tools make other bytes by: %s" % command)
+    behind = printed.split(command + "\n", 1)[1]
+    if not behind.startswith("refused"):
+        text, last = behind.split("written again: ", 1)
+        agree("outside's text of: " + command, text, tool("pamtopnm -plain", data).decode())
+        agree("outside's bytes of: " + command, last.split("\n", 1)[0], "the same bytes")
+        agreed -= 1
+
+# 2. Files that our writer makes: Netpbm reads the same film, and writes the same bytes. `pamtopnm` would turn maxval 1 into
+# a bitmap; `pgmtopgm` keeps greys.
+sizes = [(1, 1), (7, 5), (5, 7), (64, 48), (33, 17), (4096, 1), (1, 4096), (300, 200)]
+seed = 12345
+for width, height in sizes:
+    for maxval in (1, 15, 254, 255, 256, 1000, 4094, 4095):
+        picture = []
+        for _ in range(width * height):
+            seed = (seed * 1103515245 + 12345) % 2147483648
+            picture.append(seed // 65536 % (maxval + 1))
+        out = bytearray(40 + 2 * width * height)
+        _, count = pgm.write(picture, width, height, maxval, out)
+        data = bytes(out[:count])
+        name = "our file %d by %d, maxval %d" % (width, height, maxval)
+        words = tool("pgmtopgm -plain", data).split()
+        agree(name, [b"P2"] + [b"%d" % n for n in [width, height, maxval] + picture], words)
+        agree(name + ", written by Netpbm", data, tool("pgmtopgm", data))
+        agreed -= 1
+
+# 3. Files that Netpbm makes: our reader finds the same film.
+for width, height in sizes:
+    for maxval in (1, 100, 255, 256, 4095):
+        data = tool("pgmnoise -randomseed=%d -maxval=%d %d %d" % (width + maxval, maxval, width, height))
+        found = pgm.read(data)
+        target = [0] * (width * height)
+        answer = pgm.greys(data, found[4], found[1], found[2], found[3], target)
+        name = "Netpbm's file %d by %d, maxval %d" % (width, height, maxval)
+        words = tool("pgmtopgm -plain", data).split()
+        agree(name, [b"P2"] + [b"%d" % n for n in list(found[1:4]) + target], words if answer == 0 else [])
+
+print("netpbm: %d files agree" % agreed)
+END

@@ -1,0 +1,173 @@
+"""The worked numbers of document 01, "Numbers to check by hand", one by one.
+
+Run: python3 second/test_worked.py   (prints the number of checks)
+"""
+
+import struct
+import sys
+
+sys.dont_write_bytecode = True
+
+import clahe
+import listing
+import pgm
+
+checks = 0
+
+
+def same(found, wanted):
+    """One check."""
+    global checks
+    checks += 1
+    assert found == wanted, "found %r, wanted %r" % (found, wanted)
+
+
+def f32(value):
+    """The 32 bits of an f32."""
+    return struct.unpack(">I", struct.pack(">f", value))[0]
+
+
+def prepared(width, height, across, down, bins, low, high, clip, grey=0, film=7):
+    """Prepare over a flat film with buffers longer than needed."""
+    b = clahe.bin_count(bins)
+    return clahe.prepare(film, width, height, [grey] * (width * height),
+                         clahe.Settings(across, down, bins, low, high, clip),
+                         [9999] * (across * down * b + 3), [8888] * (b + 3))
+
+
+def limits():
+    """"N 100, B 64: factor 1.5 gives L 2; 1.25 gives L 1 and refusal 14. N 1,
+    B 4, factor 2: L 1." """
+    same(clahe.limit_of(f32(1.5), 100, 64), 2)
+    same(clahe.limit_of(f32(1.25), 100, 64), 1)
+    same(prepared(20, 20, 2, 2, 64, 0, 255, f32(1.5))[1].limit, 2)
+    same(prepared(20, 20, 2, 2, 64, 0, 255, f32(1.25)), 14)
+    same(clahe.limit_of(f32(2.0), 1, 4), 1)
+    same(prepared(2, 2, 2, 2, 4, 0, 255, f32(2.0))[1].limit, 1)
+
+
+def clips():
+    """"B 4, L 6, counts 16,0,0,0: result 6,4,3,3; for range 0..15 the mapping
+    is 5,9,12,15." and the further rows of counts."""
+    same(clahe.clipped([16, 0, 0, 0], 6), [6, 4, 3, 3])
+    same(clahe.mapping_of([6, 4, 3, 3], 0, 15, 16), [5, 9, 12, 15])
+    same(clahe.clipped([9, 5, 1, 1], 6), [6, 6, 2, 2])
+    same(clahe.clipped([11, 5, 0, 0], 6), [6, 6, 3, 1])
+    same(clahe.clipped([19, 6, 0, 0], 7), [7, 7, 6, 5])
+    same(sum(clahe.clipped([19, 6, 0, 0], 7)), 25)
+    same(clahe.clipped([16, 0, 0, 0], 4), [4, 4, 4, 4])
+    # "L 4, B 4, N 17: refusal 14."  N 17 is a tile of 17 by 1; factor 1.0 to
+    # the next f32 gives floor(17 / 4) = 4.
+    same(clahe.limit_of(0x3F800001, 17, 4), 4)
+    same(prepared(34, 2, 2, 2, 4, 0, 15, 0x3F800001), 14)
+    # The same 16,0,0,0 at L 6 through prepare: a flat film with tiles of 4 by
+    # 4, factor 1.5.
+    maps = [77] * 18
+    scratch = [88] * 6
+    answer = clahe.prepare(5, 8, 8, [0] * 64, clahe.Settings(2, 2, 4, 0, 15, f32(1.5)),
+                           maps, scratch)
+    same(answer[1].limit, 6)
+    same(maps, [5, 9, 12, 15] * 4 + [77, 77])
+    same(scratch, [0, 0, 0, 0, 88, 88])
+
+
+def bins():
+    """"Range 0..255: B 128 puts 255 in bin 127; B 100 in bin 85." """
+    same(clahe.bin_of(255, 0, 255, 128), 127)
+    same(clahe.bin_of(255, 0, 255, 100), 85)
+
+
+def blends():
+    """"Tiles 2 by 2, grid 2 by 2, mapped values 10, 20, 30, 41: pixel x 2, y 2
+    gives 25; x 1, y 2 gives 20; x 2, y 0 gives 15." """
+    settings = clahe.Settings(2, 2, 2, 0, 255, None)
+    maps = [10, 10, 20, 20, 30, 30, 41, 41]
+    same(clahe.grey_at(2, 2, 0, 4, 4, settings, maps), 25)
+    same(clahe.grey_at(1, 2, 0, 4, 4, settings, maps), 20)
+    same(clahe.grey_at(2, 0, 0, 4, 4, settings, maps), 15)
+    # The same through draw, one pixel windows.
+    record = clahe.Record(3, 4, 4, settings)
+    for (x, y, wanted) in ((2, 2, 25), (1, 2, 20), (2, 0, 15)):
+        output = [0]
+        same(clahe.draw(3, 4, 4, [0] * 16, settings, record, (x, y, 1, 1), maps, output), 0)
+        same(output, [wanted])
+
+
+def footers():
+    """"L 2, B 64, N 100: factor used is 128 / 100 in f64. Factor 1024.0 and
+    1.0 accepted; the next f32 on the outer side refused with 10." """
+    record, footer = prepared(20, 20, 2, 2, 64, 0, 255, f32(1.5))
+    same(footer.used, struct.unpack(">Q", struct.pack(">d", 1.28))[0])
+    same(footer.asked, 0x3FC00000)
+    same(record, clahe.Record(7, 20, 20, clahe.Settings(2, 2, 64, 0, 255, 0x3FC00000)))
+    same(f32(1024.0), 0x44800000)
+    same(prepared(20, 20, 2, 2, 64, 0, 255, 0x44800000)[1].limit, 1600)
+    same(prepared(20, 20, 2, 2, 64, 0, 255, 0x44800001), 10)
+    same(prepared(20, 20, 2, 2, 64, 0, 255, 0x3F800000)[1],
+         clahe.Footer(0, 0x3F800000, 0x3FF0000000000000))
+    same(prepared(20, 20, 2, 2, 64, 0, 255, 0x3F7FFFFF), 10)
+    same(prepared(20, 20, 2, 2, 64, 0, 255, None)[1], clahe.Footer(0, 0, 0))
+
+
+WORKED_FILM = [0, 0, 0, 4, 0, 0, 8, 12, 15, 15, 0, 0, 15, 15, 15, 15]
+WORKED_FILE = b"P5\n4 4\n15\n" + bytes(WORKED_FILM)
+WORKED_TEXT = (b"4\t4\t2\t2\t4\t0\t15\t2\n"
+               b"0\t0\t2\t7\t11\t15\t15\n"
+               b"0\t1\t0\t3\t7\t11\t15\n"
+               b"1\t0\t2\t3\t3\t7\t15\n"
+               b"1\t1\t0\t7\t7\t7\t15\n")
+
+
+def listings():
+    """The listing example, its rendered pixel ("The rendered pixel x 2, y 2
+    is 5.") and the listing's refusals."""
+    same(listing.listing(WORKED_FILE), WORKED_TEXT)
+    settings = clahe.Settings(2, 2, 4, 0, 15, f32(2.0))
+    picture = list(WORKED_FILM)
+    maps = [0] * 16
+    same(clahe.enhance(4, 4, picture, settings, maps, [1] * 4).limit, 2)
+    same(picture[2 * 4 + 2], 5)
+    record, _ = clahe.prepare(1, 4, 4, WORKED_FILM, settings, maps, [1] * 4)
+    output = [0]
+    same(clahe.draw(1, 4, 4, WORKED_FILM, settings, record, (2, 2, 1, 1), maps, output), 0)
+    same(output, [5])
+    # "a longer input is 22 before all else"
+    same(listing.listing(b"x" * 32769), b"refused\t22\n")
+    same(listing.listing(b"x" * 32768), b"refused\t20\n")
+    # "a larger film is 22 where read's own 22 stands"
+    same(listing.listing(b"P5\n128 65\n0\n"), b"refused\t22\n")
+    same(listing.listing(b"P5\n128 65\n#"), b"refused\t21\n")
+    same(listing.listing(b"P5\n128 64\n0\n"), b"refused\t23\n")
+    same(listing.listing(b"P5\n128 64\n255\n"), b"refused\t24\n")
+    # The largest film, two bytes a sample.
+    same(listing.listing(b"P5\n128 64\n4095\n" + b"\x0f\xff" * 8192)[:29],
+         b"128\t64\t2\t2\t4\t0\t4095\t1024\n0\t0\t")
+    same(listing.listing(b"P5\n4 4\n15\n" + b"\x10" * 16), b"refused\t26\n")
+    same(listing.listing(b"P5\n4 4\n15\n" + b"\x10" * 17), b"refused\t25\n")
+    same(listing.listing(b"P5\n3 3\n15\n" + b"\x00" * 9), b"refused\t5\n")
+    same(listing.listing(b"P5\n4 3\n15\n" + b"\x00" * 12), b"refused\t6\n")
+    same(listing.listing(b""), b"refused\t20\n")
+
+
+def files():
+    """The writer's header and the reading of what it wrote."""
+    out = [1] * 30
+    same(pgm.write(WORKED_FILM, 4, 4, 15, out), ("ok", 26))
+    same(bytes(out[:26]), WORKED_FILE)
+    same(out[26:], [1] * 4)
+    same(pgm.read_sizes(WORKED_FILE), ("ok", 4, 4, 15))
+    same(pgm.read_raster(WORKED_FILE), bytes(WORKED_FILM))
+    target = [5] * 18
+    same(pgm.greys(WORKED_FILE, 10, 4, 4, 15, target), 0)
+    same(target, WORKED_FILM + [5, 5])
+
+
+if __name__ == "__main__":
+    limits()
+    clips()
+    bins()
+    blends()
+    footers()
+    listings()
+    files()
+    print("%d checks hold" % checks)
