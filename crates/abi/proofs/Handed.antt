@@ -1,11 +1,13 @@
 -- What a call beneath gave is handed on: one law for each answer of each call.
 -- Assumes nothing.
-use Prim.Native.Nat.{ℕ, zero, suc, _-_, _≤_}
+use Prim.Native.Nat.{ℕ, zero, suc, _-_, _≤_, _<_}
 use mathlib.Core.List.{List, [], _∷_}
 use mathlib.Core.Path.{_≡_, refl, sym, ap, _∙_}
 use native.Mathlib.Omega.{arith}
+use borrow.Author.Tests.{lt-ltb, le-ltb}
 use lib.Ieee.{Float}
 use lib.ListN.{length, drop, length-drop}
+use Rattle.lists.specs.Lists.{onto}
 use Rattle.limit.specs.declared.Clip.{Clip}
 use Rattle.limit.specs.declared.Clip.the-variants.{Off, Factor}
 use Rattle.settings.specs.declared.MapRecord.{MapRecord}
@@ -30,7 +32,7 @@ use Rattle.pgm.specs.Pgm.{readOf, sizesOf, rasterOf, Greyed, greyedAs, Wrote, w
 use Rattle.pgm.proofs.Tables.{read-within}
 use Rattle.abi.specs.Flat.{clipFrom, clipFactor, recordNumbers}
 use Rattle.abi.specs.Films.{Foot, footed, footAfter, preparedAs, flatPrepared, enhancedAs, flatEnhanced, drawnAs, flatDrawn}
-use Rattle.abi.specs.Files.{answered, flatSizes, flatRaster, flatGreys, writtenAs, flatWritten}
+use Rattle.abi.specs.Files.{answered, flatSizes, flatRaster, flatGreys, writtenAs, flatWritten, flatListing}
 
 -- a number that is not 0 carries the factor
 pub clip-some : (n : ℕ) (f : Float) → (n ≡ 0 → ⊥) → Factor f ≡ clipFrom n f
@@ -117,3 +119,14 @@ written-bytes w old p q = rw (← p, q) refl
 pub written-refused : {a : Written} {out : List ℕ} (w : Wrote) (old : ℕ) {n : ℕ} → wroteAs a out ≡ w → a ≡ Written.Refused n → writtenAs n out old ≡ flatWritten w old
 unfolding flatWritten
 written-refused w old p q = rw (← p, q) refl
+
+-- ---- the listing
+
+pub listing-short : (text out : List ℕ) (count : ℕ) → length out < 512 → writtenAs 27 out count ≡ flatListing text out count
+unfolding flatListing
+listing-short text out count h = rw (lt-ltb (length out) 512 h) refl
+
+pub listing-laid : (text out : List ℕ) (count : ℕ) {n : ℕ} {left : List ℕ} → 512 ≤ length out → left ≡ onto out text → n ≡ length text
+    → writtenAs 0 left n ≡ flatListing text out count
+unfolding flatListing
+listing-laid text out count h p q = rw (p, q, le-ltb (length out) 512 h) refl

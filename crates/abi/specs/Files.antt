@@ -1,8 +1,11 @@
 -- What the tz_ calls on PGM files leave: 0 or the refusal's number, and all lent memory, as the calls beneath them give it.
 -- Assumes nothing.
 use Prim.Native.Nat.{ℕ, _-_}
+use mathlib.Core.Bool.{Bool, true, false}
 use mathlib.Core.List.{List, [], _∷_}
+use lib.Dec.{ltb}
 use lib.ListN.{length}
+use Rattle.lists.specs.Lists.{onto}
 use Rattle.header.specs.declared.Head.{Head}
 use Rattle.header.specs.declared.Head.the-variants as Head
 use Rattle.pgm.specs.declared.Turned.{Turned}
@@ -51,3 +54,13 @@ writtenBy (Written.Refused n) out count = writtenAs n out count
 
 unfoldable pub flatWritten : Wrote → ℕ → FlatWritten
 flatWritten w count = writtenBy (w .answer) (w .out) count
+
+-- ---- the listing
+
+abbrev pub pickWritten : Bool → FlatWritten → FlatWritten → FlatWritten
+pickWritten true a b = a
+pickWritten false a b = b
+
+-- the listing's text at the front of the output, and its length; 27 where the output has no 512 bytes, which are always enough
+unfoldable pub flatListing : List ℕ → List ℕ → ℕ → FlatWritten
+flatListing text out count = pickWritten (ltb (length out) 512) (writtenAs 27 out count) (writtenAs 0 (onto out text) (length text))

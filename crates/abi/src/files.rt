@@ -2,7 +2,8 @@
 ghost use mathlib.Core.Path.{_≡_};
 ghost use lib.ListN.{length};
 ghost use Rattle.pgm.specs.Pgm.{readOf, greysOf, writeOf};
-ghost use Rattle.abi.specs.Files.{answered, flatSizes, flatRaster, flatGreys, writtenAs, flatWritten};
+ghost use Rattle.lister.specs.Lister.{listingOf};
+ghost use Rattle.abi.specs.Files.{answered, flatSizes, flatRaster, flatGreys, writtenAs, flatWritten, flatListing};
 use pgm::Sizes;
 use pgm::Turned;
 use pgm::Written;
@@ -74,4 +75,17 @@ pub extern "C" fn tz_write(
         }
         Written::Refused(n) => n,
     }
+}
+
+// The listing of a PGM file: a refusal is part of its text. 27 where the output has no 512 bytes.
+#[no_mangle]
+pub extern "C" fn tz_listing(bytes: &[u8], out: &mut [u8], count: &mut usize) -> u32
+    ensures { λ r. ⌜ writtenAs r (now (out .exit)) (now (count .exit)) ≡ flatListing (listingOf (now (bytes .entry))) (now (out .entry)) (now (count .entry)) ⌝ }
+{
+    if out.len() < 512 {
+        return 27;
+    }
+    let n = lister::list(bytes, out);
+    *count = n;
+    0
 }

@@ -1,3 +1,9 @@
 pub mod Numbers
+pub mod Accepted
+pub mod Reuse
+pub mod Outcomes
+pub mod Demand1
+pub mod Demand2
+pub mod Demand3
 pub mod Files
 pub mod FileOutcomes

@@ -1,0 +1,5 @@
+pub mod Lines
+pub mod Tiles
+pub mod Films
+pub mod Refusals
+pub mod Calls

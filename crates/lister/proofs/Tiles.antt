@@ -1,0 +1,133 @@
+-- Laws of the listing's tiles: their counts and their excess, the limit, and the mapping of each in the map buffer.
+-- Assumes nothing.
+use Prim.Native.Nat.{ℕ, zero, suc, _+_, _-_, _*_, _/_, _%_, _≤_, _<_, max}
+use mathlib.Core.Bool.{Bool, true}
+use mathlib.Core.List.{List, [], _∷_}
+use mathlib.Core.Path.{_≡_, refl, sym, ap, ap₂, _∙_, subst}
+use lib.ListN.{length, getD}
+use native.Mathlib.Nat.{mul-le-mul, add-zero}
+use native.Mathlib.Omega.{arith}
+use Rattle.lists.specs.Lists.{onto, total, all}
+use Rattle.lists.proofs.Maps.{onto-whole}
+use Rattle.limit.specs.Limit.{limitOf}
+use Rattle.clip.specs.Clip.{excess}
+use Rattle.clip.proofs.Shares.{excess-most}
+use Rattle.tile.specs.declared.Rect.{Rect}
+use Rattle.tile.specs.Tile.{within, greysOf, countsOf, CountAsks, Inside}
+use Rattle.tile.proofs.Counts.{length-counts, total-counts}
+use Rattle.settings.specs.declared.Settings.{Settings}
+use Rattle.settings.specs.Settings.{binsOf, tilePixels, Ready}
+use Rattle.prepare.specs.Prepare.{tileRect, tileMap, mappings, TilesAsk}
+use Rattle.prepare.proofs.Table.{tile-pixels-most}
+use Rattle.prepare.proofs.Films.{tile-inside, tile-greys, length-tile-greys, length-tile-map, length-mappings, getD-mappings}
+use Rattle.lister.specs.Lister.{two, settingsOf, limitFor, excessFor, tileLine, line}
+use Rattle.lister.specs.Asks.{tileFields, ExcessAsks}
+
+-- a product of two 32-bit numbers fits 64 bits
+pub product-fits : (a b : ℕ) → a < 4294967296 → b < 4294967296 → a * b < 18446744073709551616
+product-fits a b l m =
+    let p : a ≤ 4294967295 = omega arith in
+    let q : b ≤ 4294967295 = omega arith in
+    let r : a * b ≤ 18446744065119617025 = mul-le-mul p q in
+    omega arith
+
+-- ---- the excess
+
+-- the rectangle of tile k as it is worked out
+abbrev pub rectOf : ℕ → ℕ → ℕ → Rect
+rectOf w h k = record { left = k % 2 * (w / 2); top = k / 2 * (h / 2); width = w / 2; height = h / 2 }
+
+rect-same : (w h m k : ℕ) → rectOf w h k ≡ tileRect w h (settingsOf m) k
+unfolding tileRect
+rect-same w h m k = refl
+
+module _ {w h m : ℕ} {pic : List ℕ} (asks : TilesAsk w h pic (settingsOf m) 16 4) where
+  ready : Ready w h (length pic) (settingsOf m) 16
+  ready = asks .work .ready
+
+  -- a tile has at most the film's pixels
+  pub tile-few : tilePixels w h (settingsOf m) ≤ w * h
+  tile-few = let p : w / 2 ≤ w = omega arith in let q : h / 2 ≤ h = omega arith in mul-le-mul p q
+
+  module _ {k : ℕ} (l : k < 4) where
+    -- what counting a tile asks
+    pub count-asks : (room : ℕ) → 4 ≤ room → CountAsks pic w (rectOf w h k) 0 m 4 room
+    count-asks room n =
+        rw (rect-same w h m k)
+        record {
+          inside = tile-inside ready l;
+          scale = record { order = omega arith; most = ready .max; some = omega arith; few = omega arith };
+          enough = n;
+          greys = tile-greys asks l;
+        }
+
+    -- a tile's counts add up to its pixels
+    pub counts-total : total (countsOf 0 m 4 (greysOf pic w (tileRect w h (settingsOf m) k))) ≡ tilePixels w h (settingsOf m)
+    counts-total = total-counts 0 m 4 _ (tile-greys asks l) (omega arith) ∙ length-tile-greys w h pic (settingsOf m) k
+
+    -- the counts fill the scratch of four entries
+    pub counts-whole : (d : List ℕ) {cs : List ℕ} → length d ≡ 4 → cs ≡ onto d (countsOf 0 m 4 (greysOf pic w (rectOf w h k)))
+        → cs ≡ countsOf 0 m 4 (greysOf pic w (tileRect w h (settingsOf m) k))
+    counts-whole d {cs} n e =
+        e ∙ (onto-whole d (countsOf 0 m 4 (greysOf pic w (rectOf w h k))) (omega (arith, length-counts 0 m 4 (greysOf pic w (rectOf w h k))))
+        ∙ ap (λ r. countsOf 0 m 4 (greysOf pic w r)) (rect-same w h m k))
+
+    -- and there are few enough of them to add up
+    pub counts-few : {cs : List ℕ} → cs ≡ countsOf 0 m 4 (greysOf pic w (tileRect w h (settingsOf m) k)) → total cs ≤ 4194304
+    counts-few e = rw (e, counts-total) (tile-pixels-most ready)
+
+    -- the excess of a tile is at most its pixels
+    pub excess-few : excessFor w h m pic k ≤ w * h
+    unfolding excessFor
+    excess-few = omega (arith, excess-most (limitFor w h m) (countsOf 0 m 4 (greysOf pic w (tileRect w h (settingsOf m) k))), counts-total, tile-few)
+
+    pub excess-fits : excessFor w h m pic k ≤ 4194304
+    unfolding excessFor
+    excess-fits = omega (arith, excess-most (limitFor w h m) (countsOf 0 m 4 (greysOf pic w (tileRect w h (settingsOf m) k))), counts-total, tile-pixels-most ready)
+
+-- the excess of a tile, from its counts and its limit
+pub excess-is : (w h m : ℕ) (pic : List ℕ) (k : ℕ) {limit r : ℕ} {cs : List ℕ} → limit ≡ limitFor w h m
+    → cs ≡ countsOf 0 m 4 (greysOf pic w (tileRect w h (settingsOf m) k)) → r ≡ excess limit cs → r ≡ excessFor w h m pic k
+unfolding excessFor
+excess-is w h m pic k {limit} {r} {cs} p q e = e ∙ ap₂ excess p q
+
+-- ---- the limit
+
+-- the limit is at most the tile's pixels, or 1
+pub limit-few : (w h m : ℕ) → w * h ≤ 8192 → limitFor w h m < 100000
+unfolding limitOf
+limit-few w h m l =
+    let p : w / 2 ≤ w = omega arith in
+    let q : h / 2 ≤ h = omega arith in
+    let r : (w / 2) * (h / 2) ≤ w * h = mul-le-mul p q in
+    omega arith
+
+-- ---- the mapping
+
+-- a map of four mappings has 16 entries
+pub mapped-length : (w h m : ℕ) (pic : List ℕ) {map : List ℕ} → map ≡ mappings w h pic (settingsOf m) → length map ≡ 16
+unfolding binsOf
+mapped-length w h m pic e = ap length e ∙ length-mappings w h pic (settingsOf m)
+
+-- a list of four entries
+pub four : (xs : List ℕ) → length xs ≡ 4 → xs ≡ getD xs 0 0 ∷ getD xs 1 0 ∷ getD xs 2 0 ∷ getD xs 3 0 ∷ []
+four (a ∷ b ∷ d ∷ e ∷ []) h = refl
+four [] h = absurd (omega (arith, h))
+four (a ∷ []) h = absurd (omega (arith, h))
+four (a ∷ b ∷ []) h = absurd (omega (arith, h))
+four (a ∷ b ∷ d ∷ []) h = absurd (omega (arith, h))
+four (a ∷ b ∷ d ∷ e ∷ f ∷ xs) h = absurd (omega (arith, h))
+
+-- the fields of tile k's line: its mapping is the k-th four entries of the mappings
+pub fields-are : (w h m : ℕ) (pic : List ℕ) (k : ℕ) {e : ℕ} {map : List ℕ} → k < 4 → e ≡ excessFor w h m pic k → map ≡ mappings w h pic (settingsOf m)
+    → line (tileFields k e map) ≡ tileLine w h m pic k
+unfolding tileLine binsOf
+fields-are w h m pic k {e} {map} l p q =
+    rw (p, q, zeroth, entry 1 (omega arith), entry 2 (omega arith), entry 3 (omega arith))
+    (ap (λ t. line (k / 2 ∷ k % 2 ∷ excessFor w h m pic k ∷ t)) (sym (four (tileMap w h pic (settingsOf m) k) (length-tile-map w h pic (settingsOf m) k))))
+  where
+    entry : (b : ℕ) → b < 4 → getD (mappings w h pic (settingsOf m)) (k * 4 + b) 0 ≡ getD (tileMap w h pic (settingsOf m) k) b 0
+    entry b n = getD-mappings w h pic (settingsOf m) k b l n
+
+    zeroth : getD (mappings w h pic (settingsOf m)) (k * 4) 0 ≡ getD (tileMap w h pic (settingsOf m) k) 0 0
+    zeroth = ap (λ i. getD (mappings w h pic (settingsOf m)) i 0) (sym (add-zero (k * 4))) ∙ entry 0 (omega arith)

@@ -1,0 +1,93 @@
+-- Document 01, "Numbers to check by hand": the text that the listing program prints for a PGM file's bytes, refusals included.
+-- Assumes nothing.
+use Prim.Native.Nat.{ℕ, zero, suc, _*_, _/_, _%_, _≤_}
+use mathlib.Core.Bool.{Bool, true, false, not}
+use mathlib.Core.List.{List, [], _∷_, _++_}
+use lib.Dec.{ltb}
+use lib.IntN.{pos}
+use lib.Ieee.{Float, fin}
+use lib.ListN.{length, drop}
+use Rattle.refuse.specs.Refuse.{first}
+use Rattle.limit.specs.declared.Clip.the-variants.{Factor}
+use Rattle.limit.specs.Limit.{limitOf}
+use Rattle.clip.specs.Clip.{excess}
+use Rattle.tile.specs.Tile.{greysOf, countsOf}
+use Rattle.settings.specs.declared.Settings.{Settings}
+use Rattle.settings.specs.Settings.{tilePixels}
+use Rattle.header.specs.declared.Head.{Head}
+use Rattle.header.specs.declared.Head.the-variants.{Found, Refused}
+use Rattle.header.specs.Header.{headerOf, decimalOf}
+use Rattle.samples.specs.Samples.{isWide, unpacked, noneAbove}
+use Rattle.pgm.specs.Pgm.{readOf}
+use Rattle.prepare.specs.Prepare.{tileRect, tileMap, prepareRows}
+
+-- "uses grid 2 by 2, 4 bins, range 0 to maxval, factor 2"
+abbrev pub two : Float
+two = fin false 1 (pos 1)
+
+abbrev pub settingsOf : ℕ → Settings
+settingsOf maxval = record { across = 2; down = 2; bins = 4; min = 0; max = maxval; clip = Factor two }
+
+-- the limit of a film's tiles
+abbrev pub limitFor : ℕ → ℕ → ℕ → ℕ
+limitFor w h maxval = limitOf two (tilePixels w h (settingsOf maxval)) 4
+
+-- "Fields are parted by tabs", "Every line ends in LF"
+unfoldable pub line : List ℕ → List ℕ
+line [] = 10 ∷ []
+line (n ∷ []) = decimalOf 5 n ++ (10 ∷ [])
+line (n ∷ k ∷ rest) = decimalOf 5 n ++ ((9 ∷ []) ++ line (k ∷ rest))
+
+-- "First line: width, height, grid across, grid down, bins, Min, Max, L."
+unfoldable pub firstLine : ℕ → ℕ → ℕ → List ℕ
+firstLine w h maxval = line (w ∷ h ∷ 2 ∷ 2 ∷ 4 ∷ 0 ∷ maxval ∷ limitFor w h maxval ∷ [])
+
+-- the excess E of tile k
+unfoldable pub excessFor : ℕ → ℕ → ℕ → List ℕ → ℕ → ℕ
+excessFor w h maxval pic k =
+    excess (limitFor w h maxval) (countsOf 0 maxval 4 (greysOf pic w (tileRect w h (settingsOf maxval) k)))
+
+-- "Then a line per tile: row, column, E, the mapping."
+unfoldable pub tileLine : ℕ → ℕ → ℕ → List ℕ → ℕ → List ℕ
+tileLine w h maxval pic k = line (k / 2 ∷ k % 2 ∷ excessFor w h maxval pic k ∷ tileMap w h pic (settingsOf maxval) k)
+
+unfoldable pub filmText : ℕ → ℕ → ℕ → List ℕ → List ℕ
+filmText w h maxval pic =
+    firstLine w h maxval
+    ++ (tileLine w h maxval pic 0 ++ (tileLine w h maxval pic 1 ++ (tileLine w h maxval pic 2 ++ tileLine w h maxval pic 3)))
+
+-- "A refusal prints `refused`, tab, number"
+unfoldable pub refusedText : ℕ → List ℕ
+refusedText n = (114 ∷ 101 ∷ 102 ∷ 117 ∷ 115 ∷ 101 ∷ 100 ∷ 9 ∷ []) ++ line (n ∷ [])
+
+-- what is printed, by a refusal's number
+abbrev pub unless : ℕ → List ℕ → List ℕ
+unless zero text = text
+unless (suc n) text = refusedText (suc n)
+
+abbrev pub pick : Bool → List ℕ → List ℕ → List ℕ
+pick true a b = a
+pick false a b = b
+
+-- "at most 8,192 pixels": "a larger film is 22 where read's own 22 stands"
+abbrev pub isLarger : Head → Bool
+isLarger (Found w h m at) = ltb 8192 (w * h)
+isLarger (Refused n) = false
+
+-- of a film that was read: 26, then prepare's refusals, then the listing
+abbrev pub pictureText : ℕ → ℕ → ℕ → List ℕ → List ℕ
+pictureText w h maxval pic =
+    pick (noneAbove maxval pic)
+    (unless (first (prepareRows w h pic (settingsOf maxval) 16 4)) (filmText w h maxval pic))
+    (refusedText 26)
+
+abbrev pub readText : Head → List ℕ → List ℕ
+readText (Found w h m at) s = pictureText w h m (unpacked (isWide m) (drop at s) (w * h))
+readText (Refused n) s = refusedText n
+
+-- "a longer input is 22 before all else"
+unfoldable pub listingOf : List ℕ → List ℕ
+listingOf s =
+    pick (ltb 32768 (length s)) (refusedText 22)
+    (pick (isLarger (headerOf s)) (refusedText 22)
+    (readText (readOf s) s))

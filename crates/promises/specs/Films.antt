@@ -1,0 +1,106 @@
+-- What the promises speak of: the numbers of answers, the grey of a pixel by document 01's rule, what holds of each tile of an accepted film
+-- with clipping on, and fillings of the bins.
+-- w and h are the film's width and height, pic its pixels.
+-- Assumes nothing.
+use Prim.Native.Nat.{ℕ, _+_, _-_, _*_, _/_, _≤_, _<_}
+use mathlib.Core.Bool.{not}
+use mathlib.Core.List.{List, [], _∷_, _++_}
+use mathlib.Core.Logic.{_⊎_}
+use mathlib.Core.Path.{_≡_}
+use lib.Dec.{ltb}
+use lib.ListN.{length, getD}
+use Rattle.lists.specs.Lists.{total, all}
+use Rattle.refuse.specs.Refuse.{Row, row}
+use Rattle.clip.specs.Clip.{share}
+use Rattle.tile.specs.Tile.{within, binOf, greysOf, countsOf, mappedOf, tileCounts}
+use Rattle.settings.specs.declared.Settings.{Settings}
+use Rattle.settings.specs.Settings.{binsOf, tileWidth, tileHeight, tilePixels, sharedRows}
+use Rattle.blend.specs.declared.Place.{Place}
+use Rattle.blend.specs.Blend.{placeOf, greyOf}
+use Rattle.prepare.specs.declared.Prepared.{Prepared}
+use Rattle.prepare.specs.declared.Prepared.the-variants as Prepared
+use Rattle.prepare.specs.declared.Enhanced.{Enhanced}
+use Rattle.prepare.specs.declared.Enhanced.the-variants as Enhanced
+use Rattle.prepare.specs.Prepare.{tileRect}
+use Rattle.draw.specs.declared.Drawn.{Drawn}
+use Rattle.draw.specs.declared.Drawn.the-variants as Drawn
+
+-- ---- the answers
+
+-- the number of prepare's answer: 0 where it is done, else the refusal's
+unfoldable pub preparedNumber : Prepared → ℕ
+preparedNumber (Prepared.Done r foot) = 0
+preparedNumber (Prepared.Refused n) = n
+
+-- the number of enhance's answer
+unfoldable pub enhancedNumber : Enhanced → ℕ
+enhancedNumber (Enhanced.Done foot) = 0
+enhancedNumber (Enhanced.Refused n) = n
+
+-- the number of draw's answer
+unfoldable pub drawnNumber : Drawn → ℕ
+drawnNumber Drawn.Done = 0
+drawnNumber (Drawn.Refused n) = n
+
+-- ---- a tile
+
+-- each bin's "own count": how many of tile k's pixels are in it
+abbrev pub rawCounts : ℕ → ℕ → List ℕ → Settings → ℕ → List ℕ
+rawCounts w h pic s k = countsOf (s .min) (s .max) (binsOf s) (greysOf pic w (tileRect w h s k))
+
+-- "the clipped counts" of tile k, the raw ones where the clip is off
+abbrev pub clippedCounts : ℕ → ℕ → List ℕ → Settings → ℕ → List ℕ
+clippedCounts w h pic s k = tileCounts (s .min) (s .max) (binsOf s) (s .clip) (greysOf pic w (tileRect w h s k))
+
+-- the mapped value of a grey v by the tile in tile row j and tile column i: of that tile's own clipped counts, at the grey's bin
+unfoldable pub tileValue : ℕ → ℕ → List ℕ → Settings → ℕ → ℕ → ℕ → ℕ
+tileValue w h pic s v j i =
+    mappedOf (s .min) (s .max) (tilePixels w h s) (clippedCounts w h pic s (j * s .across + i)) (binOf (s .min) (s .max) (binsOf s) v)
+
+-- the grey of the pixel in column x and row y by "the integer rule of document 01 .. for that film's own pixels and settings"
+unfoldable pub ruleGrey : ℕ → ℕ → List ℕ → Settings → ℕ → ℕ → ℕ
+ruleGrey w h pic s x y =
+    let column = placeOf (tileWidth w s) (s .across) x in
+    let row = placeOf (tileHeight h s) (s .down) y in
+    let value = tileValue w h pic s (getD pic (y * w + x) 0) in
+    greyOf column row (value (row .lower) (column .lower)) (value (row .lower) (column .upper)) (value (row .upper) (column .lower)) (value (row .upper) (column .upper))
+
+-- ---- demand 3
+
+-- "the limit times the grey range over the tile's pixels, rounded up"
+abbrev pub steepest : ℕ → ℕ → ℕ → ℕ → ℕ
+steepest lo hi n l = (l * (hi - lo) + n - 1) / n
+
+-- a tile of n pixels and b bins with the limit l: its raw counts, its clipped counts, and the map entry of each bin
+pub record TileSound (lo hi n b l : ℕ) (raw clipped : List ℕ) (entry : ℕ → ℕ) : Type 0 where
+  -- a count for each bin
+  pub bins : length clipped ≡ b
+  -- "the clipped counts add up to the tile's pixels"
+  pub adds : total clipped ≡ n
+  -- "no bin stands above the limit"
+  pub under : (i : ℕ) → i < b → getD clipped i 0 ≤ l
+  -- "each bin has at least its own count plus the even share of the excess, rounded down, or stands at the limit"
+  pub least : (i : ℕ) → i < b → (getD raw i 0 + share l raw ≤ getD clipped i 0) ⊎ (getD clipped i 0 ≡ l)
+  -- the tile's mapping is the one of these same clipped counts
+  pub mapped : (i : ℕ) → i < b → entry i ≡ mappedOf lo hi n clipped i
+  -- "from one bin to the next a tile's mapping never falls"
+  pub grows : (i : ℕ) → i + 1 < b → entry i ≤ entry (i + 1)
+  -- "and rises by at most the limit times the grey range over the tile's pixels, rounded up"
+  pub slow : (i : ℕ) → i + 1 < b → entry (i + 1) ≤ entry i + steepest lo hi n l
+  -- and from Min to the first bin by at most as much
+  pub begins : entry 0 ≤ lo + steepest lo hi n l
+
+-- the rows 1 to 13, which stand before the clip refusal in "01's order"
+unfoldable pub earlierRows : ℕ → ℕ → List ℕ → Settings → ℕ → ℕ → List Row
+earlierRows w h pic s room scratch =
+    sharedRows w h (length pic) s room
+    ++ (row 12 (ltb scratch (binsOf s))
+    ∷ row 13 (not (all (within (s .min) (s .max)) pic))
+    ∷ [])
+
+-- a "filling of the bins, none above the limit," that holds the tile's pixels: b counts, none above l, that add up to n
+pub record Filling (l b n : ℕ) : Type 0 where
+  pub counts : List ℕ
+  pub bins : length counts ≡ b
+  pub under : (i : ℕ) → i < b → getD counts i 0 ≤ l
+  pub holds : total counts ≡ n

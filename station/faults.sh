@@ -1,0 +1,268 @@
+#!/bin/sh
+# station/faults.sh: tries what can go wrong around the command line program, and prints what it saw.
+#
+# In every trial OUT holds a text beforehand. A trial is as expected where the exit status is the one named, OUT is as it
+# was (or, after status 0, a whole film), and no file is left beside it. The last line counts the trials. What cannot be
+# tried on this machine or as this user is named and not counted.
+set -u
+top=$(cd "$(dirname "$0")/.." && pwd -P)
+"$top/station/build" || exit 2
+
+room=$(mktemp -d) || exit 2
+disk=''
+tidy() {
+    [ -z "$disk" ] || umount "$disk"
+    rm -rf "$room"
+}
+trap tidy EXIT
+trap 'exit 1' HUP INT TERM
+mkdir "$room/bin" "$room/out"
+cp "$top/target/station/tzofnadir" "$top/target/station/tzofnadir.x86-64" "$room/bin/"
+chmod -R a+rX "$room"
+cd "$room" || exit 2
+tz=$room/bin/tzofnadir out=$room/out/film.pgm
+tried=0 good=0
+
+# ---- films
+if [ -f "$top/docs/weld.pgm" ]; then cp "$top/docs/weld.pgm" film.pgm; else python3 "$top/station/weld.py" film.pgm; fi
+{ printf 'P5\n4096 4096\n4095\n'; head -c 33554432 /dev/zero; } >big.pgm
+printf 'this was here before\n' >before
+raster() { tail -c 393216 film.pgm; }
+
+# ---- the judge
+report() { # OK WHAT SAW
+    tried=$((tried + 1))
+    if [ "$1" = yes ]; then
+        good=$((good + 1))
+        printf 'as expected      %-58s %s\n' "$2" "$3"
+    else
+        printf 'NOT AS EXPECTED  %-58s %s\n' "$2" "$3"
+    fi
+}
+skip() { printf 'not tried        %s\n' "$*"; }
+no_leftover() { # FOLDER
+    for f in "$1"/.tzofnadir-*; do [ ! -e "$f" ] || return 1; done
+}
+whole() { # FILE: 512 by 384 at two bytes
+    [ "$(head -c 2 "$1")" = P5 ] && [ "$(wc -c <"$1")" -eq 393232 ]
+}
+judge() { # WHAT WANTED SAW
+    ok=yes
+    [ "$3" -eq "$2" ] || ok=no
+    if [ "$3" -ne 0 ] && ! cmp -s before "$out"; then ok=no; fi
+    no_leftover out || ok=no
+    report "$ok" "$1" "status $3: $(head -n 1 said | cut -c 1-90)"
+}
+try() { # WHAT WANTED WORDS..
+    what=$1 wanted=$2
+    shift 2
+    cp before "$out"
+    timeout 120 "$tz" "$@" >wrote 2>said
+    judge "$what" "$wanted" $?
+}
+
+# ---- words
+try 'no command' 64
+try 'no such command' 64 enlarge film.pgm "$out"
+try 'no OUT' 64 enhance film.pgm
+try 'one word too many' 64 enhance film.pgm "$out" more
+try 'an unknown option' 64 enhance film.pgm "$out" --colour red
+try 'an option of another command' 64 enhance film.pgm "$out" --at 0,0
+try 'an option without its value' 64 enhance film.pgm "$out" --grid
+try 'an option twice' 64 enhance film.pgm "$out" --bins 64 --bins 64
+try 'half a grid' 64 enhance film.pgm "$out" --grid 8x
+try 'a signed number' 64 enhance film.pgm "$out" --grid +8x8
+try 'a number above 32 bits' 64 enhance film.pgm "$out" --grid 8x4294967296
+try 'a number of 40 digits' 64 enhance film.pgm "$out" --bins 1111111111222222222233333333334444444444
+try 'an empty factor' 64 enhance film.pgm "$out" --clip ''
+try 'a factor with a tail' 64 enhance film.pgm "$out" --clip 3.0x
+try 'a window without a size' 64 window film.pgm "$out" --at 0,0
+
+# ---- settings that the library refuses
+try '--grid 0x0' 3 enhance film.pgm "$out" --grid 0x0
+try '--grid 8x17' 4 enhance film.pgm "$out" --grid 8x17
+try 'the largest numbers of 32 bits' 3 enhance film.pgm "$out" --grid 4294967295x4294967295 --bins 4294967295
+try 'a grid that does not divide the width' 5 enhance film.pgm "$out" --grid 7x8
+try 'a grid that does not divide the height' 6 enhance film.pgm "$out" --grid 8x7
+try '--range 0:4096' 7 enhance film.pgm "$out" --range 0:4096
+try '--range 9:9' 8 enhance film.pgm "$out" --range 9:9
+try '--bins 1' 9 enhance film.pgm "$out" --bins 1
+try '--bins 4294967295' 9 enhance film.pgm "$out" --bins 4294967295
+try '--clip nan' 10 enhance film.pgm "$out" --clip nan
+try '--clip inf' 10 enhance film.pgm "$out" --clip inf
+try '--clip 1e99' 10 enhance film.pgm "$out" --clip 1e99
+try '--clip -1' 10 enhance film.pgm "$out" --clip -1
+try 'a pixel above the range' 13 enhance film.pgm "$out" --range 0:1000
+try 'bins that cannot hold a tile' 14 enhance film.pgm "$out" --bins 125 --clip 1.01
+try 'an empty window' 16 window film.pgm "$out" --at 0,0 --size 0x0
+try 'a window across the edge' 16 window film.pgm "$out" --at 511,0 --size 2x2
+try 'a window of 2^64 pixels' 16 window film.pgm "$out" --at 4294967295,4294967295 --size 4294967295x4294967295
+
+# ---- files
+: >empty.pgm
+try 'an empty file' 20 enhance empty.pgm "$out"
+printf 'hello\n' >text.pgm
+try 'a text file' 20 enhance text.pgm "$out"
+printf 'P5\n512 38' >cut.pgm
+try 'a file cut in its header' 20 enhance cut.pgm "$out"
+{ printf 'P5\n# scan\n512 384\n4095\n'; raster; } >comment.pgm
+try 'a comment in the header' 21 enhance comment.pgm "$out"
+{ printf 'P5\n99999 99999\n4095\n'; raster; } >huge.pgm
+try 'a film of 99999 by 99999' 22 enhance huge.pgm "$out"
+{ printf 'P5\n512 384\n65535\n'; raster; } >deep.pgm
+try 'a maxval of 65535' 23 enhance deep.pgm "$out"
+head -c 393231 film.pgm >short.pgm
+try 'a file cut by one byte' 24 enhance short.pgm "$out"
+{ cat film.pgm; printf x; } >long.pgm
+try 'a file with one byte more' 25 enhance long.pgm "$out"
+{ printf 'P5\n512 384\n1000\n'; raster; } >above.pgm
+try 'a sample above maxval' 26 enhance above.pgm "$out"
+try 'an input without end' 20 enhance /dev/zero "$out"
+cp before "$out"
+{ printf 'P5\n4096 4096\n4095\n'; cat /dev/zero; } 2>/dev/null | timeout 120 "$tz" enhance - "$out" >wrote 2>said
+judge 'a raster without end, through a pipe' 25 $?
+try 'no such file' 66 enhance nowhere.pgm "$out"
+try 'an input that is a folder' 66 enhance out "$out"
+try 'a listing of a film too large for it' 22 listing film.pgm
+
+# ---- standard input and output
+cp before "$out"
+"$tz" enhance - "$out" <&- >wrote 2>said
+judge 'standard input closed' 74 $?
+"$tz" enhance film.pgm - >&- 2>said
+judge 'standard output closed' 74 $?
+"$tz" listing film.pgm >&- 2>said
+judge 'standard output closed, a refusal to tell' 22 $?
+"$tz" enhance film.pgm - >/dev/full 2>said
+judge 'standard output on a full device' 74 $?
+{ "$tz" enhance film.pgm - 2>said; echo $? >status; } | head -c 9 >/dev/null
+judge 'standard output a pipe that nobody reads' 74 "$(cat status)"
+: >said
+"$tz" enhance film.pgm "$out" 2>&-
+saw=$?
+if [ "$saw" -eq 0 ] && whole "$out"; then ok=yes; else ok=no; fi
+report "$ok" 'standard error closed: the film is whole' "status $saw"
+cp before "$out"
+"$tz" enhance film.pgm "$out" <&- >&- 2>&-
+saw=$?
+if [ "$saw" -eq 0 ] && whole "$out"; then ok=yes; else ok=no; fi
+report "$ok" 'all three closed: the film is whole' "status $saw"
+
+# ---- the output
+try 'an output that is a folder' 73 enhance film.pgm out
+try 'an output in no folder' 73 enhance film.pgm nowhere/film.pgm
+try 'an output with an empty name' 73 enhance film.pgm ''
+ln -s nowhere.pgm dangling.pgm
+try 'an output that is a link to nothing' 73 enhance film.pgm dangling.pgm
+try 'an output on a full device' 74 enhance film.pgm /dev/full
+cp before "$out"
+(ulimit -f 64; exec "$tz" enhance film.pgm "$out") >wrote 2>said
+judge 'a file that may not grow beyond 32 or 64 KiB' 74 $?
+cp film.pgm out/same.pgm
+"$tz" enhance out/same.pgm out/same.pgm 2>said
+saw=$?
+if [ "$saw" -eq 0 ] && whole out/same.pgm && ! cmp -s film.pgm out/same.pgm && no_leftover out; then ok=yes; else ok=no; fi
+report "$ok" 'input and output the same file: rendered' "status $saw"
+ln -sf film.pgm out/link.pgm
+cp before "$out"
+chmod 640 "$out"
+"$tz" enhance film.pgm out/link.pgm 2>said
+saw=$?
+# shellcheck disable=SC2012
+mode=$(ls -l "$out" | cut -c 1-10)
+if [ "$saw" -eq 0 ] && whole "$out" && [ -L out/link.pgm ] && [ "$mode" = -rw-r----- ]; then ok=yes; else ok=no; fi
+report "$ok" 'an output that is a link: the file behind it, its mode kept' "status $saw, mode $mode"
+rm -f out/same.pgm out/link.pgm "$out"
+
+# ---- as a user who may not
+drop=''
+[ "$(id -u)" -ne 0 ] || drop='setpriv --reuid=65534 --regid=65534 --clear-groups --no-new-privs'
+chmod 755 "$room" "$room/out"
+if $drop "$tz" --help >wrote 2>said; then
+    cp film.pgm locked.pgm
+    chmod 0 locked.pgm
+    cp before "$out"
+    $drop "$tz" enhance locked.pgm "$out" >wrote 2>said
+    judge 'an unreadable file' 66 $?
+    if [ -n "$drop" ]; then
+        $drop "$tz" enhance film.pgm "$room/out/new.pgm" >wrote 2>said
+        judge 'a folder that may not be written to' 73 $?
+    fi
+    mkdir -m 777 open
+    cp before open/film.pgm
+    chmod 444 open/film.pgm
+    $drop "$tz" enhance film.pgm open/film.pgm >wrote 2>said
+    saw=$?
+    if [ "$saw" -eq 73 ] && cmp -s before open/film.pgm && no_leftover open; then ok=yes; else ok=no; fi
+    report "$ok" 'a write-protected output' "status $saw: $(head -n 1 said)"
+else
+    skip 'an unreadable file, a write-protected output: nobody cannot run the program here'
+fi
+
+# ---- a full disk
+mkdir disk
+if [ "$(id -u)" -eq 0 ] && mount -t tmpfs -o size=256k tmpfs "$room/disk" 2>/dev/null; then
+    disk=$room/disk
+    cp before disk/film.pgm
+    "$tz" enhance film.pgm disk/film.pgm >wrote 2>said
+    saw=$?
+    if [ "$saw" -eq 74 ] && cmp -s before disk/film.pgm && no_leftover disk; then ok=yes; else ok=no; fi
+    report "$ok" 'a full disk (256 KiB, the film has 384)' "status $saw: $(head -n 1 said)"
+    umount "$disk" && disk=''
+else
+    skip 'a full disk: no file system can be mounted here'
+fi
+
+# ---- no memory: in steps of 8 MiB, from so little that nothing starts, until the film is rendered. Where the loader or
+# the emulator finds no room for itself, the program has not begun: such runs are told apart by what is said.
+kib=8192 steps=0 before_us=0 odd='' saw=71
+cp before "$out"
+# shellcheck disable=SC3045
+while [ "$kib" -lt 1000000 ] && [ "$saw" -ne 0 ]; do
+    (ulimit -v "$kib" && exec timeout 120 "$tz" enhance big.pgm "$out") >wrote 2>said
+    saw=$?
+    if [ "$saw" -eq 71 ] && cmp -s before "$out" && no_leftover out; then
+        steps=$((steps + 1))
+    elif [ "$saw" -ne 0 ] && ! grep -q '^tzofnadir: ' said && cmp -s before "$out" && no_leftover out; then
+        before_us=$((before_us + 1))
+    elif [ "$saw" -ne 0 ]; then
+        odd=", status $saw at $kib KiB"
+    fi
+    kib=$((kib + 8192))
+done 2>/dev/null
+if [ "$steps" -gt 0 ] && [ "$saw" -eq 0 ] && [ -z "$odd" ]; then ok=yes; else ok=no; fi
+# shellcheck disable=SC3045
+if (ulimit -v 1000000) 2>/dev/null; then
+    report "$ok" 'no memory: status 71 until there is enough' "$steps times 71, $before_us times nothing started$odd"
+else
+    skip 'no memory: this shell sets no limit'
+fi
+
+# ---- kills while the new file is being written
+"$tz" enhance big.pgm whole.pgm 2>said
+kill_in_the_middle() { # SIGNAL
+    cp before "$out"
+    "$tz" enhance big.pgm "$out" >wrote 2>said &
+    child=$!
+    while no_leftover out && kill -0 "$child" 2>/dev/null; do :; done
+    kill -s "$1" "$child" 2>/dev/null
+    wait "$child" 2>/dev/null
+    if cmp -s before "$out"; then middle=$((middle + 1)); elif ! cmp -s whole.pgm "$out"; then halves=$((halves + 1)); fi
+    no_leftover out || left=$((left + 1))
+    rm -f out/.tzofnadir-*
+}
+for signal in TERM HUP KILL; do
+    middle=0 halves=0 left=0 round=0
+    while [ "$round" -lt 5 ]; do
+        kill_in_the_middle "$signal"
+        round=$((round + 1))
+    done
+    ok=yes
+    [ "$halves" -eq 0 ] || ok=no
+    # nothing can tidy up behind KILL; the part then lies beside OUT under its own name
+    [ "$signal" = KILL ] || [ "$left" -eq 0 ] || ok=no
+    report "$ok" "killed by $signal, 5 times: OUT is the old text or the whole film" "$middle before the rename, $halves half, $left parts left"
+done
+
+echo "faults: $tried tried, $good as expected"
+[ "$tried" -eq "$good" ]

@@ -1,0 +1,10 @@
+#ifndef TZ_ERRNO_H
+#define TZ_ERRNO_H
+int *__errno_location(void) __attribute__((const));
+#define errno (*__errno_location())
+#define ENOENT 2
+#define EINTR 4
+#define EBADF 9
+#define EEXIST 17
+#define EISDIR 21
+#endif

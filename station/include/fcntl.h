@@ -1,0 +1,14 @@
+#ifndef TZ_FCNTL_H
+#define TZ_FCNTL_H
+#ifndef __x86_64__
+#error "these numbers are those of x86-64 Linux"
+#endif
+#define O_RDONLY 0
+#define O_WRONLY 1
+#define O_CREAT 0100
+#define O_EXCL 0200
+#define O_CLOEXEC 02000000
+#define F_GETFD 1
+int open(const char *path, int how, ...);
+int fcntl(int file, int what, ...);
+#endif

@@ -1,0 +1,18 @@
+#ifndef TZ_STDIO_H
+#define TZ_STDIO_H
+#include <stddef.h>
+typedef struct _IO_FILE FILE;
+extern FILE *stdout;
+extern FILE *stderr;
+int printf(const char *form, ...) __attribute__((format(printf, 1, 2)));
+int fprintf(FILE *stream, const char *form, ...) __attribute__((format(printf, 2, 3)));
+int snprintf(char *out, size_t room, const char *form, ...) __attribute__((format(printf, 3, 4)));
+int sscanf(const char *text, const char *form, ...) __attribute__((format(scanf, 2, 3)));
+int fputs(const char *text, FILE *stream);
+int fflush(FILE *stream);
+FILE *fopen(const char *path, const char *mode);
+char *fgets(char *line, int room, FILE *stream);
+size_t fwrite(const void *from, size_t size, size_t count, FILE *stream);
+int rename(const char *from, const char *to);
+int fclose(FILE *stream);
+#endif

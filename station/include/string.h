@@ -1,0 +1,11 @@
+#ifndef TZ_STRING_H
+#define TZ_STRING_H
+#include <stddef.h>
+void *memcpy(void *restrict to, const void *restrict from, size_t count);
+void *memset(void *to, int byte, size_t count);
+int memcmp(const void *a, const void *b, size_t count);
+size_t strlen(const char *text);
+int strcmp(const char *a, const char *b);
+char *strrchr(const char *text, int byte);
+char *strerror(int number);
+#endif

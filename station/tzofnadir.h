@@ -1,0 +1,375 @@
+/*
+ * tzofnadir.h: contrast-limited local histogram equalization for weld radiographs, for C.
+ *
+ * The functions named tz_.. are in the archive that `rt staticlib abi` writes (target/staticlib/libabi.a).
+ * They are proved: each call ends with the answer that the rules give, for any numbers and any contents of the
+ * buffers. The functions named tzofnadir_.. stand in front of them and take structs. They do nothing else.
+ *
+ * Every call returns 0 when it is done, else the number of the first refusal that applies, in the order that
+ * stands beside the call. After a refusal all lent memory, the places for answers included, holds what it held.
+ *
+ * What C has to see to, since no proof reaches it:
+ *   - no pointer is null, also where the length beside it is 0;
+ *   - a length is in elements, and that many are there;
+ *   - a buffer that a call writes overlaps no other buffer of the same call.
+ *
+ * A picture is `width` times `height` greys, row by row from the top, each 0 to 4095 in 16 bits.
+ */
+#ifndef TZOFNADIR_H
+#define TZOFNADIR_H
+
+#include <stddef.h>
+#include <stdint.h>
+
+#ifdef __cplusplus
+extern "C" {
+#endif
+
+/* ---- limits ---- */
+
+#define TZ_MOST_SIDE 4096u    /* a film's width or height */
+#define TZ_MOST_GREY 4095u    /* a grey, and so Max and a file's maxval */
+#define TZ_LEAST_GRID 2u      /* tiles across, tiles down */
+#define TZ_MOST_GRID 16u
+#define TZ_MOST_BINS 4096u
+#define TZ_USUAL_BINS 128u    /* what bins 0 means */
+#define TZ_WRITE_HEADER 18u   /* the longest header that tz_write lays down: "P5\n4096 4096\n4095\n" */
+#define TZ_LISTING_BYTES 512u /* what tz_listing wants lent */
+
+/* ---- refusals ---- */
+
+enum tz_refusal {
+    TZ_DONE = 0,
+    TZ_SIZE = 1,             /* width or height is 0 or above 4096 */
+    TZ_PICTURE_LENGTH = 2,   /* picture length is not width x height */
+    TZ_GRID_ACROSS = 3,      /* grid across is not 2 to 16 */
+    TZ_GRID_DOWN = 4,        /* grid down is not 2 to 16 */
+    TZ_WIDTH_MULTIPLE = 5,   /* width is no multiple of grid across */
+    TZ_HEIGHT_MULTIPLE = 6,  /* height is no multiple of grid down */
+    TZ_RANGE_MAX = 7,        /* Max above 4095 */
+    TZ_RANGE_MIN = 8,        /* Min not below Max */
+    TZ_BINS = 9,             /* bins 1 or above 4096 */
+    TZ_FACTOR = 10,          /* factor NaN, infinite, below 1.0 or above 1024.0 */
+    TZ_MAP_SHORT = 11,       /* map buffer shorter than (grid across) x (grid down) x B */
+    TZ_SCRATCH_SHORT = 12,   /* scratch shorter than B */
+    TZ_PIXEL_OUTSIDE = 13,   /* a pixel outside Min to Max */
+    TZ_CLIP = 14,            /* factor above 1.0 and L x B < N */
+    TZ_RECORD = 15,          /* record differs in film number, size or any setting */
+    TZ_WINDOW = 16,          /* window empty or not inside the film */
+    TZ_OUTPUT_LENGTH = 17,   /* output length is not the window's area */
+    TZ_MAP_OUTSIDE = 18,     /* a map entry outside Min to Max */
+    TZ_HEADER = 20,          /* not the header of a raw PGM */
+    TZ_COMMENT = 21,         /* # in the header */
+    TZ_FILE_SIZE = 22,       /* size as in 1, of a file */
+    TZ_MAXVAL = 23,          /* maxval 0 or above 4095 */
+    TZ_RASTER_SHORT = 24,    /* raster too short */
+    TZ_RASTER_LONG = 25,     /* bytes behind the raster */
+    TZ_SAMPLE = 26,          /* a sample above maxval */
+    TZ_TARGET_SHORT = 27     /* the caller's target too short */
+};
+
+/* One plain sentence for a refusal's number, to show to a person. */
+static inline const char *tz_refusal_text(uint32_t refusal)
+{
+    static const char *const text[] = {
+        "Done.",
+        "The film's width or height is 0 or above 4096.",
+        "The picture's length is not its width times its height.",
+        "The grid across is not 2 to 16.",
+        "The grid down is not 2 to 16.",
+        "The film's width is no multiple of the grid across.",
+        "The film's height is no multiple of the grid down.",
+        "The top of the grey range is above 4095.",
+        "The bottom of the grey range is not below its top.",
+        "The number of bins is 1 or above 4096.",
+        "The clip factor is not a number from 1.0 to 1024.0.",
+        "The map buffer is shorter than the grid across times the grid down times the bins.",
+        "The scratch buffer is shorter than the bins.",
+        "A pixel of the film lies outside the grey range.",
+        "The clip factor is so low that the bins cannot hold a tile's pixels.",
+        "The mappings are those of another film, another size or other settings.",
+        "The window is empty or does not lie inside the film.",
+        "The output's length is not the window's area.",
+        "An entry of the mappings lies outside the grey range.",
+        "There is no refusal of this number.",
+        "The file does not begin with the header of a raw PGM.",
+        "The file's header holds a comment, and none is taken.",
+        "The size that the file gives is 0 or above what is taken.",
+        "The file's maxval is 0 or above 4095.",
+        "The file ends before its last pixel.",
+        "The file has bytes behind its last pixel.",
+        "A sample is above the file's maxval.",
+        "The buffer for the result is too short.",
+    };
+    return refusal < sizeof text / sizeof text[0] ? text[refusal] : text[19];
+}
+
+/* ---- records ---- */
+
+/* What the interpreter chooses. clip 0: off, and factor does not count; any other: the factor counts. */
+typedef struct tz_settings {
+    uint32_t across, down; /* tiles across and down, 2 to 16 each; both sides of the film are multiples */
+    uint32_t bins;         /* 2 to 4096; 0 means 128 */
+    uint32_t min, max;     /* the grey range: all pixels lie in it, and so does the rendering */
+    uint32_t clip;
+    float factor;          /* 1.0 to 1024.0; exactly 1.0 returns the film unchanged */
+} tz_settings;
+
+/* What tz_prepare says its mappings belong to. bins is never 0 in it; clip is 0 or 1; factor 0.0 where clip is 0. */
+typedef struct tz_record {
+    uint32_t film, width, height;
+    tz_settings settings;
+} tz_record;
+
+/* What clipping did. Clip off: 0, 0.0, 0.0. Factor 1.0: 0, 1.0, 1.0. */
+typedef struct tz_footer {
+    uint32_t limit; /* L: no bin of a tile holds more */
+    float asked;    /* the factor asked */
+    double used;    /* the factor used: L x B / N, divided once */
+} tz_footer;
+
+typedef struct tz_window {
+    uint32_t left, top, width, height;
+} tz_window;
+
+/* A PGM file's three numbers. */
+typedef struct tz_sizes {
+    uint32_t width, height, maxval;
+} tz_sizes;
+
+/* A part of the caller's bytes. */
+typedef struct tz_part {
+    size_t start, length;
+} tz_part;
+
+/* ---- the flat functions of the archive ---- */
+
+/*
+ * A record is nine numbers, film, width, height, across, down, bins, min, max, clip, and its factor apart.
+ * `sizes` is three numbers, width, height, maxval. `part` is two, where the raster starts and how long it is.
+ * What each call does stands at the function with structs, below.
+ */
+uint32_t tz_prepare(uint32_t film, uint32_t width, uint32_t height,
+                    const uint16_t *picture, size_t picture_len,
+                    uint32_t across, uint32_t down, uint32_t bins, uint32_t min, uint32_t max,
+                    uint32_t clip, float factor,
+                    uint16_t *map, size_t map_len, uint32_t *scratch, size_t scratch_len,
+                    uint32_t *record, float *record_factor, uint32_t *limit, float *asked, double *used);
+
+uint32_t tz_enhance(uint32_t width, uint32_t height, uint16_t *picture, size_t picture_len,
+                    uint32_t across, uint32_t down, uint32_t bins, uint32_t min, uint32_t max,
+                    uint32_t clip, float factor,
+                    uint16_t *map, size_t map_len, uint32_t *scratch, size_t scratch_len,
+                    uint32_t *limit, float *asked, double *used);
+
+uint32_t tz_draw(uint32_t film, uint32_t width, uint32_t height,
+                 const uint16_t *picture, size_t picture_len,
+                 uint32_t across, uint32_t down, uint32_t bins, uint32_t min, uint32_t max,
+                 uint32_t clip, float factor,
+                 const uint32_t *record, float record_factor,
+                 uint32_t left, uint32_t top, uint32_t window_width, uint32_t window_height,
+                 const uint16_t *map, size_t map_len, uint16_t *out, size_t out_len);
+
+uint32_t tz_read_sizes(const uint8_t *bytes, size_t len, uint32_t *sizes);
+
+uint32_t tz_read_raster(const uint8_t *bytes, size_t len, size_t *part);
+
+uint32_t tz_read_greys(const uint8_t *bytes, size_t len, size_t start,
+                       uint32_t width, uint32_t height, uint32_t maxval,
+                       uint16_t *target, size_t target_len);
+
+uint32_t tz_write(const uint16_t *picture, size_t picture_len,
+                  uint32_t width, uint32_t height, uint32_t maxval,
+                  uint8_t *out, size_t out_len, size_t *count);
+
+uint32_t tz_listing(const uint8_t *bytes, size_t len, uint8_t *out, size_t out_len, size_t *count);
+
+/* ---- how much to lend ---- */
+
+/* The number of bins that a setting stands for. */
+static inline uint32_t tz_bins_of(const tz_settings *s)
+{
+    return s->bins == 0 ? TZ_USUAL_BINS : s->bins;
+}
+
+/* Entries of the scratch buffer. Never above 4096, whatever the settings hold: what is more is refused anyway. */
+static inline size_t tz_scratch_entries(const tz_settings *s)
+{
+    return tz_bins_of(s) < TZ_MOST_BINS ? tz_bins_of(s) : TZ_MOST_BINS;
+}
+
+/* Entries of the map buffer. Never above 16 x 16 x 4096, for the same reason. */
+static inline size_t tz_map_entries(const tz_settings *s)
+{
+    size_t across = s->across < TZ_MOST_GRID ? s->across : TZ_MOST_GRID;
+    size_t down = s->down < TZ_MOST_GRID ? s->down : TZ_MOST_GRID;
+    return across * down * tz_scratch_entries(s);
+}
+
+/* Bytes that hold any written film of at most 4096 by 4096. */
+static inline size_t tz_write_bytes(uint32_t width, uint32_t height)
+{
+    return TZ_WRITE_HEADER + (size_t)2 * width * height;
+}
+
+/* ---- the calls, with structs ---- */
+
+/*
+ * Prepare: makes the tile mappings of a film.
+ *
+ * Afterwards the first (across x down x bins) entries of `map` are the mappings, tiles row by row, bins upward;
+ * the first `bins` entries of `scratch` are 0; all other entries keep their contents. `record` names the film,
+ * its size and its settings, and `footer` says what clipping did. At factor 1.0 map and scratch stay as they were.
+ * Give each film that is open at the same time a number of its own.
+ *
+ * Sizes: picture_len is width x height; map_len at least tz_map_entries, scratch_len at least tz_scratch_entries.
+ * Refusals, the first that applies: 1 to 14 upward.
+ */
+static inline uint32_t tzofnadir_prepare(uint32_t film, uint32_t width, uint32_t height,
+                                         const uint16_t *picture, size_t picture_len, const tz_settings *s,
+                                         uint16_t *map, size_t map_len, uint32_t *scratch, size_t scratch_len,
+                                         tz_record *record, tz_footer *footer)
+{
+    uint32_t r[9] = {0}, limit = 0;
+    float factor = 0, asked = 0;
+    double used = 0;
+    uint32_t refusal = tz_prepare(film, width, height, picture, picture_len, s->across, s->down, s->bins, s->min,
+                                  s->max, s->clip, s->factor, map, map_len, scratch, scratch_len, r, &factor,
+                                  &limit, &asked, &used);
+    if (refusal == TZ_DONE) {
+        tz_settings kept = {r[3], r[4], r[5], r[6], r[7], r[8], factor};
+        record->film = r[0];
+        record->width = r[1];
+        record->height = r[2];
+        record->settings = kept;
+        footer->limit = limit;
+        footer->asked = asked;
+        footer->used = used;
+    }
+    return refusal;
+}
+
+/*
+ * Enhance: renders the whole film in place. Map, scratch and footer as prepare leaves them. At factor 1.0
+ * nothing changes.
+ *
+ * Sizes as for prepare. Refusals, the first that applies: 1 to 14 upward.
+ */
+static inline uint32_t tzofnadir_enhance(uint32_t width, uint32_t height, uint16_t *picture, size_t picture_len,
+                                         const tz_settings *s, uint16_t *map, size_t map_len,
+                                         uint32_t *scratch, size_t scratch_len, tz_footer *footer)
+{
+    uint32_t limit = 0;
+    float asked = 0;
+    double used = 0;
+    uint32_t refusal = tz_enhance(width, height, picture, picture_len, s->across, s->down, s->bins, s->min, s->max,
+                                  s->clip, s->factor, map, map_len, scratch, scratch_len, &limit, &asked, &used);
+    if (refusal == TZ_DONE) {
+        footer->limit = limit;
+        footer->asked = asked;
+        footer->used = used;
+    }
+    return refusal;
+}
+
+/*
+ * Draw: renders a window of the film from mappings that prepare left. `out` then holds the window's pixels row by
+ * row, worked out from the map entries as lent, whoever wrote them; at factor 1.0 the film's own pixels. With the
+ * record and the mappings that prepare left for this film, and the film's pixels as they were then, each pixel is
+ * the one that enhance gives.
+ *
+ * The film number, the size and the settings are those of the film to be drawn: refusal 15 compares them with the
+ * record (bins 0 read as 128 on both sides), so that no film is drawn with the mappings of another.
+ *
+ * Sizes: picture_len is width x height; map_len at least tz_map_entries; out_len exactly the window's area.
+ * Refusals, the first that applies: 1 to 11, 15, 16, 17, then 13 over the window, then 18 (not at factor 1.0).
+ */
+static inline uint32_t tzofnadir_draw(uint32_t film, uint32_t width, uint32_t height,
+                                      const uint16_t *picture, size_t picture_len, const tz_settings *s,
+                                      const tz_record *record, const tz_window *window,
+                                      const uint16_t *map, size_t map_len, uint16_t *out, size_t out_len)
+{
+    const tz_settings *k = &record->settings;
+    const uint32_t r[9] = {record->film, record->width, record->height, k->across, k->down,
+                           k->bins, k->min, k->max, k->clip};
+    return tz_draw(film, width, height, picture, picture_len, s->across, s->down, s->bins, s->min, s->max, s->clip,
+                   s->factor, r, k->factor, window->left, window->top, window->width, window->height,
+                   map, map_len, out, out_len);
+}
+
+/*
+ * Read, first question: the width, height and maxval of a raw PGM file that is held in `bytes`, whole.
+ *
+ * Refusals: header bytes from the front, where, behind "P5", a '#' instead of white space or a digit is 21 and any
+ * other misfit, or the end of input, is 20; then 22, 23, 24, 25. Nothing of the samples is looked at.
+ */
+static inline uint32_t tzofnadir_read_sizes(const uint8_t *bytes, size_t len, tz_sizes *sizes)
+{
+    uint32_t n[3] = {0};
+    uint32_t refusal = tz_read_sizes(bytes, len, n);
+    if (refusal == TZ_DONE) {
+        sizes->width = n[0];
+        sizes->height = n[1];
+        sizes->maxval = n[2];
+    }
+    return refusal;
+}
+
+/*
+ * Read, second question, over the same bytes: which part of them is the raster. Refusals as for the first.
+ */
+static inline uint32_t tzofnadir_read_raster(const uint8_t *bytes, size_t len, tz_part *part)
+{
+    size_t n[2] = {0};
+    uint32_t refusal = tz_read_raster(bytes, len, n);
+    if (refusal == TZ_DONE) {
+        part->start = n[0];
+        part->length = n[1];
+    }
+    return refusal;
+}
+
+/*
+ * Turns the raster, the bytes from `start` to the end, into width x height greys in `target`. Entries behind the
+ * last grey keep their contents.
+ *
+ * Sizes: target_len at least width x height. Refusals, the first that applies: 22, 23, 24, 25, 27, 26.
+ */
+static inline uint32_t tzofnadir_read_greys(const uint8_t *bytes, size_t len, size_t start, const tz_sizes *sizes,
+                                            uint16_t *target, size_t target_len)
+{
+    return tz_read_greys(bytes, len, start, sizes->width, sizes->height, sizes->maxval, target, target_len);
+}
+
+/*
+ * Write: lays the film down in `out` as raw PGM, one byte a sample where maxval is below 256, else two, high byte
+ * first. `count` is how many bytes; those behind them keep their contents.
+ *
+ * Sizes: picture_len is width x height; out_len at least the count, and tz_write_bytes is always enough.
+ * Refusals, the first that applies: 22, 23, 2, 26, 27.
+ */
+static inline uint32_t tzofnadir_write(const uint16_t *picture, size_t picture_len, const tz_sizes *sizes,
+                                       uint8_t *out, size_t out_len, size_t *count)
+{
+    return tz_write(picture, picture_len, sizes->width, sizes->height, sizes->maxval, out, out_len, count);
+}
+
+/*
+ * Listing: the tile listing of a raw PGM file with grid 2 by 2, 4 bins, range 0 to maxval, factor 2, as text in
+ * `out`, `count` bytes of it, fields parted by tabs, each line ended by a line feed: width, height, grid across,
+ * grid down, bins, Min, Max, L; then a line per tile with row, column, excess and the mapping.
+ *
+ * Sizes: out_len at least TZ_LISTING_BYTES, else 27. A film's refusal is part of the text, `refused`, tab, number:
+ * 22 for an input above 32,768 bytes before all else, then as read gives them, where a film above 8,192 pixels is 22
+ * too, then 26, then as prepare gives them.
+ */
+static inline uint32_t tzofnadir_listing(const uint8_t *bytes, size_t len, uint8_t *out, size_t out_len, size_t *count)
+{
+    return tz_listing(bytes, len, out, out_len, count);
+}
+
+#ifdef __cplusplus
+}
+#endif
+
+#endif
