@@ -12,8 +12,9 @@ use borrow.Rule.Slice.PartMut.{putMid}
 use Rattle.lists.specs.Lists.{tab, joined, all, onto, blocks}
 use Rattle.lists.proofs.Tabs.{length-tab, tab-cong, every-not}
 use Rattle.lists.proofs.Fills.{joined-suc}
-use Rattle.lists.proofs.Blocks.{all-both, all-joined, blocks-step, blocks-end, block-fits, length-blocks}
+use Rattle.lists.proofs.Blocks.{blocks-step, blocks-end, block-fits, length-blocks}
 use Rattle.lists.proofs.Tallies.{part-tab}
+use Rattle.lists.proofs.Alls.{all-both, all-joined-every}
 use Rattle.tile.specs.Tile.{greysOf}
 use Rattle.settings.specs.declared.Window.{Window}
 use Rattle.render.specs.Render.{rectOf}
@@ -71,7 +72,7 @@ pub lines-not : (p : ℕ → Bool) (pic : List ℕ) (stride : ℕ) (win : Window
     → all p (greysOf pic stride (rectOf win)) ≡ false
 lines-not p pic stride win {y} {vs} h k e =
     ap (all p) (greys-lines pic stride win)
-    ∙ all-joined p (win .height) (line pic stride win)
+    ∙ all-joined-every p (win .height) (line pic stride win)
     ∙ every-not (win .height) (λ i. all p (line pic stride win i)) y h (ap (all p) (sym e) ∙ k)
 
 -- ---- the rows, copied one by one

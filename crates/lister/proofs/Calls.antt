@@ -48,6 +48,10 @@ use Rattle.lister.proofs.Refusals.{prepare-below, read-below}
 pub told-as : {d text text′ out : List ℕ} {r : ℕ} → Told d text out r → text ≡ text′ → Told d text′ out r
 told-as t e = record { bytes = t .bytes ∙ ap (onto _) e; count = t .count ∙ ap length e }
 
+-- the text of a film that is not refused
+pub told-none : {n r : ℕ} {d text out : List ℕ} → n ≡ 0 → Told d text out r → Told d (unless n text) out r
+told-none e t = rw e t
+
 -- what `list` leaves
 pub told-both : {d text text′ out : List ℕ} {r : ℕ} → Told d text out r → text ≡ text′ → (out ≡ onto d text′) × (r ≡ length text′)
 told-both t e = (t .bytes ∙ ap (onto _) e, t .count ∙ ap length e)
@@ -114,10 +118,6 @@ module _ (w h m : ℕ) (pic : List ℕ) where
           let b : r ≡ suc i = cc in
           (omega (arith, prepare-below w h pic (settingsOf m) 16 4), λ text. rw (z, b) refl)
 
--- the listing of a film that is not refused
-pub unless-none : {n : ℕ} (text : List ℕ) → n ≡ 0 → text ≡ unless n text
-unless-none text e = rw e refl
-
 -- ---- what greys left
 
 module _ (raster : List ℕ) (w h m room : ℕ) (asks : ListAsks raster w h m room) where
@@ -182,9 +182,9 @@ module _ (raster : List ℕ) (w h m room : ℕ) (asks : ListAsks raster w h m ro
   film-front target {left} {count} e q = rw e (take-onto target greys count (length-unpacked (isWide m) raster (w * h) ∙ sym q))
 
 -- the text of a film none of whose samples is above maxval
-pub picture-listed : (w h m : ℕ) {pic film : List ℕ} → film ≡ pic → noneAbove m pic ≡ true
-    → unless (first (prepareRows w h film (settingsOf m) 16 4)) (filmText w h m film) ≡ pictureText w h m pic
-picture-listed w h m f e = rw (f, e) refl
+pub picture-listed : (w h m : ℕ) {pic film d out : List ℕ} {r : ℕ} → film ≡ pic → noneAbove m pic ≡ true
+    → Told d (unless (first (prepareRows w h film (settingsOf m) 16 4)) (filmText w h m film)) out r → Told d (pictureText w h m pic) out r
+picture-listed w h m {pic} {film} f e t = rw e (rw f at t)
 
 -- the text of one that has such a sample
 pub picture-above : (w h m : ℕ) (pic : List ℕ) → noneAbove m pic ≡ false → refusedText 26 ≡ pictureText w h m pic

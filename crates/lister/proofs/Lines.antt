@@ -12,8 +12,8 @@ use native.Mathlib.Numerals.{add-one}
 use borrow.Author.Tests.{ltb-true, lt-ltb}
 use Rattle.lists.specs.Lists.{onto, over, all}
 use Rattle.lists.proofs.Tabs.{and-both}
-use Rattle.lists.proofs.Blocks.{all-at}
 use Rattle.lists.proofs.Overs.{over-over, onto-nil, onto-set, onto-over}
+use Rattle.lists.proofs.Alls.{all-at}
 use Rattle.header.specs.Header.{decimalOf}
 use Rattle.header.proofs.Writing.{count-most}
 use Rattle.lister.specs.Lister.{line, refusedText}

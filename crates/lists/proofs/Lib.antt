@@ -1,9 +1,11 @@
 pub mod Tabs
 pub mod Sums
 pub mod Fills
+pub mod Alls
 pub mod Tallies
 pub mod Totals
 pub mod Blocks
 pub mod Overs
 pub mod Windows
 pub mod Maps
+pub mod Inverses

@@ -1,4 +1,4 @@
--- Laws of `all` and `times`, and of a filled slice one of whose entries is counted up.
+-- Laws of `times`, and of a filled slice one of whose entries is counted up.
 -- Assumes nothing.
 use Prim.Native.Nat.{ℕ, zero, suc, _+_, _-_, _*_, _≤_, _<_}
 use mathlib.Core.Bool.{Bool, true, false, _&&_, cond}
@@ -15,63 +15,6 @@ use borrow.Author.Tests.{ltb-true, eqb-true, eqb-false, eq-eqb, ne-eqb}
 use Rattle.lists.specs.Lists.{tab, sum, total, joined, all, times, onto, filled}
 use Rattle.lists.proofs.Tabs.{length-tab, getD-tab, tab-cong, eq-tab, and-left, and-right, and-both}
 use Rattle.lists.proofs.Sums.{sum-add, sum-cong, sum-const, total-append, total-take-drop}
-
--- ---- all
-
-pub all-append : (p : ℕ → Bool) (xs ys : List ℕ) → all p xs ≡ true → all p ys ≡ true → all p (xs ++ ys) ≡ true
-unfolding all
-all-append p [] ys h k = k
-all-append p (x ∷ xs) ys h k =
-    and-both (p x) (all p (xs ++ ys)) (and-left (p x) (all p xs) h) (all-append p xs ys (and-right (p x) (all p xs) h) k)
-
-pub all-left : (p : ℕ → Bool) (xs ys : List ℕ) → all p (xs ++ ys) ≡ true → all p xs ≡ true
-unfolding all
-all-left p [] ys h = refl
-all-left p (x ∷ xs) ys h =
-    and-both (p x) (all p xs) (and-left (p x) (all p (xs ++ ys)) h) (all-left p xs ys (and-right (p x) (all p (xs ++ ys)) h))
-
-pub all-right : (p : ℕ → Bool) (xs ys : List ℕ) → all p (xs ++ ys) ≡ true → all p ys ≡ true
-unfolding all
-all-right p [] ys h = h
-all-right p (x ∷ xs) ys h = all-right p xs ys (and-right (p x) (all p (xs ++ ys)) h)
-
--- what holds of each entry holds of the one at i
-pub all-at : (p : ℕ → Bool) (xs : List ℕ) (d : ℕ) → all p xs ≡ true → (i : ℕ) → i < length xs → p (getD xs i d) ≡ true
-unfolding all
-all-at p [] d h i l = absurd (not-suc-le-zero l)
-all-at p (x ∷ xs) d h zero l = and-left (p x) (all p xs) h
-all-at p (x ∷ xs) d h (suc i) l = all-at p xs d (and-right (p x) (all p xs) h) i (le-of-suc-le-suc l)
-
--- and back
-pub all-each : (p : ℕ → Bool) (xs : List ℕ) (d : ℕ) → ((i : ℕ) → i < length xs → p (getD xs i d) ≡ true) → all p xs ≡ true
-unfolding all
-all-each p [] d h = refl
-all-each p (x ∷ xs) d h = and-both (p x) (all p xs) (h zero (omega arith)) (all-each p xs d (λ i l. h (suc i) (omega arith)))
-
-pub all-tab : (p : ℕ → Bool) (n : ℕ) (f : ℕ → ℕ) → ((i : ℕ) → i < n → p (f i) ≡ true) → all p (tab n f) ≡ true
-all-tab p n f h = all-each p (tab n f) 0 (λ i l. let m : i < n = rw length-tab at l in ap p (getD-tab n f i 0 m) ∙ h i m)
-
-pub all-joined : (p : ℕ → Bool) (n : ℕ) (f : ℕ → List ℕ) → ((i : ℕ) → i < n → all p (f i) ≡ true) → all p (joined n f) ≡ true
-unfolding joined all
-all-joined p zero f h = refl
-all-joined p (suc n) f h = all-append p (joined n f) (f n) (all-joined p n f (λ i l. h i (omega arith))) (h n (omega arith))
-
--- what holds of each entry of lists one behind the other holds of each entry of the i-th
-pub all-joined-at : (p : ℕ → Bool) (n : ℕ) (f : ℕ → List ℕ) → all p (joined n f) ≡ true → (i : ℕ) → i < n → all p (f i) ≡ true
-unfolding joined
-all-joined-at p zero f h i l = absurd (not-suc-le-zero l)
-all-joined-at p (suc n) f h i l =
-    ⊎-elim
-    (λ e. ap (λ k. all p (f k)) e ∙ all-right p (joined n f) (f n) h)
-    (λ m. all-joined-at p n f (all-left p (joined n f) (f n) h) i m)
-    (eq-or-lt-of-le (le-of-suc-le-suc l))
-
--- a test of the mapped entries is a test of the entries
-pub all-map : (p q : ℕ → Bool) (g : ℕ → ℕ) (xs : List ℕ) → ((x : ℕ) → p x ≡ true → q (g x) ≡ true) → all p xs ≡ true → all q (map g xs) ≡ true
-unfolding all
-all-map p q g [] k h = refl
-all-map p q g (x ∷ xs) k h =
-    and-both (q (g x)) (all q (map g xs)) (k x (and-left (p x) (all p xs) h)) (all-map p q g xs k (and-right (p x) (all p xs) h))
 
 -- ---- times
 

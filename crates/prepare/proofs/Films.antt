@@ -14,8 +14,8 @@ use borrow.Rule.Slice.PartMut.{putMid}
 use Rattle.lists.specs.Lists.{joined, onto, over, all}
 use Rattle.lists.proofs.Fills.{length-joined, drop-onto, length-onto}
 use Rattle.lists.proofs.Blocks.{block-fits, getD-joined}
-use Rattle.lists.proofs.Tallies.{all-joined}
 use Rattle.lists.proofs.Maps.{over-part}
+use Rattle.lists.proofs.Alls.{all-joined}
 use Rattle.limit.specs.declared.Clip.{Clip}
 use Rattle.limit.specs.declared.Clip.the-variants.{Off, Factor}
 use Rattle.limit.specs.Limit.{isOne, accepted, limitOf, tooTight}

@@ -10,8 +10,8 @@ use native.Mathlib.Omega.{arith}
 use lib.ListN.{length, take, getD, List·getD-append}
 use lib.Arith.{digits-lt}
 use Rattle.lists.specs.Lists.{onto}
-use Rattle.lists.proofs.Tallies.{all-at}
 use Rattle.lists.proofs.Blocks.{block-fits}
+use Rattle.lists.proofs.Alls.{all-at}
 use Rattle.refuse.specs.Refuse.{first}
 use Rattle.tile.specs.Tile.{within, binOf, greysOf, mappedOf}
 use Rattle.tile.proofs.Tiles.{getD-tile-mapping}
@@ -125,7 +125,7 @@ own-rendering w h pic s m t e one x y l k =
     ∙ render-at w h s (onto m (mappings w h pic s)) (whole w h) pic k l
     ∙ ap₂ (λ a b. renderedOf w h s (onto m (mappings w h pic s)) a b (getD pic (y * w + x) 0)) (zero-add x) (zero-add y)
     ∙ laid-grey m asks x y l k
-    (all-at (within (s .min) (s .max)) pic 0 (known .greys) (y * w + x) (omega (arith, known .ready .whole, mul-comm w h, digits-lt {q = y} {m = h} {r = x} {c = w} k l)))
+    (all-at (within (s .min) (s .max)) pic (known .greys) (y * w + x) 0 (omega (arith, known .ready .whole, mul-comm w h, digits-lt {q = y} {m = h} {r = x} {c = w} k l)))
   where
     known : Work w h pic s (length m) (length t)
     known = enhance-work w h pic s m t e

@@ -12,7 +12,7 @@ use lib.ListN.{length, take, getD}
 use borrow.Author.Tests.{le-ltb, ne-eqb, eq-eqb}
 use Rattle.lists.specs.Lists.{onto, all}
 use Rattle.lists.proofs.Fills.{length-onto}
-use Rattle.lists.proofs.Tallies.{all-at, all-tab, all-joined}
+use Rattle.lists.proofs.Alls.{all-at, all-joined, all-tab}
 use Rattle.refuse.specs.Refuse.{Row, row, first}
 use Rattle.refuse.proofs.Walk.{first-none, none-first, none-front, none-behind}
 use Rattle.tile.specs.Tile.{within, greysOf}
@@ -77,7 +77,7 @@ unfolding greysOf
 window-greys p w h pic win whole across down g =
     all-joined p (win .height) _
     (λ y l. all-tab p (win .width) _
-    (λ x q. all-at p pic 0 g _ (omega (arith, whole, mul-comm w h, digits-lt {q = win .top + y} {m = h} {r = win .left + x} {c = w} (omega arith) (omega arith)))))
+    (λ x q. all-at p pic g _ 0 (omega (arith, whole, mul-comm w h, digits-lt {q = win .top + y} {m = h} {r = win .left + x} {c = w} (omega arith) (omega arith)))))
 
 -- ---- what prepare left
 

@@ -12,9 +12,9 @@ use native.Mathlib.Omega.{arith}
 use Rattle.lists.specs.Lists.{tab, joined, all, onto}
 use Rattle.lists.proofs.Tabs.{length-tab, getD-tab, tab-cong}
 use Rattle.lists.proofs.Fills.{length-joined, joined-cong, take-onto, length-onto}
-use Rattle.lists.proofs.Blocks.{getD-joined, block-fits, all-at}
-use Rattle.lists.proofs.Tallies.{all-tab, all-joined}
+use Rattle.lists.proofs.Blocks.{getD-joined, block-fits}
 use Rattle.lists.proofs.Windows.{getD-front}
+use Rattle.lists.proofs.Alls.{all-at, all-joined, all-tab}
 use Rattle.tile.specs.declared.Rect.{Rect}
 use Rattle.tile.specs.Tile.{within, binOf, greysOf}
 use Rattle.blend.specs.declared.Place.{Place}

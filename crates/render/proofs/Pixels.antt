@@ -12,7 +12,7 @@ use native.Mathlib.Nat.{mul-comm, mul-le-mul}
 use native.Mathlib.Omega.{arith}
 use borrow.Author.Tests.{lt-leb}
 use Rattle.lists.specs.Lists.{all}
-use Rattle.lists.proofs.Blocks.{all-at}
+use Rattle.lists.proofs.Alls.{all-at}
 use Rattle.tile.specs.Tile.{within, binOf}
 use Rattle.tile.proofs.Bins.{within-low, within-high, within-both, bin-below}
 use Rattle.blend.specs.declared.Place.{Place}

@@ -8,10 +8,10 @@ use lib.ListN.{length, getD, set, drop}
 use native.Mathlib.Nat.{div-zero}
 use native.Mathlib.Omega.{arith}
 use Rattle.lists.specs.Lists.{tab, all, filled}
-use Rattle.lists.proofs.Blocks.{all-at}
 use Rattle.lists.proofs.Fills.{filled-step, filled-end}
 use Rattle.lists.proofs.Tallies.{filled-tab}
 use Rattle.lists.proofs.Windows.{getD-behind, filled-whole}
+use Rattle.lists.proofs.Alls.{all-at}
 use Rattle.tile.specs.Tile.{within}
 use Rattle.tile.proofs.Bins.{within-high}
 use Rattle.blend.specs.declared.Place.{Place}

@@ -11,8 +11,9 @@ use native.Mathlib.Omega.{arith}
 use borrow.Rule.Slice.PartMut.{putMid}
 use Rattle.lists.specs.Lists.{tab, joined, blocks, all}
 use Rattle.lists.proofs.Tabs.{length-tab, tab-cong}
-use Rattle.lists.proofs.Blocks.{length-blocks, drop-blocks, blocks-step, blocks-end, block-fits, all-take, all-drop}
+use Rattle.lists.proofs.Blocks.{length-blocks, drop-blocks, blocks-step, blocks-end, block-fits}
 use Rattle.lists.proofs.Windows.{blocks-whole}
+use Rattle.lists.proofs.Alls.{all-drop, all-take}
 use Rattle.tile.specs.Tile.{within}
 use Rattle.settings.specs.declared.Settings.{Settings}
 use Rattle.settings.specs.declared.Window.{Window}

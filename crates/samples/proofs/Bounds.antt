@@ -10,7 +10,7 @@ use native.Mathlib.Omega.{arith}
 use borrow.Author.Tests.{le-leb, lt-leb, leb-true, leb-false}
 use Rattle.lists.specs.Lists.{tab, all}
 use Rattle.lists.proofs.Tabs.{tab-suc, length-tab, getD-tab}
-use Rattle.lists.proofs.Blocks.{all-both, all-one, all-at, all-from, all-not, all-start, all-pass, all-end}
+use Rattle.lists.proofs.Alls.{all-at, all-both, all-end, all-from, all-not, all-one, all-pass, all-start}
 use Rattle.samples.specs.Samples.{isWide, sampleAt, unpacked, noneAbove}
 
 -- ---- of a list of greys

@@ -14,7 +14,8 @@ use borrow.Author.Tests.{le-leb}
 use Rattle.lists.specs.Lists.{joined, all, every}
 use Rattle.lists.proofs.Tabs.{eq-tab, tab-all, every-all}
 use Rattle.lists.proofs.Fills.{joined-cong}
-use Rattle.lists.proofs.Blocks.{getD-joined, joined-ones, all-joined, all-one, all-both}
+use Rattle.lists.proofs.Blocks.{getD-joined, joined-ones}
+use Rattle.lists.proofs.Alls.{all-both, all-joined-every, all-one}
 use Rattle.samples.specs.Samples.{isWide, sizeOf, bytesOf, sampleAt, packed, unpacked, noneAbove}
 use Rattle.samples.proofs.Bounds.{bound-at, narrow-fits, length-unpacked, getD-unpacked}
 
@@ -88,7 +89,7 @@ byte-fits true v n m =
 pub packed-bytes : (maxval : ℕ) (vs : List ℕ) → maxval ≤ 65535 → noneAbove maxval vs ≡ true → noneAbove 255 (packed (isWide maxval) vs) ≡ true
 unfolding noneAbove packed
 packed-bytes maxval vs m h =
-    all-joined (λ x. leb x 255) (length vs) (λ i. bytesOf (isWide maxval) (getD vs i 0)) ∙ every-all (length vs) (λ i. all (λ x. leb x 255) (bytesOf (isWide maxval) (getD vs i 0))) each
+    all-joined-every (λ x. leb x 255) (length vs) (λ i. bytesOf (isWide maxval) (getD vs i 0)) ∙ every-all (length vs) (λ i. all (λ x. leb x 255) (bytesOf (isWide maxval) (getD vs i 0))) each
   where
     each : (i : ℕ) → i < length vs → all (λ x. leb x 255) (bytesOf (isWide maxval) (getD vs i 0)) ≡ true
     each i l = byte-fits (isWide maxval) (getD vs i 0) (λ n. narrow-fits maxval vs h refl n i l) (omega (arith, bound-at maxval vs h i l))

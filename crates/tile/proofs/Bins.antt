@@ -4,11 +4,12 @@ use Prim.Native.Nat.{ℕ, zero, suc, _+_, _-_, _*_, _/_, _≤_, _<_}
 use mathlib.Core.Bool.{Bool, true, false, _&&_}
 use mathlib.Core.Path.{_≡_, refl, sym, ap, _∙_}
 use lib.Dec.{leb, ltb}
-use native.Mathlib.Nat.{div-lt-iff-lt-mul, lt-mul-div-succ, add-comm}
+use native.Mathlib.Nat.{div-lt-iff-lt-mul, lt-mul-div-succ, add-comm, div-le-self, mul-le-mul}
 use native.Mathlib.Omega.{arith}
 use borrow.Author.Tests.{leb-true, le-leb, lt-ltb}
 use Rattle.lists.proofs.Tabs.{and-left, and-right, and-both}
-use Rattle.tile.specs.Tile.{within, binOf}
+use Rattle.lists.proofs.Inverses.{by-inverse}
+use Rattle.tile.specs.Tile.{within, binOf, factorOf, binBy}
 
 -- a grey from Min to Max is not below Min
 pub within-low : (lo hi v : ℕ) → within lo hi v ≡ true → lo ≤ v
@@ -38,3 +39,14 @@ bin-below lo hi b v h p =
 -- the same as a test
 pub bin-test : (lo hi b : ℕ) → 0 < b → (v : ℕ) → within lo hi v ≡ true → ltb (binOf lo hi b v) b ≡ true
 bin-test lo hi b p v h = lt-ltb (binOf lo hi b v) b (bin-below lo hi b v h p)
+
+-- the factor gives a grey's bin: no grey is divided
+pub bin-by : (lo hi b v : ℕ) → within lo hi v ≡ true → hi ≤ 4095 → 0 < b → binBy lo (factorOf lo hi b) v ≡ binOf lo hi b v
+unfolding binBy factorOf binOf
+bin-by lo hi b v h m p =
+    let w : ℕ = 1 + (hi - lo) / b in
+    let pos : 0 < w = omega arith in
+    let grey : v - lo ≤ 4095 = omega (arith, within-high lo hi v h) in
+    let wide : w ≤ 4096 = omega (arith, div-le-self (hi - lo) b) in
+    let most : (v - lo) * w ≤ 4095 * 4096 = mul-le-mul grey wide in
+    by-inverse 16777216 (v - lo) w pos (omega arith)

@@ -11,7 +11,8 @@ use Rattle.lists.specs.Lists.{tab, sum, total, all, times, onto, filled}
 use Rattle.lists.proofs.Tabs.{length-tab, tab-cong, tab-getD, map-append}
 use Rattle.lists.proofs.Sums.{total-tab}
 use Rattle.lists.proofs.Fills.{length-filled, filled-onto}
-use Rattle.lists.proofs.Tallies.{times-append, times-le, sum-times, all-map, getD-filled, filled-cong, filled-filled, filled-bump, filled-tab}
+use Rattle.lists.proofs.Tallies.{times-append, times-le, sum-times, getD-filled, filled-cong, filled-filled, filled-bump, filled-tab}
+use Rattle.lists.proofs.Alls.{all-map}
 use Rattle.tile.specs.Tile.{within, binOf, countsOf, addedOf}
 use Rattle.tile.proofs.Bins.{bin-below, bin-test}
 

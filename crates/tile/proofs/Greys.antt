@@ -10,7 +10,8 @@ use native.Mathlib.Omega.{arith}
 use Rattle.lists.specs.Lists.{tab, joined, all}
 use Rattle.lists.proofs.Tabs.{length-tab, tab-cong}
 use Rattle.lists.proofs.Fills.{length-joined, joined-cong}
-use Rattle.lists.proofs.Tallies.{all-at, all-tab, all-joined, all-joined-at, part-tab}
+use Rattle.lists.proofs.Tallies.{part-tab}
+use Rattle.lists.proofs.Alls.{all-at, all-joined, all-joined-at, all-tab}
 use Rattle.tile.specs.declared.Rect.{Rect}
 use Rattle.tile.specs.Tile.{greysOf, countsOf, Inside}
 
@@ -78,7 +79,7 @@ pixel-room inside y x h l = omega (arith, row-room inside y h)
 pub greys-all : (p : ℕ → Bool) (pic : List ℕ) (stride : ℕ) (r : Rect) → Inside (length pic) stride r → all p pic ≡ true → all p (greysOf pic stride r) ≡ true
 unfolding greysOf
 greys-all p pic stride r inside h =
-    all-joined p (r .height) _ (λ y l. all-tab p (r .width) _ (λ x m. all-at p pic 0 h _ (pixel-room inside y x l m)))
+    all-joined p (r .height) _ (λ y l. all-tab p (r .width) _ (λ x m. all-at p pic h _ 0 (pixel-room inside y x l m)))
 
 -- what holds of each grey of the rectangle holds of each grey of a row
 pub row-all : (p : ℕ → Bool) (pic : List ℕ) (stride : ℕ) (r : Rect) → all p (greysOf pic stride r) ≡ true → (y : ℕ) → y < r .height → all p (rowOf pic stride r y) ≡ true

@@ -10,7 +10,8 @@ use native.Mathlib.Nat.{mul-le-mul-right, mul-div-right, le-div-iff-mul-le, div-
 use native.Mathlib.Omega.{arith}
 use Rattle.lists.specs.Lists.{tab, total, all}
 use Rattle.lists.proofs.Tabs.{length-tab, getD-tab}
-use Rattle.lists.proofs.Tallies.{total-next, total-next-le, total-take-le, total-take-mono, all-tab}
+use Rattle.lists.proofs.Tallies.{total-next, total-next-le, total-take-le, total-take-mono}
+use Rattle.lists.proofs.Alls.{all-tab}
 use Rattle.tile.specs.Tile.{within, mappedOf, mappingOf}
 use Rattle.tile.proofs.Bins.{within-both}
 

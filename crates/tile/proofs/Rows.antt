@@ -8,18 +8,25 @@ use lib.ListN.{length, take, drop, getD, set, length-take}
 use lib.Seq.{take-suc, take-all, length-take-le}
 use native.Mathlib.Numerals.{add-one}
 use native.Mathlib.Omega.{arith}
-use Rattle.lists.proofs.Tallies.{all-at}
-use Rattle.tile.specs.Tile.{within, binOf, addedOf, RowAsks}
-use Rattle.tile.proofs.Bins.{within-low, within-high, bin-below}
+use Rattle.tile.specs.Tile.{within, binOf, binBy, addedOf, RowAsks}
+use Rattle.tile.proofs.Bins.{bin-below, bin-by}
 use Rattle.tile.proofs.Counts.{added-one, added-le}
+use Rattle.lists.proofs.Alls.{all-at}
 
-module _ {row : List ℕ} {lo hi b : ℕ} {cs₀ : List ℕ} (asks : RowAsks row lo hi b cs₀) where
+module _ {row : List ℕ} {lo hi b factor : ℕ} {cs₀ : List ℕ} (asks : RowAsks row lo hi b factor cs₀) where
   pub row-within : (x : ℕ) → x < length row → within lo hi (getD row x 0) ≡ true
-  row-within x l = all-at (within lo hi) row 0 (asks .greys) x l
+  row-within x l = all-at (within lo hi) row (asks .greys) x 0 l
+
+  -- the factor gives the bin of the grey at x
+  pub row-by : (x : ℕ) {k : ℕ} → x < length row → k ≡ binBy lo factor (getD row x 0) → k ≡ binOf lo hi b (getD row x 0)
+  row-by x l e =
+      e
+      ∙ ap (λ f. binBy lo f (getD row x 0)) (asks .by)
+      ∙ bin-by lo hi b (getD row x 0) (row-within x l) (asks .most) (asks .some)
 
   -- the grey at x has a bin
-  pub row-bin : (x k : ℕ) → x < length row → k ≡ binOf lo hi b (getD row x 0) → k < b
-  row-bin x k l e = omega (arith, bin-below lo hi b (getD row x 0) (row-within x l) (asks .some))
+  pub row-bin : (x k : ℕ) → x < length row → k ≡ binBy lo factor (getD row x 0) → k < b
+  row-bin x k l e = omega (arith, row-by x l e, bin-below lo hi b (getD row x 0) (row-within x l) (asks .some))
 
   -- there is room for one more in a bin
   pub row-fits : {cs : List ℕ} {x k : ℕ} → x < length row → cs ≡ addedOf lo hi b cs₀ (take x row) → k < b → getD cs k 0 + 1 < 4294967296
@@ -28,10 +35,10 @@ module _ {row : List ℕ} {lo hi b : ℕ} {cs₀ : List ℕ} (asks : RowAsks row
       omega (arith, added-le lo hi b cs₀ (take x row) k h, length-take-le x row (omega arith), asks .fits k h)
 
   -- one grey more
-  pub row-next : {cs : List ℕ} {x k : ℕ} → x < length row → cs ≡ addedOf lo hi b cs₀ (take x row) → k ≡ binOf lo hi b (getD row x 0)
+  pub row-next : {cs : List ℕ} {x k : ℕ} → x < length row → cs ≡ addedOf lo hi b cs₀ (take x row) → k ≡ binBy lo factor (getD row x 0)
       → set cs k (getD cs k 0 + 1) ≡ addedOf lo hi b cs₀ (take (x + 1) row)
   row-next {cs} {x} {k} l e q =
-      ap₂ (λ s j. set s j (getD s j 0 + 1)) e q
+      ap₂ (λ s j. set s j (getD s j 0 + 1)) e (row-by x l q)
       ∙ added-one lo hi b cs₀ (take x row) (getD row x 0) (bin-below lo hi b (getD row x 0) (row-within x l) (asks .some))
       ∙ ap (addedOf lo hi b cs₀) (sym (rw add-one (take-suc row x 0 l)))
 

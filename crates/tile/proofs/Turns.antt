@@ -11,7 +11,7 @@ use Rattle.lists.specs.Lists.{joined, all, onto, filled}
 use Rattle.lists.proofs.Fills.{joined-suc, length-filled}
 use Rattle.lists.proofs.Tallies.{getD-filled}
 use Rattle.tile.specs.declared.Rect.{Rect}
-use Rattle.tile.specs.Tile.{within, greysOf, countsOf, addedOf, Scale, Inside, RowAsks, CountAsks}
+use Rattle.tile.specs.Tile.{within, factorOf, greysOf, countsOf, addedOf, Scale, Inside, RowAsks, CountAsks}
 use Rattle.tile.proofs.Counts.{added-none, added-added, added-clear, added-le, length-added}
 use Rattle.tile.proofs.Greys.{rowOf, greys-rows, length-row, length-rows, part-row, row-all}
 
@@ -41,13 +41,14 @@ rows-end lo hi b pic stride r d {cs₀} {cs} y z e h l =
     ∙ added-clear lo hi b d (greysOf pic stride r)
 
 -- what a row's counting asks
-pub row-asks : (pic : List ℕ) (stride : ℕ) (r : Rect) (lo hi b : ℕ) (d : List ℕ) {cs₀ cs : List ℕ} (y : ℕ)
-    → CountAsks pic stride r lo hi b (length d) → cs₀ ≡ filled (λ k. 0) d b
+pub row-asks : (pic : List ℕ) (stride : ℕ) (r : Rect) (lo hi b : ℕ) (d : List ℕ) {cs₀ cs : List ℕ} {factor : ℕ} (y : ℕ)
+    → CountAsks pic stride r lo hi b (length d) → factor ≡ factorOf lo hi b → cs₀ ≡ filled (λ k. 0) d b
     → cs ≡ addedOf lo hi b cs₀ (joined y (rowOf pic stride r)) → y < r .height
-    → RowAsks (take ((r .top + y) * stride + r .left + r .width - ((r .top + y) * stride + r .left)) (drop ((r .top + y) * stride + r .left) pic)) lo hi b cs
-row-asks pic stride r lo hi b d {cs₀} {cs} y asks z e h =
+    → RowAsks (take ((r .top + y) * stride + r .left + r .width - ((r .top + y) * stride + r .left)) (drop ((r .top + y) * stride + r .left) pic)) lo hi b factor cs
+row-asks pic stride r lo hi b d {cs₀} {cs} {factor} y asks by z e h =
     rw (part-row pic stride r (asks .inside) y h)
     record {
+      by = by;
       most = asks .scale .most;
       some = omega (arith, asks .scale .some);
       room = omega (arith, lengths, asks .enough);

@@ -23,6 +23,14 @@ within lo hi v = leb lo v && leb v hi
 unfoldable pub binOf : ℕ → ℕ → ℕ → ℕ → ℕ
 binOf lo hi b v = (v - lo) / (1 + (hi - lo) / b)
 
+-- stands for one over the bin width W, so that no grey is divided: floor(2^24 / W) + 1
+unfoldable pub factorOf : ℕ → ℕ → ℕ → ℕ
+factorOf lo hi b = 16777216 / (1 + (hi - lo) / b) + 1
+
+-- the bin of a grey by that factor: floor((v - Min) x factor / 2^24)
+unfoldable pub binBy : ℕ → ℕ → ℕ → ℕ
+binBy lo factor v = (v - lo) * factor / 16777216
+
 -- the greys of a rectangle of a picture `stride` pixels wide, row by row
 unfoldable pub greysOf : List ℕ → ℕ → Rect → List ℕ
 greysOf pic stride r = joined (r .height) (λ y. tab (r .width) (λ x. getD pic ((r .top + y) * stride + (r .left + x)) 0))
@@ -75,8 +83,9 @@ pub record Inside (size stride : ℕ) (r : Rect) : Type 0 where
   pub some : 0 < r .width * r .height
   pub few : r .width * r .height ≤ 4194304
 
--- what `count_row` asks: room for the bins, greys from Min to Max, and counts to which a row can be added
-pub record RowAsks (row : List ℕ) (lo hi b : ℕ) (counts : List ℕ) : Type 0 where
+-- what `count_row` asks: the factor of the bin width, room for the bins, greys from Min to Max, and counts to which a row can be added
+pub record RowAsks (row : List ℕ) (lo hi b factor : ℕ) (counts : List ℕ) : Type 0 where
+  pub by : factor ≡ factorOf lo hi b
   pub most : hi ≤ 4095
   pub some : 0 < b
   pub room : b ≤ length counts

@@ -1,7 +1,7 @@
 -- By what prepare answers. Assumes nothing.
 use mathlib.Core.Path.{_≡_, refl, _∙_}
 use native.Mathlib.Omega.{arith}
-use Rattle.lister.proofs.Calls.{told-as, prepared-done, prepared-refused, unless-none}
+use Rattle.lister.proofs.Calls.{told-as, prepared-done, prepared-refused, told-none}
 use borrow.Author.Needs.{needs}
 use Rattle.lister.proofs.list_film.Statement.{statement}
 use Rattle.lister.proofs.list_film.Tie as tie
@@ -53,7 +53,7 @@ same-length c = search needs
 returns : tie.Need-returns
 returns c =
     let made = prepared-done _ _ _ _ _ _ refl refl (c .before .before .before .before .before .before .before .before .before .before .before .before .before .before .before .settings-for .ensures) (c .before .before .before .before .before .before .before .before .foot .given .1) (c .before .before .before .before .before .before .before .before .before .before .before .before .prepare .ensures) in
-    told-as (c .before .before .before .film-lines .ensures) (unless-none _ (made .none))
+    told-none (made .none) (c .before .before .before .film-lines .ensures)
 
 same-length-2 : tie.Need-same-length-2
 same-length-2 c = search needs

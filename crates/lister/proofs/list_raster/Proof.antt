@@ -45,7 +45,7 @@ same-length c = search needs
 returns : tie.Need-returns
 returns c =
     let told = greys-told _ _ _ _ _ (c .before .before .before .before .before .before .before .before .before .before .before .before .pre) _ refl (c .before .before .before .before .before .enum-told .given .1) (c .before .before .before .before .before .before .before .before .read-greys .ensures) in
-    told-as (c .before .before .list-film .ensures) (picture-listed _ _ _ (film-front _ _ _ _ _ (c .before .before .before .before .before .before .before .before .before .before .before .before .pre) _ (told .1) refl) (told .0))
+    picture-listed _ _ _ (film-front _ _ _ _ _ (c .before .before .before .before .before .before .before .before .before .before .before .before .pre) _ (told .1) refl) (told .0) (c .before .before .list-film .ensures)
 
 same-length-2 : tie.Need-same-length-2
 same-length-2 c = search needs

@@ -7,7 +7,7 @@ use lib.ListN.{length, take}
 use borrow.Author.Needs.{needs}
 use native.Mathlib.Omega.{arith}
 use Rattle.lists.specs.Lists.{all}
-use Rattle.lists.proofs.Blocks.{all-start, all-pass, all-end, all-not}
+use Rattle.lists.proofs.Alls.{all-end, all-not, all-pass, all-start}
 use Rattle.tile.specs.Tile.{within}
 use Rattle.tile.proofs.Bins.{within-both}
 use Rattle.render.proofs.Pixels.{within-under, within-over}

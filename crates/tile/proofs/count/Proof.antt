@@ -13,10 +13,10 @@ use Rattle.tile.proofs.count.Statement.{statement}
 use Rattle.tile.proofs.count.Tie as tie
 
 abbrev Inv-loop : tie.InvT-loop
-Inv-loop picture stride rect min max bins counts₀ y₀ counts y = (y ≤ rect .height) × (length counts ≡ length counts₀) × (counts ≡ addedOf min max bins counts₀ (joined y (rowOf picture stride rect)))
+Inv-loop picture stride rect min max bins counts₀ factor y₀ counts y = (y ≤ rect .height) × (length counts ≡ length counts₀) × (counts ≡ addedOf min max bins counts₀ (joined y (rowOf picture stride rect)))
 
 abbrev μ-loop : tie.MeasureT-loop
-μ-loop picture stride rect min max bins counts₀ y₀ counts y = rect .height - y
+μ-loop picture stride rect min max bins counts₀ factor y₀ counts y = rect .height - y
 
 clear-requires : tie.Need-clear-requires Inv-loop μ-loop
 clear-requires c κs = search needs
@@ -25,16 +25,19 @@ clear-requires c κs = search needs
 cleared : (c : tie.After-clear Inv-loop μ-loop) → length (c .clear .last .0) ≡ length (c .before .before .before .before .args .counts .now)
 cleared c = ap length (c .clear .ensures) ∙ length-filled _ _ _ (c .before .before .before .before .pre .enough)
 
+bin-factor-requires : tie.Need-bin-factor-requires Inv-loop μ-loop
+bin-factor-requires c κs = search needs
+
 loop-holds : tie.Need-loop-holds Inv-loop μ-loop
-loop-holds c = (search needs, refl, rows-first _ _ _ _ _ (omega (arith, cleared (c .before .before), c .before .before .before .before .before .before .pre .enough)))
+loop-holds c = (search needs, refl, rows-first _ _ _ _ _ (omega (arith, cleared (c .before .before .before), c .before .before .before .before .before .before .before .pre .enough)))
 
 -- the row lies inside the picture
 room : (c : tie.Then1 Inv-loop μ-loop)
-    → (c .before .before .before .before .before .before .before .before .before .args .rect .top + c .before .before .loop .y) * c .before .before .before .before .before .before .before .before .before .args .stride + (c .before .before .before .before .before .before .before .before .before .args .rect .left + c .before .before .before .before .before .before .before .before .before .args .rect .width) ≤ length (c .before .before .before .before .before .before .before .before .before .args .picture .now)
-room c = row-room (c .before .before .before .before .before .before .before .before .before .pre .inside) _ (c .if1 .taken)
+    → (c .before .before .before .before .before .before .before .before .before .before .args .rect .top + c .before .before .loop .y) * c .before .before .before .before .before .before .before .before .before .before .args .stride + (c .before .before .before .before .before .before .before .before .before .before .args .rect .left + c .before .before .before .before .before .before .before .before .before .before .args .rect .width) ≤ length (c .before .before .before .before .before .before .before .before .before .before .args .picture .now)
+room c = row-room (c .before .before .before .before .before .before .before .before .before .before .pre .inside) _ (c .if1 .taken)
 
 add-a : tie.Need-add-a Inv-loop μ-loop
-add-a c = omega (arith, bottom-room (c .before .before .before .before .before .before .before .before .before .before .pre .inside))
+add-a c = omega (arith, bottom-room (c .before .before .before .before .before .before .before .before .before .before .before .pre .inside))
 
 mul-a : tie.Need-mul-a Inv-loop μ-loop
 mul-a c = omega (arith, room (c .before))
@@ -49,9 +52,9 @@ mul-count-row : tie.Need-mul-count-row Inv-loop μ-loop
 mul-count-row c =
     scaled-fits
     _
-    (length (c .before .before .before .before .before .before .before .before .before .before .before .before .args .picture .now))
+    (length (c .before .before .before .before .before .before .before .before .before .before .before .before .before .args .picture .now))
     2
-    (omega (arith, room (c .before .before .before), some-width (c .before .before .before .before .before .before .before .before .before .before .before .before .pre .inside)))
+    (omega (arith, room (c .before .before .before), some-width (c .before .before .before .before .before .before .before .before .before .before .before .before .before .pre .inside)))
     (search needs)
 
 sub-count-row : tie.Need-sub-count-row Inv-loop μ-loop
@@ -64,7 +67,7 @@ part-count-row-end : tie.Need-part-count-row-end Inv-loop μ-loop
 part-count-row-end c = omega (arith, room (c .before .before .before))
 
 count-row-requires : tie.Need-count-row-requires Inv-loop μ-loop
-count-row-requires c κs = row-asks _ _ _ _ _ _ _ _ (c .before .before .before .before .before .before .before .before .before .before .before .before .before .before .pre) (c .before .before .before .before .before .before .before .before .before .before .clear .ensures) (c .before .before .before .before .before .before .before .loop .inv .2) (c .before .before .before .before .before .if1 .taken)
+count-row-requires c κs = row-asks _ _ _ _ _ _ _ _ (c .before .before .before .before .before .before .before .before .before .before .before .before .before .before .before .pre) (c .before .before .before .before .before .before .before .before .bin-factor .ensures) (c .before .before .before .before .before .before .before .before .before .before .before .clear .ensures) (c .before .before .before .before .before .before .before .loop .inv .2) (c .before .before .before .before .before .if1 .taken)
 
 add-y : tie.Need-add-y Inv-loop μ-loop
 add-y c = search needs
@@ -73,13 +76,13 @@ loop-less : tie.Need-loop-less Inv-loop μ-loop
 loop-less c = search needs
 
 loop-again : tie.Need-loop-again Inv-loop μ-loop
-loop-again c = (search needs, search needs, rows-next _ _ _ _ _ _ (c .before .before .before .before .before .before .before .before .before .before .loop .inv .2) (part-row _ _ _ (c .before .before .before .before .before .before .before .before .before .before .before .before .before .before .before .before .before .pre .inside) _ (c .before .before .before .before .before .before .before .before .if1 .taken)) (c .before .before .count-row .ensures))
+loop-again c = (search needs, search needs, rows-next _ _ _ _ _ _ (c .before .before .before .before .before .before .before .before .before .before .loop .inv .2) (part-row _ _ _ (c .before .before .before .before .before .before .before .before .before .before .before .before .before .before .before .before .before .before .pre .inside) _ (c .before .before .before .before .before .before .before .before .if1 .taken)) (c .before .before .count-row .ensures))
 
 same-length : tie.Need-same-length Inv-loop μ-loop
 same-length c = search needs
 
 returns : tie.Need-returns Inv-loop μ-loop
-returns c = rows-end _ _ _ _ _ _ _ _ (c .before .before .before .before .before .clear .ensures) (c .before .before .loop .inv .2) (search needs) (search needs)
+returns c = rows-end _ _ _ _ _ _ _ _ (c .before .before .before .before .before .before .clear .ensures) (c .before .before .loop .inv .2) (search needs) (search needs)
 
 pub count-spec : {M : Type 1} → statement M
 count-spec =
@@ -88,6 +91,7 @@ count-spec =
     Inv-loop
     μ-loop
     clear-requires
+    bin-factor-requires
     loop-holds
     add-a
     mul-a
