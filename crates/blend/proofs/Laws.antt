@@ -3,13 +3,15 @@
 use Prim.Native.Nat.{ℕ, _+_, _-_, _*_, _/_, _%_, _≤_, _<_}
 use mathlib.Core.Logic.{_≢_}
 use mathlib.Core.Bool.{Bool, true, false}
-use mathlib.Core.Path.{_≡_, refl, sym, ap, _∙_}
+use mathlib.Core.Path.{_≡_, refl, sym, ap, ap₂, _∙_}
+use lib.Arith.{digits-div, digits-mod}
 use lib.Dec.{ltb, eqb}
 use borrow.Author.Tests.{lt-ltb, le-ltb, eq-eqb, ne-eqb, eqb-true, eqb-false, ltb-true, ltb-false}
-use native.Mathlib.Nat.{mul-comm, mul-assoc, add-mul, zero-mul, mul-le-mul-left, mul-le-mul-right, mod-lt, div-lt-iff-lt-mul, le-div-iff-mul-le, mul-div-cancel-left, mul-pos, div-le-of-le-mul, le-refl}
+use native.Mathlib.Nat.{mul-comm, mul-assoc, add-mul, zero-mul, mul-le-mul-left, mul-le-mul-right, mod-lt, div-lt-iff-lt-mul, le-div-iff-mul-le, mul-div-cancel-left, mul-pos, div-le-of-le-mul, le-refl, div-mul-le-self, one-mul, mul-le-mul, div-add-mod', div-le-self, mul-one, mul-add}
 use native.Mathlib.Omega.{arith}
 use Rattle.blend.specs.declared.Place.{Place}
-use Rattle.blend.specs.Blend.{half, alone, between, pickPlace, placeOf, greyOf, Sound}
+use Rattle.blend.specs.Blend.{half, alone, between, pickPlace, placeOf, weighedOf, greyOf, Sound, Factor, moved, Run}
+use Rattle.lists.proofs.Inverses.{by-inverse}
 
 -- ---- places
 
@@ -132,3 +134,187 @@ module _ {grid most grid′ most′ : ℕ} {column row : Place} (i : Sound grid 
 -- a sound place is sound under wider bounds
 pub sound-wider : {grid most grid′ most′ : ℕ} {p : Place} → Sound grid most p → grid ≤ grid′ → most ≤ most′ → Sound grid′ most′ p
 sound-wider i g m = record { weights = i .weights; some = i .some; bound = omega arith; lower = omega arith; upper = omega arith }
+
+-- ---- a factor in place of the division
+
+-- the weighed sum of four values of at most `hi`, against what it is divided by
+pub weighed-most : {grid most grid′ most′ : ℕ} {column row : Place} {hi a b c d : ℕ} → Sound grid most column → Sound grid′ most′ row
+    → a ≤ hi → b ≤ hi → c ≤ hi → d ≤ hi → weighedOf column row a b c d ≤ column .span * row .span * hi
+weighed-most {column = column} {row = row} {hi = hi} {a = a} {b = b} {c = c} {d = d} i j ha hb hc hd =
+    rw (← spans-times (column .span) (row .span) hi)
+    (mean-most (row .lowerweight) (row .upperweight) (row .span) _ _ (column .span * hi) (j .weights)
+    (mean-most (column .lowerweight) (column .upperweight) (column .span) a b hi (i .weights) ha hb)
+    (mean-most (column .lowerweight) (column .upperweight) (column .span) c d hi (i .weights) hc hd))
+
+-- the weighed sum times the factor stays in 64 bits
+pub factor-room : (n d f : ℕ) → n ≤ d * 4095 → 0 < f → Factor d f → n * f ≤ 4095 * 281474976972800
+factor-room n d f h k i =
+    let e : f ≡ 281474976710656 / d + 1 = i .inverse k in
+    let s : d ≤ 262144 = i .small k in
+    let u : (281474976710656 / d + 1) * d ≤ 281474976972800 = rw (add-mul (281474976710656 / d) 1 d) (omega (arith, div-mul-le-self 281474976710656 d, one-mul d)) in
+    let v : n * f ≤ d * 4095 * f = mul-le-mul-right f h in
+    let w : d * 4095 * f ≡ 4095 * (f * d) = ap (λ t. t * f) (mul-comm d 4095) ∙ mul-assoc 4095 d f ∙ ap (λ t. 4095 * t) (mul-comm d f) in
+    let y : f * d ≤ 281474976972800 = rw e u in
+    omega arith
+
+-- and gives the quotient
+pub factor-divides : (n d f : ℕ) → n ≤ d * 4095 → 0 < d → 0 < f → Factor d f → n * f / 281474976710656 ≡ n / d
+factor-divides n d f h l k i =
+    let s : d ≤ 262144 = i .small k in
+    let v : n * d ≤ d * 4095 * d = mul-le-mul-right d h in
+    let w : d * 4095 * d ≡ 4095 * (d * d) = ap (λ t. t * d) (mul-comm d 4095) ∙ mul-assoc 4095 d d in
+    let y : d * d ≤ 262144 * 262144 = mul-le-mul s s in
+    ap (λ t. n * t / 281474976710656) (i .inverse k) ∙ by-inverse 281474976710656 n d l (omega arith)
+
+-- ---- columns between the same tiles
+
+-- a column below half, at the last tile, or between two tiles
+pub record Cases (side grid x : ℕ) (p : Place) (R : Type 0) : Type 0 where
+  pub first : x < half side → p ≡ alone side 0 → R
+  pub last : half side ≤ x → (x - half side) / side + 1 ≡ grid → p ≡ alone side ((x - half side) / side) → R
+  pub inner : half side ≤ x → (x - half side) / side + 1 ≢ grid → p ≡ between side ((x - half side) / side) ((x - half side) % side) → R
+
+-- each place is one of the three
+pub by-cases : (side grid x : ℕ) {p : Place} {R : Type 0} → p ≡ placeOf side grid x → Cases side grid x p R → R
+by-cases side grid x {p} {R} e t = near (ltb x (half side)) refl
+  where
+    k : ℕ
+    k = (x - half side) / side
+
+    far : half side ≤ x → (b : Bool) → eqb (k + 1) grid ≡ b → R
+    far l true q = t .last l (eqb-true (k + 1) grid q) (e ∙ place-last side grid x l (eqb-true (k + 1) grid q))
+    far l false q = t .inner l (eqb-false (k + 1) grid q) (e ∙ place-between side grid x l (eqb-false (k + 1) grid q))
+
+    near : (b : Bool) → ltb x (half side) ≡ b → R
+    near true q = t .first (ltb-true x (half side) q) (e ∙ place-first side grid x (ltb-true x (half side) q))
+    near false q = far (ltb-false x (half side) q) (eqb (k + 1) grid) refl
+
+-- j columns on between the same two tiles
+pub inner-moved : (side grid x j : ℕ) → half side ≤ x → (x - half side) / side + 1 ≢ grid → (x - half side) % side + j < side
+    → placeOf side grid (x + j) ≡ moved (between side ((x - half side) / side) ((x - half side) % side)) j
+inner-moved side grid x j l n r =
+    place-between side grid (x + j) (omega arith) (λ q. n (ap (λ z. z + 1) (sym d) ∙ q))
+    ∙ ap₂ (between side) d m
+    ∙ ap (λ z. record { lower = k; upper = k + 1; lowerweight = z; upperweight = o + j; span = side }) apart
+  where
+    k : ℕ
+    k = (x - half side) / side
+
+    o : ℕ
+    o = (x - half side) % side
+
+    parts : x + j - half side ≡ k * side + (o + j)
+    parts = omega (arith, div-add-mod' (x - half side) side)
+
+    d : (x + j - half side) / side ≡ k
+    d = ap (λ z. z / side) parts ∙ digits-div k r
+
+    m : (x + j - half side) % side ≡ o + j
+    m = ap (λ z. z % side) parts ∙ digits-mod k r
+
+    apart : side - (o + j) ≡ side - o - j
+    apart = omega arith
+
+-- from tile k, the last one, on: it is used alone
+pub last-stays : (side grid x k : ℕ) → 0 < side → x < side * grid → k + 1 ≡ grid → half side ≤ x → k ≤ (x - half side) / side → placeOf side grid x ≡ alone side k
+last-stays side grid x k s h e l m =
+    let same : (x - half side) / side ≡ k = omega (arith, tile-below side grid x s h) in
+    place-last side grid x l (omega arith) ∙ ap (alone side) same
+
+-- the run between two tiles
+pub run-two : (side grid x : ℕ) {p : Place} → 0 < side → p ≡ placeOf side grid x → p .lower < p .upper → Run side grid x p (p .lowerweight)
+run-two side grid x {p} s e l =
+    by-cases side grid x e
+    record {
+      first = λ h q. absurd (omega (arith, ap (λ z. z .lower) q, ap (λ z. z .upper) q));
+      last = λ h n q. absurd (omega (arith, ap (λ z. z .lower) q, ap (λ z. z .upper) q));
+      inner = λ h n q.
+          let o : p .lowerweight ≡ side - (x - half side) % side = ap (λ z. z .lowerweight) q in
+          let b : (x - half side) % side < side = mod-lt (x - half side) s in
+          record {
+            some = omega arith;
+            most = le-refl (p .lowerweight);
+            two = λ _ j k. inner-moved side grid x j h n (omega arith) ∙ ap (λ z. moved z j) (sym q);
+            one = λ k. absurd (omega arith);
+          };
+    }
+
+-- the run of the last tile, to the film's edge
+pub run-last : (side grid x : ℕ) {p : Place} → 0 < side → x < side * grid → p ≡ placeOf side grid x → p .upper ≤ p .lower → p .lower + 1 ≡ grid
+    → Run side grid x p (side * grid - x)
+run-last side grid x {p} s h e l g =
+    by-cases side grid x e
+    record {
+      first = λ k q.
+          let o : 1 ≡ grid = ap (λ z. z .lower + 1) (sym q) ∙ g in
+          run (alone side 0) q refl (omega (arith, ap (λ z. side * z) (sym o), mul-one side)) (λ j m. near (ltb (x + j) (half side)) refl o m);
+      last = λ k n q.
+          let t : ℕ = (x - half side) / side in
+          let w : side * grid ≡ side * t + side = ap (λ z. side * z) (sym n) ∙ mul-add side t 1 ∙ ap (λ z. side * t + z) (mul-one side) in
+          run (alone side t) q refl (omega (arith, mul-comm side t, div-mul-le-self (x - half side) side))
+          (λ j m. last-stays side grid (x + j) t s (omega arith) n (omega arith) (le-div-iff-mul-le s .1 (omega (arith, div-mul-le-self (x - half side) side))));
+      inner = λ k n q. absurd (n (ap (λ z. z .lower + 1) (sym q) ∙ g));
+    }
+  where
+    near : {j : ℕ} (b : Bool) → ltb (x + j) (half side) ≡ b → 1 ≡ grid → j < side * grid - x → placeOf side grid (x + j) ≡ alone side 0
+    near {j} true q o m = place-first side grid (x + j) (ltb-true (x + j) (half side) q)
+    near {j} false q o m = last-stays side grid (x + j) 0 s (omega arith) o (ltb-false (x + j) (half side) q) (omega arith)
+
+    run : (t : Place) → p ≡ t → t .lower ≡ t .upper → side * grid - x ≤ t .lowerweight → ((j : ℕ) → j < side * grid - x → placeOf side grid (x + j) ≡ t) → Run side grid x p (side * grid - x)
+    run t q u m f =
+        record {
+          some = omega arith;
+          most = rw q m;
+          two = λ k. absurd (omega arith);
+          one = λ k. (omega (arith, ap (λ z. z .lower) q, ap (λ z. z .upper) q), λ j r. f j r ∙ sym q);
+        }
+
+-- the run of the first tile, to half
+pub run-first : (side grid x : ℕ) {p : Place} → p ≡ placeOf side grid x → p .upper ≤ p .lower → p .lower + 1 ≢ grid
+    → (x < half side) × Run side grid x p (half side - x)
+run-first side grid x {p} e l g =
+    by-cases side grid x e
+    record {
+      first = λ k q.
+          let o : p .lowerweight ≡ side = ap (λ z. z .lowerweight) q in (
+            k,
+            record {
+              some = omega arith;
+              most = omega (arith, div-le-self side 2);
+              two = λ n. absurd (omega arith);
+              one = λ n. (omega (arith, ap (λ z. z .lower) q, ap (λ z. z .upper) q), λ j r. place-first side grid (x + j) (omega arith) ∙ sym q);
+            },
+          );
+      last = λ k n q. absurd (g (ap (λ z. z .lower + 1) q ∙ n));
+      inner = λ k n q. absurd (omega (arith, ap (λ z. z .lower) q, ap (λ z. z .upper) q));
+    }
+
+-- the film's columns are few
+pub column-small : {side grid x : ℕ} → side ≤ 2048 → grid ≤ 16 → x < side * grid → side * grid ≤ 32768
+column-small s g h = omega (arith, mul-le-mul s g)
+
+-- a place's span is the side
+pub place-span : (side grid x : ℕ) → placeOf side grid x .span ≡ side
+unfolding placeOf
+place-span side grid x =
+    picked (ltb x (half side)) _ _ refl
+    (picked (eqb ((x - half side) / side + 1) grid) _ _ refl refl)
+  where
+    picked : (b : Bool) (p q : Place) → p .span ≡ side → q .span ≡ side → pickPlace b p q .span ≡ side
+    picked true p q e f = e
+    picked false p q e f = f
+
+-- a sound place moved along is sound
+pub moved-sound : {grid most : ℕ} {p : Place} (j : ℕ) → Sound grid most p → j ≤ p .lowerweight → Sound grid most (moved p j)
+moved-sound j i l = record { weights = omega (arith, i .weights); some = i .some; bound = i .bound; lower = i .lower; upper = i .upper }
+
+-- where both sides have the same values the weights may move: the grey stays
+pub grey-moved : (p row : Place) (j a c : ℕ) → j ≤ p .lowerweight → greyOf (moved p j) row a a c c ≡ greyOf p row a a c c
+unfolding greyOf
+grey-moved p row j a c l = ap₂ (λ u v. (row .lowerweight * u + row .upperweight * v) / (p .span * row .span)) (same a) (same c)
+  where
+    sums : p .lowerweight - j + (p .upperweight + j) ≡ p .lowerweight + p .upperweight
+    sums = omega arith
+
+    same : (v : ℕ) → (p .lowerweight - j) * v + (p .upperweight + j) * v ≡ p .lowerweight * v + p .upperweight * v
+    same v = sym (add-mul (p .lowerweight - j) (p .upperweight + j) v) ∙ ap (λ z. z * v) sums ∙ add-mul (p .lowerweight) (p .upperweight) v

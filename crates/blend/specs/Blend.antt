@@ -32,6 +32,12 @@ placeOf side grid x =
     (pickPlace (eqb ((x - half side) / side + 1) grid) (alone side ((x - half side) / side))
     (between side ((x - half side) / side) ((x - half side) % side)))
 
+-- "(th - p)((tw - o)A + oB') + p((tw - o)C + oD)", a b c d the mapped values upper left, upper right, lower left, lower right
+abbrev pub weighedOf : Place → Place → ℕ → ℕ → ℕ → ℕ → ℕ
+weighedOf column row a b c d =
+    row .lowerweight * (column .lowerweight * a + column .upperweight * b)
+    + row .upperweight * (column .lowerweight * c + column .upperweight * d)
+
 -- "floor(((th - p)((tw - o)A + oB') + p((tw - o)C + oD)) / (tw x th))", a b c d the mapped values upper left, upper right, lower left, lower right
 unfoldable pub greyOf : Place → Place → ℕ → ℕ → ℕ → ℕ → ℕ
 greyOf column row a b c d =
@@ -46,3 +52,19 @@ pub record Sound (grid most : ℕ) (p : Place) : Type 0 where
   pub bound : p .span ≤ most
   pub lower : p .lower < grid
   pub upper : p .upper < grid
+
+-- what stands for a division by d = tw x th: floor(2^48 / d) + 1 where d is at most 2^18, or else 0, for none
+pub record Factor (spans factor : ℕ) : Type 0 where
+  pub small : 0 < factor → spans ≤ 262144
+  pub inverse : 0 < factor → factor ≡ 281474976710656 / spans + 1
+
+-- the place j columns on between the same tiles: "weights tw - o and o", o being j more
+abbrev pub moved : Place → ℕ → Place
+moved p j = record { lower = p .lower; upper = p .upper; lowerweight = p .lowerweight - j; upperweight = p .upperweight + j; span = p .span }
+
+-- n columns from x on have the tiles of x: between two tiles the weights move along, and a tile used alone stays alone
+pub record Run (side grid x : ℕ) (p : Place) (n : ℕ) : Type 0 where
+  pub some : 0 < n
+  pub most : n ≤ p .lowerweight
+  pub two : p .lower < p .upper → (j : ℕ) → j < n → placeOf side grid (x + j) ≡ moved p j
+  pub one : p .upper ≤ p .lower → (p .upper ≡ p .lower) × ((j : ℕ) → j < n → placeOf side grid (x + j) ≡ p)

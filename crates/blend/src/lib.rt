@@ -1,7 +1,7 @@
 // Where a column or a row stands between two tile centres, and the grey of a pixel from four mapped values.
 ghost use mathlib.Core.Path.{_≡_};
 ghost use Prim.Native.Nat.{_*_, _≤_, _<_};
-ghost use Rattle.blend.specs.Blend.{placeOf, greyOf, Sound};
+ghost use Rattle.blend.specs.Blend.{placeOf, weighedOf, greyOf, Sound, Factor, Run};
 
 // A column's or a row's place: the tiles below and above it, the weight of each, and the span that the weights add up to.
 pub struct Place {
@@ -47,13 +47,58 @@ pub fn locate(side: u32, grid: u32, x: u32) -> Place
     }
 }
 
+// How many columns (or rows) from x on lie between the tiles of x, whose place this is: 1 at least, and no more than the lower weight.
+pub fn run(place: Place, side: u32, grid: u32, x: u32) -> u32
+    requires { ⌜ (0 < side) × (side ≤ 2048) × (x < side * grid) × (grid ≤ 16) × (place ≡ placeOf side grid x) ⌝ }
+    ensures { λ r. ⌜ Run side grid x place r ⌝ }
+{
+    if place.lower < place.upper {
+        return place.lowerweight;
+    }
+    if place.lower + 1 == grid {
+        return side * grid - x;
+    }
+    side / 2 - x
+}
+
+// The four mapped values of a pixel's bin, each by its weight, added up.
+fn weigh(column: Place, row: Place, a: u32, b: u32, c: u32, d: u32) -> u64
+    requires { ⌜ Sound 16 2048 column × Sound 16 2048 row × (a ≤ 4095) × (b ≤ 4095) × (c ≤ 4095) × (d ≤ 4095) ⌝ }
+    ensures { λ r. ⌜ r ≡ weighedOf column row a b c d ⌝ }
+{
+    let upper = (column.lowerweight as u64) * (a as u64) + (column.upperweight as u64) * (b as u64);
+    let lower = (column.lowerweight as u64) * (c as u64) + (column.upperweight as u64) * (d as u64);
+    (row.lowerweight as u64) * upper + (row.upperweight as u64) * lower
+}
+
 // The grey of a pixel: the four mapped values of its bin, each by its weight.
 pub fn grey(column: Place, row: Place, a: u32, b: u32, c: u32, d: u32) -> u32
     requires { ⌜ Sound 16 2048 column × Sound 16 2048 row × (a ≤ 4095) × (b ≤ 4095) × (c ≤ 4095) × (d ≤ 4095) ⌝ }
     ensures { λ r. ⌜ r ≡ greyOf column row a b c d ⌝ }
 {
-    let upper = (column.lowerweight as u64) * (a as u64) + (column.upperweight as u64) * (b as u64);
-    let lower = (column.lowerweight as u64) * (c as u64) + (column.upperweight as u64) * (d as u64);
-    let weighed = (row.lowerweight as u64) * upper + (row.upperweight as u64) * lower;
+    let weighed = weigh(column, row, a, b, c, d);
     (weighed / ((column.span as u64) * (row.span as u64))) as u32
+}
+
+// The factor that stands for a division by the product of two spans; 0 for spans so large that a product with it could leave 64 bits.
+pub fn factor(spans: u64) -> u64
+    requires { ⌜ 0 < spans ⌝ }
+    ensures { λ r. ⌜ Factor spans r ⌝ }
+{
+    if 262144 < spans {
+        return 0;
+    }
+    281474976710656 / spans + 1
+}
+
+// The grey of a pixel, by the factor of its spans: a product and a shift in place of the division.
+pub fn grey_by(column: Place, row: Place, factor: u64, a: u32, b: u32, c: u32, d: u32) -> u32
+    requires { ⌜ Sound 16 2048 column × Sound 16 2048 row × Factor (column .span * row .span) factor × (a ≤ 4095) × (b ≤ 4095) × (c ≤ 4095) × (d ≤ 4095) ⌝ }
+    ensures { λ r. ⌜ r ≡ greyOf column row a b c d ⌝ }
+{
+    if factor == 0 {
+        return grey(column, row, a, b, c, d);
+    }
+    let weighed = weigh(column, row, a, b, c, d);
+    (weighed * factor / 281474976710656) as u32
 }

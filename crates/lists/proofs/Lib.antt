@@ -9,3 +9,4 @@ pub mod Overs
 pub mod Windows
 pub mod Maps
 pub mod Inverses
+pub mod Steps

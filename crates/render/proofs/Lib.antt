@@ -1,4 +1,5 @@
 pub mod Pixels
+pub mod Runs
 pub mod Rows
 pub mod Strips
 pub mod Laws

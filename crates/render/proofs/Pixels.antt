@@ -13,8 +13,8 @@ use native.Mathlib.Omega.{arith}
 use borrow.Author.Tests.{lt-leb}
 use Rattle.lists.specs.Lists.{all}
 use Rattle.lists.proofs.Alls.{all-at}
-use Rattle.tile.specs.Tile.{within, binOf}
-use Rattle.tile.proofs.Bins.{within-low, within-high, within-both, bin-below}
+use Rattle.tile.specs.Tile.{within, binOf, factorOf, binBy}
+use Rattle.tile.proofs.Bins.{within-low, within-high, within-both, bin-below, bin-by}
 use Rattle.blend.specs.declared.Place.{Place}
 use Rattle.blend.specs.Blend.{greyOf, Sound}
 use Rattle.blend.proofs.Laws.{grey-least, grey-most}
@@ -111,6 +111,12 @@ pixel-within {s} {m} {column} {row} {v} asks =
 
     c′ : column .upper < s .across
     c′ = asks .column .upper
+
+-- the pixel's bin by the factor of the bin width
+pub bin-is : {s : Settings} {m : List ℕ} {column row : Place} {v f k : ℕ} → PixelAsks s m column row v → f ≡ factorOf (s .min) (s .max) (binsOf s) → k ≡ binBy (s .min) f v
+    → k ≡ binOf (s .min) (s .max) (binsOf s) v
+bin-is {s} {m} {column} {row} {v} asks e q =
+    q ∙ ap (λ n. binBy (s .min) n v) e ∙ bin-by (s .min) (s .max) (binsOf s) v (asks .grey) (asks .most) (omega (arith, asks .bins))
 
 -- what the mapped value of the pixel's bin in tile row j and tile column i asks, the bins and the bin as they were worked out
 pub corner-asks : {s : Settings} {m : List ℕ} {column row : Place} {v b k : ℕ} → PixelAsks s m column row v → b ≡ binsOf s → k ≡ binOf (s .min) (s .max) b v

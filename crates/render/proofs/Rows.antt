@@ -1,26 +1,29 @@
--- The turns of `render_row`: each pixel of a row is rendered in its place.
+-- The turns of `render_row`: each pixel of a row is rendered in its place, run by run.
 -- Assumes nothing.
 use Prim.Native.Nat.{ℕ, zero, suc, _+_, _-_, _*_, _/_, _≤_, _<_}
 use mathlib.Core.Bool.{Bool, true, false}
 use mathlib.Core.List.{List, []}
 use mathlib.Core.Path.{_≡_, refl, sym, ap, ap₂, _∙_}
-use lib.ListN.{length, getD, set, drop}
-use native.Mathlib.Nat.{div-zero}
+use lib.ListN.{length, getD, take, drop, length-drop}
+use lib.Seq.{getD-take, getD-drop, length-take-le}
+use borrow.Rule.Slice.PartMut.{putMid}
+use native.Mathlib.Nat.{div-zero, mul-pos, mul-le-mul}
 use native.Mathlib.Omega.{arith}
 use Rattle.lists.specs.Lists.{tab, all, filled}
-use Rattle.lists.proofs.Fills.{filled-step, filled-end}
-use Rattle.lists.proofs.Tallies.{filled-tab}
-use Rattle.lists.proofs.Windows.{getD-behind, filled-whole}
-use Rattle.lists.proofs.Alls.{all-at}
+use Rattle.lists.proofs.Steps.{drop-filled, filled-part}
+use Rattle.lists.proofs.Tabs.{tab-cong}
+use Rattle.lists.proofs.Fills.{filled-none, filled-end}
+use Rattle.lists.proofs.Windows.{filled-whole}
+use Rattle.lists.proofs.Alls.{all-at, all-drop, all-take}
 use Rattle.tile.specs.Tile.{within}
-use Rattle.tile.proofs.Bins.{within-high}
+use Rattle.tile.proofs.Bins.{within-low, within-high}
 use Rattle.blend.specs.declared.Place.{Place}
-use Rattle.blend.specs.Blend.{placeOf, Sound}
-use Rattle.blend.proofs.Laws.{place-sound, sound-wider}
+use Rattle.blend.specs.Blend.{placeOf, Sound, Factor, moved, Run}
+use Rattle.blend.proofs.Laws.{place-sound, place-span, sound-wider}
 use Rattle.settings.specs.declared.Settings.{Settings}
 use Rattle.settings.specs.Settings.{tileWidth, tileHeight}
-use Rattle.render.specs.Render.{pixelOf, renderedOf, rowOf, Mapped, PixelAsks, RowAsks}
-use Rattle.render.proofs.Pixels.{pixel-within}
+use Rattle.render.specs.Render.{pixelOf, renderedOf, runOf, rowOf, Mapped, PixelAsks, RunAsks, RowAsks}
+use Rattle.render.proofs.Runs.{run-pixel}
 
 -- a quotient above 0 is one by a number above 0
 pub divisor-some : (n k : ℕ) → 0 < n / k → 0 < k
@@ -70,6 +73,22 @@ module _ {w h : ℕ} {s : Settings} {m : List ℕ} (mapped : Mapped w h s m) whe
         grey = g;
       }
 
+  -- a tile has pixels, and not too many
+  pub spans-some : 0 < w / s .across * (h / s .down)
+  spans-some = mul-pos (mapped .wide) (mapped .high)
+
+  pub spans-most : w / s .across * (h / s .down) ≤ 4194304
+  spans-most = omega (arith, mul-le-mul (mapped .widest) (mapped .highest))
+
+  -- a film is not too wide
+  pub width-most : w ≤ 32768
+  width-most = omega (arith, mapped .columns, mul-le-mul (mapped .widest) (mapped .acrossmost))
+
+-- the factor of a tile's pixels is that of each pixel's spans
+pub spans-by : (side high across down x y : ℕ) {by : ℕ} {column row : Place} → Factor (side * high) by → column ≡ placeOf side across x → row ≡ placeOf high down y
+    → Factor (column .span * row .span) by
+spans-by side high across down x y f p q = rw (p, q, place-span side across x, place-span high down y) f
+
 -- ---- the turns
 
 -- the rendered grey of the row's pixel i
@@ -77,37 +96,65 @@ abbrev pub shown : ℕ → ℕ → Settings → List ℕ → ℕ → ℕ → Lis
 shown w h s m left y vs i = renderedOf w h s m (left + i) y (getD vs i 0)
 
 module _ {w h : ℕ} {s : Settings} {m : List ℕ} {left y : ℕ} {vs : List ℕ} (asks : RowAsks w h s m left y vs) where
-  -- what pixel i asks, its grey and its places as they were read and worked out
-  pub turn-asks : {px : List ℕ} {i : ℕ} {column row : Place} → px ≡ filled (shown w h s m left y vs) vs i → i < length vs
-      → column ≡ placeOf (tileWidth w s) (s .across) (left + i) → row ≡ placeOf (tileHeight h s) (s .down) y
-      → PixelAsks s m column row (getD px i 0)
-  turn-asks {px} {i} {column} {row} e l p q =
-      let same : getD px i 0 ≡ getD vs i 0 = ap (λ t. getD t i 0) e ∙ getD-behind (shown w h s m left y vs) vs i i (omega arith) in
-      rw (same, p, q) (pixel-asks (asks .mapped) (omega (arith, asks .across)) (asks .down) (all-at (within (s .min) (s .max)) vs (asks .greys) i 0 l))
+  -- a row of a pixel at least begins inside the film
+  pub begins : 0 < length vs → left < w
+  begins l = omega (arith, asks .across)
 
-  -- its rendered grey
-  pub turn-is : {px : List ℕ} {i r : ℕ} {column row : Place} → px ≡ filled (shown w h s m left y vs) vs i → i < length vs
-      → column ≡ placeOf (tileWidth w s) (s .across) (left + i) → row ≡ placeOf (tileHeight h s) (s .down) y
-      → r ≡ pixelOf s m column row (getD px i 0) → r ≡ shown w h s m left y vs i
-  unfolding renderedOf
-  turn-is {px} {i} {r} {column} {row} e l p q k =
-      let same : getD px i 0 ≡ getD vs i 0 = ap (λ t. getD t i 0) e ∙ getD-behind (shown w h s m left y vs) vs i i (omega arith) in
-      k ∙ rw (same, p, q) refl
+  -- and Min is not above Max
+  pub range-some : 0 < length vs → s .min ≤ s .max
+  range-some l =
+      let g : within (s .min) (s .max) (getD vs 0 0) ≡ true = all-at (within (s .min) (s .max)) vs (asks .greys) 0 0 l in
+      omega (arith, within-low (s .min) (s .max) (getD vs 0 0) g, within-high (s .min) (s .max) (getD vs 0 0) g)
 
-  -- it is at most 4095
-  pub turn-small : {px : List ℕ} {i r : ℕ} {column row : Place} → px ≡ filled (shown w h s m left y vs) vs i → i < length vs
-      → column ≡ placeOf (tileWidth w s) (s .across) (left + i) → row ≡ placeOf (tileHeight h s) (s .down) y
-      → r ≡ pixelOf s m column row (getD px i 0) → r ≤ 4095
-  turn-small e l p q k = omega (arith, within-high _ _ _ (pixel-within (turn-asks e l p q)), asks .mapped .most)
+  -- the part that a run renders is as it was
+  pub part-is : {px : List ℕ} (i e : ℕ) → px ≡ filled (shown w h s m left y vs) vs i → take (e - i) (drop i px) ≡ take (e - i) (drop i vs)
+  part-is {px} i e p = ap (take (e - i)) (ap (drop i) p ∙ drop-filled (shown w h s m left y vs) vs i)
 
-  -- one pixel more
-  pub turn-next : {px : List ℕ} {i r : ℕ} {column row : Place} → px ≡ filled (shown w h s m left y vs) vs i → i < length vs
-      → column ≡ placeOf (tileWidth w s) (s .across) (left + i) → row ≡ placeOf (tileHeight h s) (s .down) y
-      → r ≡ pixelOf s m column row (getD px i 0) → set px i r ≡ filled (shown w h s m left y vs) vs (i + 1)
-  turn-next e l p q k = filled-step _ _ e l (turn-is e l p q k)
+  -- and is as long as it was cut
+  pub part-length : {i e : ℕ} → i ≤ e → e ≤ length vs → length (take (e - i) (drop i vs)) ≡ e - i
+  part-length {i} {e} l k = length-take-le (e - i) (drop i vs) (rw length-drop (omega arith))
+
+  -- what rendering a run asks
+  pub part-asks : {px : List ℕ} {i e n : ℕ} {column row : Place} → px ≡ filled (shown w h s m left y vs) vs i → i < length vs → i ≤ e → e ≤ length vs → e - i ≤ n
+      → column ≡ placeOf (tileWidth w s) (s .across) (left + i) → row ≡ placeOf (tileHeight h s) (s .down) y → Run (tileWidth w s) (s .across) (left + i) column n
+      → RunAsks s m column row (take (e - i) (drop i px))
+  part-asks {px} {i} {e} {n} {column} {row} p l a b c q r run =
+      rw (part-is i e p)
+      record {
+        each = λ v g. rw (q, r) (pixel-asks (asks .mapped) (omega (arith, asks .across)) (asks .down) g);
+        room = omega (arith, part-length a b, run .most);
+        greys = all-take _ (e - i) (drop i vs) (all-drop _ i vs (asks .greys));
+      }
+
+  -- one run more
+  pub part-next : {px ys : List ℕ} {i e n : ℕ} {column row : Place} → px ≡ filled (shown w h s m left y vs) vs i → i ≤ e → e ≤ length vs → e - i ≤ n
+      → row ≡ placeOf (tileHeight h s) (s .down) y → Run (tileWidth w s) (s .across) (left + i) column n
+      → ys ≡ runOf s m column row (take (e - i) (drop i px)) → putMid i (e - i) px ys ≡ filled (shown w h s m left y vs) vs e
+  unfolding runOf renderedOf
+  part-next {px} {ys} {i} {e} {n} {column} {row} p a b c r run q =
+      filled-part (shown w h s m left y vs) vs p a
+      (q ∙ ap (runOf s m column row) (part-is i e p)
+      ∙ ap (λ k. tab k (λ j. pixelOf s m (moved column j) row (getD (take (e - i) (drop i vs)) j 0))) (part-length a b)
+      ∙ tab-cong (e - i) each)
+    where
+      each : (j : ℕ) → j < e - i → pixelOf s m (moved column j) row (getD (take (e - i) (drop i vs)) j 0) ≡ shown w h s m left y vs (i + j)
+      each j l =
+          let at : left + i + j ≡ left + (i + j) = omega arith in
+          ap (pixelOf s m (moved column j) row) (getD-take (e - i) (drop i vs) j 0 l ∙ getD-drop i vs j 0)
+          ∙ run-pixel s m row (getD vs (i + j) 0) run j (omega arith)
+          ∙ ap₂ (λ x z. pixelOf s m (placeOf (tileWidth w s) (s .across) x) z (getD vs (i + j) 0)) at r
+
+  -- what the length of a run asks
+  pub run-asks : {i : ℕ} {column : Place} → i < length vs → column ≡ placeOf (w / s .across) (s .across) (left + i)
+      → (0 < w / s .across) × (w / s .across ≤ 2048) × (left + i < w / s .across * s .across) × (s .across ≤ 16) × (column ≡ placeOf (w / s .across) (s .across) (left + i))
+  run-asks {i} l e = (asks .mapped .wide, asks .mapped .widest, omega (arith, asks .across, asks .mapped .columns), asks .mapped .acrossmost, e)
 
 -- the whole row
 pub turns-end : (w h : ℕ) (s : Settings) (m : List ℕ) (left y : ℕ) (vs : List ℕ) {px : List ℕ} {i : ℕ} → px ≡ filled (shown w h s m left y vs) vs i → i ≤ length vs → length vs ≤ i
     → px ≡ rowOf w h s m left y vs
 unfolding rowOf
 turns-end w h s m left y vs e l k = filled-end _ _ e l k ∙ filled-whole (shown w h s m left y vs) vs
+
+-- a row of no pixels
+pub turns-none : (w h : ℕ) (s : Settings) (m : List ℕ) (left y : ℕ) (vs : List ℕ) → length vs ≡ 0 → vs ≡ rowOf w h s m left y vs
+turns-none w h s m left y vs e = turns-end w h s m left y vs {i = 0} (filled-none _ _) (omega arith) (omega arith)

@@ -10,7 +10,7 @@ use Rattle.lists.specs.Lists.{tab, joined, all}
 use Rattle.tile.specs.Tile.{binOf, within}
 use Rattle.tile.specs.declared.Rect.{Rect}
 use Rattle.blend.specs.declared.Place.{Place}
-use Rattle.blend.specs.Blend.{placeOf, greyOf, Sound}
+use Rattle.blend.specs.Blend.{placeOf, greyOf, Sound, moved}
 use Rattle.settings.specs.declared.Settings.{Settings}
 use Rattle.settings.specs.declared.Window.{Window}
 use Rattle.settings.specs.Settings.{binsOf, entriesOf, tileWidth, tileHeight}
@@ -36,6 +36,10 @@ renderedOf w h s m x y v = pixelOf s m (placeOf (tileWidth w s) (s .across) x) (
 -- a row of rendered pixels from column `left` on; vs are their greys
 unfoldable pub rowOf : ℕ → ℕ → Settings → List ℕ → ℕ → ℕ → List ℕ → List ℕ
 rowOf w h s m left y vs = tab (length vs) (λ i. renderedOf w h s m (left + i) y (getD vs i 0))
+
+-- rendered pixels between the same tiles: vs are their greys, and the weights move along from the first one's place
+unfoldable pub runOf : Settings → List ℕ → Place → Place → List ℕ → List ℕ
+runOf s m column row vs = tab (length vs) (λ i. pixelOf s m (moved column i) row (getD vs i 0))
 
 -- "the window's pixels row by row": vs are the greys of the window's pixels, row by row
 unfoldable pub renderOf : ℕ → ℕ → Settings → List ℕ → Window → List ℕ → List ℕ
@@ -94,4 +98,10 @@ pub record RowAsks (w h : ℕ) (s : Settings) (m : List ℕ) (left y : ℕ) (vs 
   pub mapped : Mapped w h s m
   pub across : left + length vs ≤ w
   pub down : y < h
+  pub greys : all (within (s .min) (s .max)) vs ≡ true
+
+-- what `render_run` asks: what each pixel asks, no more pixels than the weight can move by, and greys from Min to Max
+pub record RunAsks (s : Settings) (m : List ℕ) (column row : Place) (vs : List ℕ) : Type 0 where
+  pub each : (v : ℕ) → within (s .min) (s .max) v ≡ true → PixelAsks s m column row v
+  pub room : length vs ≤ column .lowerweight
   pub greys : all (within (s .min) (s .max)) vs ≡ true

@@ -3,9 +3,10 @@ ghost use mathlib.Core.Path.{_≡_};
 ghost use Prim.Native.Nat.{_*_, _≤_, _<_};
 ghost use lib.ListN.{length};
 ghost use Rattle.lists.specs.Lists.{all};
-ghost use Rattle.tile.specs.Tile.{within};
+ghost use Rattle.tile.specs.Tile.{within, factorOf};
+ghost use Rattle.blend.specs.Blend.{Factor};
 ghost use Rattle.settings.specs.Settings.{binsOf};
-ghost use Rattle.render.specs.Render.{mappedAt, pixelOf, rowOf, renderOf, Mapped, Shown, PixelAsks, RowAsks};
+ghost use Rattle.render.specs.Render.{mappedAt, pixelOf, runOf, rowOf, renderOf, Mapped, Shown, PixelAsks, RunAsks, RowAsks};
 use blend::Place;
 use settings::Settings;
 use settings::Window;
@@ -38,17 +39,54 @@ fn mapped(s: Settings, map: &[u16], j: u32, i: u32, k: u32) -> u32
     map[at] as u32
 }
 
-// The rendered grey of a pixel of grey v at these places.
-fn pixel(s: Settings, map: &[u16], column: Place, row: Place, v: u32) -> u32
-    requires { ⌜ PixelAsks s (now map) column row v ⌝ }
+// The rendered grey of a pixel of grey v at these places; `by` stands for the division by the spans, `bin` for that by the bin width.
+fn pixel(s: Settings, map: &[u16], column: Place, row: Place, by: u64, bin: u32, v: u32) -> u32
+    requires { ⌜ PixelAsks s (now map) column row v × Factor (column .span * row .span) by × (bin ≡ factorOf (s .min) (s .max) (binsOf s)) ⌝ }
     ensures { λ r. ⌜ r ≡ pixelOf s (now (map .entry)) column row v ⌝ }
 {
-    let k = tile::bin(v, s.min, s.max, settings::bins(s));
+    let k = tile::bin_by(v, s.min, bin);
     let a = mapped(s, map, row.lower, column.lower, k);
     let b = mapped(s, map, row.lower, column.upper, k);
     let c = mapped(s, map, row.upper, column.lower, k);
     let d = mapped(s, map, row.upper, column.upper, k);
-    blend::grey(column, row, a, b, c, d)
+    blend::grey_by(column, row, by, a, b, c, d)
+}
+
+// The lesser of two lengths.
+fn lesser(a: usize, b: usize) -> usize
+    ensures { λ r. ⌜ (r ≤ a) × (r ≤ b) × (0 < a → 0 < b → 0 < r) ⌝ }
+{
+    if a < b {
+        return a;
+    }
+    b
+}
+
+// Renders pixels between the same tiles in place: from the first one's place the weights move along.
+fn render_run(
+    pixels: &mut [u16],
+    s: Settings,
+    map: &[u16],
+    column: Place,
+    row: Place,
+    by: u64,
+    bin: u32,
+)
+    requires { ⌜ RunAsks s (now map) column row (now pixels) × Factor (column .span * row .span) by × (bin ≡ factorOf (s .min) (s .max) (binsOf s)) ⌝ }
+    ensures { λ _. ⌜ now (pixels .exit) ≡ runOf s (now (map .entry)) column row (now (pixels .entry)) ⌝ }
+{
+    let mut i = 0;
+    while i < pixels.len() {
+        let place = Place {
+            lower: column.lower,
+            upper: column.upper,
+            lowerweight: column.lowerweight - (i as u32),
+            upperweight: column.upperweight + (i as u32),
+            span: column.span,
+        };
+        pixels[i] = pixel(s, map, place, row, by, bin, pixels[i] as u32) as u16;
+        i += 1;
+    }
 }
 
 // Renders pixels of row y in place, from column `left` on.
@@ -64,13 +102,22 @@ fn render_row(
     requires { ⌜ RowAsks width height s (now map) left y (now pixels) ⌝ }
     ensures { λ _. ⌜ now (pixels .exit) ≡ rowOf width height s (now (map .entry)) left y (now (pixels .entry)) ⌝ }
 {
+    if pixels.len() == 0 {
+        return;
+    }
     let side = width / s.across;
-    let row = blend::locate(height / s.down, s.down, y);
-    let mut i = 0;
-    while i < pixels.len() {
-        let column = blend::locate(side, s.across, left + (i as u32));
-        pixels[i] = pixel(s, map, column, row, pixels[i] as u32) as u16;
-        i += 1;
+    let high = height / s.down;
+    let row = blend::locate(high, s.down, y);
+    let by = blend::factor((side as u64) * (high as u64));
+    let bin = tile::bin_factor(s.min, s.max, settings::bins(s));
+    let mut at = 0;
+    while at < pixels.len() {
+        let x = left + (at as u32);
+        let column = blend::locate(side, s.across, x);
+        let run = blend::run(column, side, s.across, x) as usize;
+        let e = at + lesser(run, pixels.len() - at);
+        render_run(&mut pixels[at..e], s, map, column, row, by, bin);
+        at = e;
     }
 }
 

@@ -1,121 +1,53 @@
--- `blend::grey` meets its contract: sound places keep each weighted sum in 64 bits, and the grey is at most the greatest value.
+-- `blend::grey` meets its contract: the spans are above 0, and the grey is at most the greatest value.
 -- Assumes nothing.
-use Prim.Native.Nat.{_+_, _*_, _≤_}
-use borrow.Author.Needs.{needs}
-use mathlib.Core.Path.{refl}
+use Prim.Native.Nat.{_*_, _/_, _≤_}
+use mathlib.Core.Path.{ap}
 use native.Mathlib.Nat.{mul-le-mul}
 use native.Mathlib.Omega.{arith}
+use borrow.Author.Needs.{needs}
 use Rattle.blend.specs.Blend.{greyOf}
-use Rattle.blend.proofs.Laws.{weigh-most, spans-some, grey-most}
+use Rattle.blend.proofs.Laws.{spans-some, grey-most}
 use Rattle.blend.proofs.grey.Statement.{statement}
 use Rattle.blend.proofs.grey.Tie as tie
 use Rattle.blend.proofs.grey.Reads as reads
 use Rattle.blend.proofs.grey.Lts as lts
+use Rattle.blend.proofs.weigh.Reads as weigh-reads
 
--- the sums' bounds, which keep them in 64 bits
-upper : (c : lts.Start reads.Pre reads.Post) → c .args .column .lowerweight * c .args .a + c .args .column .upperweight * c .args .b ≤ 2048 * 4095
-upper c = weigh-most (c .pre .0) (c .pre .2) (c .pre .3)
-
-lower : (c : lts.Start reads.Pre reads.Post) → c .args .column .lowerweight * c .args .c + c .args .column .upperweight * c .args .d ≤ 2048 * 4095
-lower c = weigh-most (c .pre .0) (c .pre .4) (c .pre .5)
-
-weighed :
-    (c : lts.Start reads.Pre reads.Post)
-    → c .args .row .lowerweight * (c .args .column .lowerweight * c .args .a + c .args .column .upperweight * c .args .b)
-    + c .args .row .upperweight * (c .args .column .lowerweight * c .args .c + c .args .column .upperweight * c .args .d)
-    ≤ 2048 * (2048 * 4095)
-weighed c = weigh-most (c .pre .1) (upper c) (lower c)
-
-greatest : (c : lts.Start reads.Pre reads.Post) → greyOf (c .args .column) (c .args .row) (c .args .a) (c .args .b) (c .args .c) (c .args .d) ≤ 4095
+-- the grey's bound
+greatest : (c : tie.Start) → greyOf (c .args .column) (c .args .row) (c .args .a) (c .args .b) (c .args .c) (c .args .d) ≤ 4095
 greatest c = grey-most (c .pre .0) (c .pre .1) (c .pre .2) (c .pre .3) (c .pre .4) (c .pre .5)
 
-cast-upper : tie.Need-cast-upper
-cast-upper c = search needs
+-- src/lib.rt:111:9
+weigh-requires : tie.Need-weigh-requires
+weigh-requires c κs = c .pre
 
-mul-upper : tie.Need-mul-upper
-mul-upper c = omega (arith, upper (c .before))
-
-cast-upper-2 : tie.Need-cast-upper-2
-cast-upper-2 c = search needs
-
-mul-upper-2 : tie.Need-mul-upper-2
-mul-upper-2 c = omega (arith, upper (c .before .before))
-
-add-upper : tie.Need-add-upper
-add-upper c = omega (arith, upper (c .before .before))
-
-cast-lower : tie.Need-cast-lower
-cast-lower c = search needs
-
-mul-lower : tie.Need-mul-lower
-mul-lower c = omega (arith, lower (c .before .before .before))
-
-cast-lower-2 : tie.Need-cast-lower-2
-cast-lower-2 c = search needs
-
-mul-lower-2 : tie.Need-mul-lower-2
-mul-lower-2 c = omega (arith, lower (c .before .before .before .before))
-
-add-lower : tie.Need-add-lower
-add-lower c = omega (arith, lower (c .before .before .before .before))
-
-cast-weighed : tie.Need-cast-weighed
-cast-weighed c = search needs
-
-mul-weighed : tie.Need-mul-weighed
-mul-weighed c = omega (arith, weighed (c .before .before .before .before .before))
-
-cast-weighed-2 : tie.Need-cast-weighed-2
-cast-weighed-2 c = search needs
-
-mul-weighed-2 : tie.Need-mul-weighed-2
-mul-weighed-2 c = omega (arith, weighed (c .before .before .before .before .before .before))
-
-add-weighed : tie.Need-add-weighed
-add-weighed c = omega (arith, weighed (c .before .before .before .before .before .before))
-
+-- src/lib.rt:112:18
 cast-result : tie.Need-cast-result
 cast-result c = search needs
 
+-- src/lib.rt:112:41
 cast-result-2 : tie.Need-cast-result-2
 cast-result-2 c = search needs
 
+-- src/lib.rt:112:17
 mul-result : tie.Need-mul-result
-mul-result c = omega (arith, mul-le-mul (c .before .before .before .before .before .before .before .before .pre .0 .bound) (c .before .before .before .before .before .before .before .before .pre .1 .bound))
+mul-result c = omega (arith, mul-le-mul (c .before .before .before .pre .0 .bound) (c .before .before .before .pre .1 .bound))
 
+-- src/lib.rt:112:6
 div-result : tie.Need-div-result
-div-result c = spans-some (c .before .before .before .before .before .before .before .before .pre .0) (c .before .before .before .before .before .before .before .before .pre .1)
+div-result c = spans-some (c .before .before .before .pre .0) (c .before .before .before .pre .1)
 
+-- src/lib.rt:112:5
 cast-result-3 : tie.Need-cast-result-3
 unfolding greyOf
-cast-result-3 c = omega (arith, greatest (c .before .before .before .before .before .before .before .before))
+cast-result-3 c = rw (c .before .before .weigh .ensures) (omega (arith, greatest (c .before .before .before)))
 
+-- src/lib.rt:107:1
 returns : tie.Need-returns
 unfolding greyOf
-returns c = refl
+returns c = ap (λ n. n / (c .before .before .before .args .column .span * c .before .before .before .args .row .span)) (c .before .before .weigh .ensures)
 
 pub grey-spec : {M : Type 1} → statement M
 grey-spec =
     tie.close
-    (tie.spec
-    cast-upper
-    mul-upper
-    cast-upper-2
-    mul-upper-2
-    add-upper
-    cast-lower
-    mul-lower
-    cast-lower-2
-    mul-lower-2
-    add-lower
-    cast-weighed
-    mul-weighed
-    cast-weighed-2
-    mul-weighed-2
-    add-weighed
-    cast-result
-    cast-result-2
-    mul-result
-    div-result
-    cast-result-3
-    returns)
+    (tie.spec weigh-requires cast-result cast-result-2 mul-result div-result cast-result-3 returns)
