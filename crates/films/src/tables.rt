@@ -2856,8 +2856,8 @@ pub const FILMS: [u64; 2728] = [
     5000,
 ];
 
-// 53 rows of 14 columns.
-pub const DRAWS: [u64; 742] = [
+// 54 rows of 14 columns.
+pub const DRAWS: [u64; 756] = [
     // Row 201.
     201,
     9,
@@ -3647,6 +3647,21 @@ pub const DRAWS: [u64; 742] = [
     8,
     8,
     64,
+    10,
+    0,
+    99999,
+    0,
+    99999,
+    0,
+    // Row 254.
+    254,
+    9,
+    1009,
+    0,
+    0,
+    1,
+    0,
+    0,
     10,
     0,
     99999,
