@@ -1,12 +1,13 @@
 #!/usr/bin/env bash
 # Holds raw PGM as we read and write it to Netpbm's own tools, where they are installed (docs/NETPBM.md).
-# Last line: 'netpbm: N files agree', or what does not agree and exit status 1.
+# Builds the command line first, whose writer is the proved one. Last line: 'netpbm: N files agree, ..', or what does not agree and exit status 1.
 set -euo pipefail
 cd "$(dirname "$0")/.."
 if ! command -v pamtopnm > /dev/null; then
     echo "netpbm: not installed, nothing compared"
     exit 0
 fi
+station/build
 PYTHONDONTWRITEBYTECODE=1 PYTHONPATH=second exec python3 - << 'END'
 import re
 import subprocess
@@ -47,7 +48,7 @@ for command, data in stored.items():
         agree("outside's bytes of: " + command, last.split("\n", 1)[0], "the same bytes")
         agreed -= 1
 
-# 2. Files that our writer makes: Netpbm reads the same film, and writes the same bytes. `pamtopnm` would turn maxval 1 into
+# 2. Files that the second program's writer makes: Netpbm reads the same film, and writes the same bytes. `pamtopnm` would turn maxval 1 into
 # a bitmap; `pgmtopgm` keeps greys.
 sizes = [(1, 1), (7, 5), (5, 7), (64, 48), (33, 17), (4096, 1), (1, 4096), (300, 200)]
 seed = 12345
@@ -60,7 +61,7 @@ for width, height in sizes:
         out = bytearray(40 + 2 * width * height)
         _, count = pgm.write(picture, width, height, maxval, out)
         data = bytes(out[:count])
-        name = "our file %d by %d, maxval %d" % (width, height, maxval)
+        name = "the second program's file %d by %d, maxval %d" % (width, height, maxval)
         words = tool("pgmtopgm -plain", data).split()
         agree(name, [b"P2"] + [b"%d" % n for n in [width, height, maxval] + picture], words)
         agree(name + ", written by Netpbm", data, tool("pgmtopgm", data))
@@ -77,5 +78,18 @@ for width, height in sizes:
         words = tool("pgmtopgm -plain", data).split()
         agree(name, [b"P2"] + [b"%d" % n for n in list(found[1:4]) + target], words if answer == 0 else [])
 
-print("netpbm: %d files agree" % agreed)
+# 4. Files that the proved writer makes: at factor 1.0 the command line hands a film through read and write unchanged.
+# Netpbm reads the same film, and writes the same bytes.
+proved = 0
+for width, height in [(2, 2), (64, 48), (34, 18), (4096, 2), (2, 4096), (300, 200)]:
+    for maxval in (1, 15, 254, 255, 256, 1000, 4094, 4095):
+        film = tool("pgmnoise -randomseed=%d -maxval=%d %d %d" % (width + maxval, maxval, width, height))
+        data = tool("target/station/tzofnadir enhance - - --grid 2x2 --clip 1.0", film)
+        name = "the proved writer's file %d by %d, maxval %d" % (width, height, maxval)
+        agree(name, tool("pgmtopgm -plain", data).split(), tool("pgmtopgm -plain", film).split())
+        agree(name + ", written by Netpbm", data, tool("pgmtopgm", data))
+        agreed -= 1
+        proved += 1
+
+print("netpbm: %d files agree, %d of them by the proved writer" % (agreed, proved))
 END
