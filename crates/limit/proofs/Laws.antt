@@ -1,6 +1,6 @@
 -- Laws of the factor and of the limit, for the crates above. Assumes nothing.
 use Prim.Native.Nat.{ℕ, zero, suc, _*_, _/_, _≤_, _<_, max}
-use native.Mathlib.Nat.{le-trans, le-of-eq, le-max-left, mul-comm, mul-assoc, mul-le-mul, mul-le-mul-left, le-of-mul-le-mul-right, div-mul-le-self}
+use native.Mathlib.Nat.{le-trans, le-of-eq, le-max-left, le-max-right, max-le, mul-comm, mul-assoc, mul-right-comm, mul-le-mul, mul-le-mul-left, mul-le-mul-right, le-of-mul-le-mul-right, div-mul-le-self, le-div-iff-mul-le}
 use native.Mathlib.Omega.{arith}
 use mathlib.Core.Bool.{Bool, true, false, _&&_, true≢false}
 use mathlib.Core.Path.{_≡_, refl, sym, ap, ap₂, _∙_, subst}
@@ -111,3 +111,19 @@ limit-most (inf s) n b h k l = lit≤ tt
 limit-most (fin true m e) n b h k l = absurd (true≢false (sym h))
 limit-most (fin false m e) n b h k l =
     max-most (m * up e * n / (down e * b)) (half (m * up e * n / (down e * b)) b (floor-room (m * up e) (down e) n b (down-pos e) (accepted-told m e h .most) k) l)
+
+-- a factor of at most k has a limit of at most k x N / B, or 1
+pub limit-bound : (s : Bool) (m : ℕ) (e : ℤ) (n b k : ℕ) → 0 < b → m * up e ≤ k * down e → limitOf (fin s m e) n b ≤ max 1 (k * n / b)
+unfolding limitOf
+limit-bound s m e n b k p h =
+    max-le (le-max-left 1 (k * n / b))
+    (le-trans (bound (m * up e) (down e) (down-pos e) h) (le-max-right 1 (k * n / b)))
+  where
+    bound : (a d : ℕ) → 0 < d → a ≤ k * d → a * n / (d * b) ≤ k * n / b
+    bound a d q l =
+        let x = a * n / (d * b) in
+        le-div-iff-mul-le p .1
+        (le-of-mul-le-mul-right
+        (le-trans (le-of-eq (mul-assoc x b d ∙ ap (λ (y : ℕ). x * y) (mul-comm b d)))
+        (le-trans (div-mul-le-self (a * n) (d * b)) (le-trans (mul-le-mul-right n l) (le-of-eq (mul-right-comm k d n)))))
+        q)

@@ -1,15 +1,16 @@
 -- Laws of the listing's tiles: their counts and their excess, the limit, and the mapping of each in the map buffer.
 -- Assumes nothing.
 use Prim.Native.Nat.{ℕ, zero, suc, _+_, _-_, _*_, _/_, _%_, _≤_, _<_, max}
-use mathlib.Core.Bool.{Bool, true}
+use mathlib.Core.Bool.{Bool, true, false}
 use mathlib.Core.List.{List, [], _∷_}
 use mathlib.Core.Path.{_≡_, refl, sym, ap, ap₂, _∙_, subst}
+use lib.IntN.{pos}
 use lib.ListN.{length, getD}
 use native.Mathlib.Nat.{mul-le-mul, add-zero}
 use native.Mathlib.Omega.{arith}
 use Rattle.lists.specs.Lists.{onto, total, all}
 use Rattle.lists.proofs.Maps.{onto-whole}
-use Rattle.limit.specs.Limit.{limitOf}
+use Rattle.limit.proofs.Laws.{limit-bound}
 use Rattle.clip.specs.Clip.{excess}
 use Rattle.clip.proofs.Shares.{excess-most}
 use Rattle.tile.specs.declared.Rect.{Rect}
@@ -95,12 +96,11 @@ excess-is w h m pic k {limit} {r} {cs} p q e = e ∙ ap₂ excess p q
 
 -- the limit is at most the tile's pixels, or 1
 pub limit-few : (w h m : ℕ) → w * h ≤ 8192 → limitFor w h m < 100000
-unfolding limitOf
 limit-few w h m l =
     let p : w / 2 ≤ w = omega arith in
     let q : h / 2 ≤ h = omega arith in
     let r : (w / 2) * (h / 2) ≤ w * h = mul-le-mul p q in
-    omega arith
+    omega (arith, limit-bound false 1 (pos 1) ((w / 2) * (h / 2)) 4 2 (omega arith) (omega arith))
 
 -- ---- the mapping
 
