@@ -10,12 +10,17 @@ mod text;
 mod whole;
 mod window;
 
+// Room for the largest film. Behind a call its zeros stay unread where a proof looks at the film's length.
+fn film_room() -> [u16; 1050624] {
+    [0; 1050624]
+}
+
 // The rows that go through prepare, draw and enhance.
 fn run_films() {
-    let mut picture = [0u16; 9216];
+    let mut picture = film_room();
     let mut map = [0u16; 65536];
     let mut scratch = [0u32; 4200];
-    let mut out = [0u16; 9216];
+    let mut out = film_room();
     film::films(
         &tables::FILMS,
         &mut picture,

@@ -152,6 +152,7 @@ ready-mapped {w} {h} {size} {s} {room} {m} ready e g =
     record {
       acrossmost = ready .acrossmost;
       downmost = ready .downmost;
+      range = omega (arith, ready .min);
       most = ready .max;
       bins = ready .bins;
       binsmost = ready .binsmost;

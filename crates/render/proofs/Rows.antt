@@ -12,11 +12,10 @@ use native.Mathlib.Omega.{arith}
 use Rattle.lists.specs.Lists.{tab, all, filled}
 use Rattle.lists.proofs.Steps.{drop-filled, filled-part}
 use Rattle.lists.proofs.Tabs.{tab-cong}
-use Rattle.lists.proofs.Fills.{filled-none, filled-end}
+use Rattle.lists.proofs.Fills.{filled-end}
 use Rattle.lists.proofs.Windows.{filled-whole}
-use Rattle.lists.proofs.Alls.{all-at, all-drop, all-take}
+use Rattle.lists.proofs.Alls.{all-drop, all-take}
 use Rattle.tile.specs.Tile.{within}
-use Rattle.tile.proofs.Bins.{within-low, within-high}
 use Rattle.blend.specs.declared.Place.{Place}
 use Rattle.blend.specs.Blend.{placeOf, Sound, Factor, moved, Run}
 use Rattle.blend.proofs.Laws.{place-sound, place-span, sound-wider}
@@ -96,16 +95,6 @@ abbrev pub shown : ℕ → ℕ → Settings → List ℕ → ℕ → ℕ → Lis
 shown w h s m left y vs i = renderedOf w h s m (left + i) y (getD vs i 0)
 
 module _ {w h : ℕ} {s : Settings} {m : List ℕ} {left y : ℕ} {vs : List ℕ} (asks : RowAsks w h s m left y vs) where
-  -- a row of a pixel at least begins inside the film
-  pub begins : 0 < length vs → left < w
-  begins l = omega (arith, asks .across)
-
-  -- and Min is not above Max
-  pub range-some : 0 < length vs → s .min ≤ s .max
-  range-some l =
-      let g : within (s .min) (s .max) (getD vs 0 0) ≡ true = all-at (within (s .min) (s .max)) vs (asks .greys) 0 0 l in
-      omega (arith, within-low (s .min) (s .max) (getD vs 0 0) g, within-high (s .min) (s .max) (getD vs 0 0) g)
-
   -- the part that a run renders is as it was
   pub part-is : {px : List ℕ} (i e : ℕ) → px ≡ filled (shown w h s m left y vs) vs i → take (e - i) (drop i px) ≡ take (e - i) (drop i vs)
   part-is {px} i e p = ap (take (e - i)) (ap (drop i) p ∙ drop-filled (shown w h s m left y vs) vs i)
@@ -154,7 +143,3 @@ pub turns-end : (w h : ℕ) (s : Settings) (m : List ℕ) (left y : ℕ) (vs : L
     → px ≡ rowOf w h s m left y vs
 unfolding rowOf
 turns-end w h s m left y vs e l k = filled-end _ _ e l k ∙ filled-whole (shown w h s m left y vs) vs
-
--- a row of no pixels
-pub turns-none : (w h : ℕ) (s : Settings) (m : List ℕ) (left y : ℕ) (vs : List ℕ) → length vs ≡ 0 → vs ≡ rowOf w h s m left y vs
-turns-none w h s m left y vs e = turns-end w h s m left y vs {i = 0} (filled-none _ _) (omega arith) (omega arith)

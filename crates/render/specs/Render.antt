@@ -61,6 +61,7 @@ rectOf win = record { left = win .left; top = win .top; width = win .width; heig
 pub record Mapped (w h : ℕ) (s : Settings) (m : List ℕ) : Type 0 where
   pub acrossmost : s .across ≤ 16
   pub downmost : s .down ≤ 16
+  pub range : s .min ≤ s .max
   pub most : s .max ≤ 4095
   pub bins : 2 ≤ binsOf s
   pub binsmost : binsOf s ≤ 4096

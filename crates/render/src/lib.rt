@@ -102,9 +102,6 @@ fn render_row(
     requires { ⌜ RowAsks width height s (now map) left y (now pixels) ⌝ }
     ensures { λ _. ⌜ now (pixels .exit) ≡ rowOf width height s (now (map .entry)) left y (now (pixels .entry)) ⌝ }
 {
-    if pixels.len() == 0 {
-        return;
-    }
     let side = width / s.across;
     let high = height / s.down;
     let row = blend::locate(high, s.down, y);

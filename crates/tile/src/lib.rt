@@ -15,15 +15,6 @@ pub struct Rect {
     pub height: usize,
 }
 
-// The bin of a grey.
-pub fn bin(grey: u32, min: u32, max: u32, bins: u32) -> u32
-    requires { ⌜ (min ≤ grey) × (grey ≤ max) × (max ≤ 4095) × (0 < bins) ⌝ }
-    ensures { λ r. ⌜ r ≡ binOf min max bins grey ⌝ }
-{
-    let width = 1 + (max - min) / bins;
-    (grey - min) / width
-}
-
 // The factor that stands for one over the bin width, so that no grey is divided.
 pub fn bin_factor(min: u32, max: u32, bins: u32) -> u32
     requires { ⌜ (min ≤ max) × (max ≤ 4095) × (0 < bins) ⌝ }

@@ -8,7 +8,7 @@ use borrow.Author.Needs.{needs}
 use Rattle.lists.specs.Lists.{filled}
 use Rattle.lists.proofs.Fills.{filled-none, length-filled}
 use Rattle.tile.specs.Tile.{factorOf}
-use Rattle.render.proofs.Rows.{across-some, down-some, column-asks, row-asks, spans-some, spans-most, spans-by, width-most, shown, range-some, part-asks, part-next, run-asks, turns-end, turns-none}
+use Rattle.render.proofs.Rows.{across-some, down-some, column-asks, row-asks, spans-some, spans-most, spans-by, width-most, shown, part-asks, part-next, run-asks, turns-end}
 use Rattle.render.proofs.render_row.Statement.{statement}
 use Rattle.render.proofs.render_row.Tie as tie
 use Rattle.render.proofs.render_row.Reads as reads
@@ -27,21 +27,17 @@ Inv-loop pixels₀ left y width height s map side high row by bin i₀ pixels i 
 abbrev μ-loop : tie.MeasureT-loop
 μ-loop pixels₀ left y width height s map side high row by bin i₀ pixels i = length pixels₀ - i
 
--- src/lib.rt:106:9
-returns : tie.Need-returns Inv-loop μ-loop
-returns c = turns-none _ _ _ _ _ _ _ (c .if1 .taken)
-
 -- src/lib.rt:108:16
 div-side : tie.Need-div-side Inv-loop μ-loop
-div-side c = across-some (c .before .before .before .before .pre .mapped)
+div-side c = across-some (c .before .before .before .pre .mapped)
 
 -- src/lib.rt:109:16
 div-high : tie.Need-div-high Inv-loop μ-loop
-div-high c = down-some (c .before .before .before .before .before .pre .mapped)
+div-high c = down-some (c .before .before .before .before .pre .mapped)
 
 -- src/lib.rt:110:9
 locate-requires : tie.Need-locate-requires Inv-loop μ-loop
-locate-requires c κs = row-asks (c .before .before .before .before .before .pre .mapped) (c .before .before .before .before .before .pre .down)
+locate-requires c κs = row-asks (c .before .before .before .before .pre .mapped) (c .before .before .before .before .pre .down)
 
 -- src/lib.rt:111:29
 cast-factor : tie.Need-cast-factor Inv-loop μ-loop
@@ -53,11 +49,11 @@ cast-factor-2 c = search needs
 
 -- src/lib.rt:111:28
 mul-factor : tie.Need-mul-factor Inv-loop μ-loop
-mul-factor c = omega (arith, spans-most (c .before .before .before .before .before .before .pre .mapped))
+mul-factor c = omega (arith, spans-most (c .before .before .before .before .before .pre .mapped))
 
 -- src/lib.rt:111:9
 factor-requires : tie.Need-factor-requires Inv-loop μ-loop
-factor-requires c κs = spans-some (c .before .before .before .before .before .before .pre .mapped)
+factor-requires c κs = spans-some (c .before .before .before .before .before .pre .mapped)
 
 -- src/lib.rt:112:46
 bins-requires : tie.Need-bins-requires Inv-loop μ-loop
@@ -65,7 +61,7 @@ bins-requires c κs = search needs
 
 -- src/lib.rt:112:9
 bin-factor-requires : tie.Need-bin-factor-requires Inv-loop μ-loop
-bin-factor-requires c κs = (range-some (c .before .before .before .before .before .before .before .before .pre) (omega (arith, c .before .before .before .before .before .if1 .left)), c .before .before .before .before .before .before .before .before .pre .mapped .most, omega (arith, c .bins .ensures, c .before .before .before .before .before .before .before .before .pre .mapped .bins))
+bin-factor-requires c κs = (c .before .before .before .before .before .before .before .pre .mapped .range, c .before .before .before .before .before .before .before .pre .mapped .most, omega (arith, c .bins .ensures, c .before .before .before .before .before .before .before .pre .mapped .bins))
 
 -- src/lib.rt:114:5
 loop-holds : tie.Need-loop-holds Inv-loop μ-loop
@@ -73,19 +69,19 @@ loop-holds c = (search needs, refl, filled-none _ _)
 
 -- src/lib.rt:115:25
 cast-x : tie.Need-cast-x Inv-loop μ-loop
-cast-x c = omega (arith, c .before .before .before .before .before .before .before .before .before .before .before .pre .across, width-most (c .before .before .before .before .before .before .before .before .before .before .before .pre .mapped))
+cast-x c = omega (arith, c .before .before .before .before .before .before .before .before .before .before .pre .across, width-most (c .before .before .before .before .before .before .before .before .before .before .pre .mapped))
 
 -- src/lib.rt:115:17
 add-x : tie.Need-add-x Inv-loop μ-loop
-add-x c = omega (arith, c .before .before .before .before .before .before .before .before .before .before .before .pre .across, width-most (c .before .before .before .before .before .before .before .before .before .before .before .pre .mapped))
+add-x c = omega (arith, c .before .before .before .before .before .before .before .before .before .before .pre .across, width-most (c .before .before .before .before .before .before .before .before .before .before .pre .mapped))
 
 -- src/lib.rt:116:13
 locate-requires-2 : tie.Need-locate-requires-2 Inv-loop μ-loop
-locate-requires-2 c κs = column-asks (c .before .before .before .before .before .before .before .before .before .before .before .pre .mapped) (omega (arith, c .before .before .before .before .before .before .before .before .before .before .before .pre .across))
+locate-requires-2 c κs = column-asks (c .before .before .before .before .before .before .before .before .before .before .pre .mapped) (omega (arith, c .before .before .before .before .before .before .before .before .before .before .pre .across))
 
 -- src/lib.rt:117:19
 run-requires : tie.Need-run-requires Inv-loop μ-loop
-run-requires c κs = run-asks (c .before .before .before .before .before .before .before .before .before .before .before .before .pre) (omega arith) (c .locate2 .ensures)
+run-requires c κs = run-asks (c .before .before .before .before .before .before .before .before .before .before .before .pre) (omega arith) (c .locate2 .ensures)
 
 -- src/lib.rt:117:19
 cast-run : tie.Need-cast-run Inv-loop μ-loop
@@ -100,16 +96,16 @@ lesser-requires : tie.Need-lesser-requires Inv-loop μ-loop
 lesser-requires c κs = search needs
 
 -- a run ends inside the row
-fits : (c : tie.After-lesser Inv-loop μ-loop) → c .before .before .before .before .loop .at + c .lesser .result ≤ length (c .before .before .before .before .before .before .before .before .before .before .before .before .before .before .args .pixels .now)
+fits : (c : tie.After-lesser Inv-loop μ-loop) → c .before .before .before .before .loop .at + c .lesser .result ≤ length (c .before .before .before .before .before .before .before .before .before .before .before .before .before .args .pixels .now)
 fits c = omega (arith, c .lesser .ensures .1)
 
 -- src/lib.rt:118:17
 add-e : tie.Need-add-e Inv-loop μ-loop
-add-e c = omega (arith, fits c, c .before .before .before .before .before .before .before .before .before .before .before .before .before .before .pre .across, width-most (c .before .before .before .before .before .before .before .before .before .before .before .before .before .before .pre .mapped))
+add-e c = omega (arith, fits c, c .before .before .before .before .before .before .before .before .before .before .before .before .before .pre .across, width-most (c .before .before .before .before .before .before .before .before .before .before .before .before .before .pre .mapped))
 
 -- src/lib.rt:119:20
 mul-render-run : tie.Need-mul-render-run Inv-loop μ-loop
-mul-render-run c = omega (arith, c .before .before .before .before .before .before .before .before .before .before .before .before .before .before .pre .across, width-most (c .before .before .before .before .before .before .before .before .before .before .before .before .before .before .pre .mapped))
+mul-render-run c = omega (arith, c .before .before .before .before .before .before .before .before .before .before .before .before .before .pre .across, width-most (c .before .before .before .before .before .before .before .before .before .before .before .before .before .pre .mapped))
 
 -- src/lib.rt:119:20
 sub-render-run : tie.Need-sub-render-run Inv-loop μ-loop
@@ -126,7 +122,7 @@ part-render-run-end c = omega (arith, fits c)
 -- src/lib.rt:119:9
 render-run-requires : tie.Need-render-run-requires Inv-loop μ-loop
 render-run-requires c κs = (
-  part-asks (c .before .before .before .before .before .before .before .before .before .before .before .before .before .before .before .pre) (c .before .before .before .before .before .loop .inv .2) (omega arith) (omega arith) (fits (c .before)) (omega (arith, c .before .lesser .ensures .0)) (c .before .before .before .locate2 .ensures) (c .before .before .before .before .before .before .before .before .before .locate .ensures) (c .before .before .run .ensures),
+  part-asks (c .before .before .before .before .before .before .before .before .before .before .before .before .before .before .pre) (c .before .before .before .before .before .loop .inv .2) (omega arith) (omega arith) (fits (c .before)) (omega (arith, c .before .lesser .ensures .0)) (c .before .before .before .locate2 .ensures) (c .before .before .before .before .before .before .before .before .before .locate .ensures) (c .before .before .run .ensures),
   spans-by _ _ _ _ _ _ (c .before .before .before .before .before .before .before .before .factor .ensures) (c .before .before .before .locate2 .ensures) (c .before .before .before .before .before .before .before .before .before .locate .ensures),
   c .before .before .before .before .before .before .bin-factor .ensures ∙ ap (factorOf _ _) (c .before .before .before .before .before .before .before .bins .ensures),
 )
@@ -137,15 +133,15 @@ loop-less c = omega (arith, fits (c .before .before .before .before), c .before 
 
 -- src/lib.rt:114:5
 loop-again : tie.Need-loop-again Inv-loop μ-loop
-loop-again c = (fits (c .before .before .before .before), ap length (part-next (c .before .before .before .before .before .before .before .before .before .before .before .before .before .before .before .before .before .before .pre) (c .before .before .before .before .before .before .before .before .loop .inv .2) (omega arith) (fits (c .before .before .before .before)) (omega (arith, c .before .before .before .before .lesser .ensures .0)) (c .before .before .before .before .before .before .before .before .before .before .before .before .locate .ensures) (c .before .before .before .before .before .run .ensures) (c .before .before .render-run .ensures)) ∙ length-filled _ _ _ (fits (c .before .before .before .before)), part-next (c .before .before .before .before .before .before .before .before .before .before .before .before .before .before .before .before .before .before .pre) (c .before .before .before .before .before .before .before .before .loop .inv .2) (omega arith) (fits (c .before .before .before .before)) (omega (arith, c .before .before .before .before .lesser .ensures .0)) (c .before .before .before .before .before .before .before .before .before .before .before .before .locate .ensures) (c .before .before .before .before .before .run .ensures) (c .before .before .render-run .ensures))
+loop-again c = (fits (c .before .before .before .before), ap length (part-next (c .before .before .before .before .before .before .before .before .before .before .before .before .before .before .before .before .before .pre) (c .before .before .before .before .before .before .before .before .loop .inv .2) (omega arith) (fits (c .before .before .before .before)) (omega (arith, c .before .before .before .before .lesser .ensures .0)) (c .before .before .before .before .before .before .before .before .before .before .before .before .locate .ensures) (c .before .before .before .before .before .run .ensures) (c .before .before .render-run .ensures)) ∙ length-filled _ _ _ (fits (c .before .before .before .before)), part-next (c .before .before .before .before .before .before .before .before .before .before .before .before .before .before .before .before .before .pre) (c .before .before .before .before .before .before .before .before .loop .inv .2) (omega arith) (fits (c .before .before .before .before)) (omega (arith, c .before .before .before .before .lesser .ensures .0)) (c .before .before .before .before .before .before .before .before .before .before .before .before .locate .ensures) (c .before .before .before .before .before .run .ensures) (c .before .before .render-run .ensures))
 
 -- src/lib.rt:93:1
 same-length : tie.Need-same-length Inv-loop μ-loop
 same-length c = search needs
 
 -- src/lib.rt:93:1
-returns-2 : tie.Need-returns-2 Inv-loop μ-loop
-returns-2 c = turns-end _ _ _ _ _ _ _ {i = c .before .loop .at} (c .before .loop .inv .2) (search needs) (search needs)
+returns : tie.Need-returns Inv-loop μ-loop
+returns c = turns-end _ _ _ _ _ _ _ {i = c .before .loop .at} (c .before .loop .inv .2) (search needs) (search needs)
 
 pub render-row-spec : {M : Type 1} → statement M
 render-row-spec =
@@ -153,7 +149,6 @@ render-row-spec =
     (tie.spec
     Inv-loop
     μ-loop
-    returns
     div-side
     div-high
     locate-requires
@@ -180,4 +175,4 @@ render-row-spec =
     loop-less
     loop-again
     same-length
-    returns-2)
+    returns)
