@@ -2,14 +2,13 @@
 -- Assumes nothing.
 use Prim.Native.Nat.{ℕ, zero, suc, _-_, _≤_, _<_}
 use mathlib.Core.List.{List, [], _∷_}
-use mathlib.Core.Path.{_≡_, refl, sym, ap, _∙_}
+use mathlib.Core.Path.{_≡_, refl, sym}
 use native.Mathlib.Omega.{arith}
 use borrow.Author.Tests.{lt-ltb, le-ltb}
 use lib.Ieee.{Float}
-use lib.ListN.{length, drop, length-drop}
+use lib.ListN.{length, length-drop}
 use Rattle.lists.specs.Lists.{onto}
-use Rattle.limit.specs.declared.Clip.{Clip}
-use Rattle.limit.specs.declared.Clip.the-variants.{Off, Factor}
+use Rattle.limit.specs.declared.Clip.the-variants.{Factor}
 use Rattle.settings.specs.declared.MapRecord.{MapRecord}
 use Rattle.settings.specs.declared.Footer.{Footer}
 use Rattle.prepare.specs.declared.Prepared.{Prepared}
@@ -31,7 +30,7 @@ use Rattle.pgm.specs.declared.Written.the-variants as Written
 use Rattle.pgm.specs.Pgm.{readOf, sizesOf, rasterOf, Greyed, greyedAs, Wrote, wroteAs}
 use Rattle.pgm.proofs.Tables.{read-within}
 use Rattle.abi.specs.Flat.{clipFrom, clipFactor, recordNumbers}
-use Rattle.abi.specs.Films.{Foot, footed, footAfter, preparedAs, flatPrepared, enhancedAs, flatEnhanced, drawnAs, flatDrawn}
+use Rattle.abi.specs.Films.{Foot, footAfter, preparedAs, flatPrepared, enhancedAs, flatEnhanced, drawnAs, flatDrawn}
 use Rattle.abi.specs.Files.{answered, flatSizes, flatRaster, flatGreys, writtenAs, flatWritten, flatListing}
 
 -- a number that is not 0 carries the factor

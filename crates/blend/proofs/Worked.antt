@@ -1,7 +1,7 @@
 -- Document 01, "Numbers to check by hand": tiles 2 by 2, grid 2 by 2, mapped values 10, 20, 30, 41.
 -- Assumes nothing.
 use Prim.Native.Nat.{ℕ, _+_, _*_}
-use mathlib.Core.List.{List, [], _∷_}
+use mathlib.Core.List.{[], _∷_}
 use mathlib.Core.Path.{_≡_, refl}
 use lib.ListN.{getD}
 use Rattle.blend.specs.Blend.{placeOf, greyOf}

@@ -1,54 +1,37 @@
 -- The rows of a window: where they lie in the picture, what is looked for in them, and how they are copied.
 -- Assumes nothing.
-use Prim.Native.Nat.{ℕ, suc, _+_, _-_, _*_, _≤_, _<_}
+use Prim.Native.Nat.{ℕ, _+_, _-_, _*_, _≤_, _<_}
 use mathlib.Core.Bool.{Bool, true, false}
 use mathlib.Core.List.{List, append-nil}
 use mathlib.Core.Path.{_≡_, refl, sym, ap, _∙_}
-use lib.ListN.{length, take, drop, getD, length-drop}
+use lib.ListN.{length, take, drop, length-drop}
 use lib.Seq.{drop-length, length-take-le}
-use native.Mathlib.Nat.{suc-mul, mul-le-mul-right}
+use native.Mathlib.Nat.{mul-le-mul-right}
 use native.Mathlib.Omega.{arith}
 use borrow.Rule.Slice.PartMut.{putMid}
-use Rattle.lists.specs.Lists.{tab, joined, all, onto, blocks}
-use Rattle.lists.proofs.Tabs.{length-tab, tab-cong, every-not}
+use Rattle.lists.specs.Lists.{joined, all, onto, blocks}
+use Rattle.lists.proofs.Tabs.{every-not}
 use Rattle.lists.proofs.Fills.{joined-suc}
 use Rattle.lists.proofs.Blocks.{blocks-step, blocks-end, block-fits, length-blocks}
-use Rattle.lists.proofs.Tallies.{part-tab}
 use Rattle.lists.proofs.Alls.{all-both, all-joined-every}
 use Rattle.tile.specs.Tile.{greysOf}
+use Rattle.tile.proofs.Greys.{rowOf, greys-rows, length-row, row-room, part-row}
 use Rattle.settings.specs.declared.Window.{Window}
 use Rattle.render.specs.Render.{rectOf}
 use Rattle.draw.specs.Draw.{Framed, CopyAsks}
 
 -- the greys of row y of the window
-unfoldable pub line : List ℕ → ℕ → Window → ℕ → List ℕ
-line pic stride win y = tab (win .width) (λ x. getD pic ((win .top + y) * stride + (win .left + x)) 0)
-
--- a window is its rows
-pub greys-lines : (pic : List ℕ) (stride : ℕ) (win : Window) → greysOf pic stride (rectOf win) ≡ joined (win .height) (line pic stride win)
-unfolding greysOf line
-greys-lines pic stride win = refl
-
-pub length-line : (pic : List ℕ) (stride : ℕ) (win : Window) (y : ℕ) → length (line pic stride win y) ≡ win .width
-unfolding line
-length-line pic stride win y = length-tab (win .width) _
+abbrev pub line : List ℕ → ℕ → Window → ℕ → List ℕ
+line pic stride win = rowOf pic stride (rectOf win)
 
 -- a row ends inside the picture
 pub line-room : {size stride : ℕ} {win : Window} → Framed size stride win → (y : ℕ) → y < win .height → (win .top + y) * stride + (win .left + win .width) ≤ size
-line-room {size} {stride} {win} f y h =
-    let next : suc (win .top + y) * stride ≤ (win .top + win .height) * stride = mul-le-mul-right stride (omega arith) in
-    omega (arith, suc-mul (win .top + y) stride, f .across, f .down)
+line-room {win = win} f y h = row-room (rectOf win) (f .across) (f .down) y h
 
 -- the row as a part of the picture
 pub line-part : (pic : List ℕ) (stride : ℕ) (win : Window) → Framed (length pic) stride win → (y : ℕ) → y < win .height
     → take ((win .top + y) * stride + win .left + win .width - ((win .top + y) * stride + win .left)) (drop ((win .top + y) * stride + win .left) pic) ≡ line pic stride win y
-unfolding line
-line-part pic stride win f y h =
-    let a : ℕ = (win .top + y) * stride + win .left in
-    let w : a + win .width - a ≡ win .width = omega arith in
-    ap (λ k. take k (drop a pic)) w
-    ∙ part-tab pic a (win .width) (omega (arith, line-room f y h))
-    ∙ tab-cong (win .width) (λ x l. ap (λ i. getD pic i 0) (omega arith))
+line-part pic stride win f y h = part-row pic stride (rectOf win) (f .across) (f .down) y h
 
 -- ---- the rows, looked at one by one
 
@@ -65,13 +48,13 @@ pub lines-end : (p : ℕ → Bool) (pic : List ℕ) (stride : ℕ) (win : Window
     → all p (greysOf pic stride (rectOf win)) ≡ true
 lines-end p pic stride win {y} h k l =
     let e : win .height ≡ y = omega arith in
-    ap (all p) (greys-lines pic stride win ∙ ap (λ n. joined n (line pic stride win)) e) ∙ h
+    ap (all p) (greys-rows pic stride (rectOf win) ∙ ap (λ n. joined n (line pic stride win)) e) ∙ h
 
 -- a row that does not meet it is enough
 pub lines-not : (p : ℕ → Bool) (pic : List ℕ) (stride : ℕ) (win : Window) {y : ℕ} {vs : List ℕ} → y < win .height → all p vs ≡ false → vs ≡ line pic stride win y
     → all p (greysOf pic stride (rectOf win)) ≡ false
 lines-not p pic stride win {y} {vs} h k e =
-    ap (all p) (greys-lines pic stride win)
+    ap (all p) (greys-rows pic stride (rectOf win))
     ∙ all-joined-every p (win .height) (line pic stride win)
     ∙ every-not (win .height) (λ i. all p (line pic stride win i)) y h (ap (all p) (sym e) ∙ k)
 
@@ -84,8 +67,8 @@ onto-whole d ys e = rw (e, drop-length d, append-nil) refl
 
 module _ {pic : List ℕ} {stride : ℕ} {win : Window} {out₀ : List ℕ} (asks : CopyAsks pic stride win out₀) where
   -- where a row goes lies inside the output
-  pub row-room : {y : ℕ} → y < win .height → y * win .width + win .width ≤ length out₀
-  row-room l = block-fits (win .width) (win .height) l (omega (arith, asks .size))
+  pub place-room : {y : ℕ} → y < win .height → y * win .width + win .width ≤ length out₀
+  place-room l = block-fits (win .width) (win .height) l (omega (arith, asks .size))
 
   -- a part of the output that a row fills
   pub length-place : (out : List ℕ) {y : ℕ} → y < win .height → length out ≡ length out₀
@@ -93,7 +76,7 @@ module _ {pic : List ℕ} {stride : ℕ} {win : Window} {out₀ : List ℕ} (ask
   length-place out {y} l e =
       let w : y * win .width + win .width - y * win .width ≡ win .width = omega arith in
       ap (λ k. length (take k (drop (y * win .width) out))) w
-      ∙ length-take-le (win .width) (drop (y * win .width) out) (rw length-drop (omega (arith, row-room l)))
+      ∙ length-take-le (win .width) (drop (y * win .width) out) (rw length-drop (omega (arith, place-room l)))
 
   -- one row more
   pub rows-next : {out vs ys : List ℕ} {y : ℕ} → out ≡ blocks (win .width) (line pic stride win) out₀ y → length out ≡ length out₀ → y < win .height
@@ -101,18 +84,18 @@ module _ {pic : List ℕ} {stride : ℕ} {win : Window} {out₀ : List ℕ} (ask
       → ys ≡ onto (take (y * win .width + win .width - y * win .width) (drop (y * win .width) out)) vs
       → putMid (y * win .width) (y * win .width + win .width - y * win .width) out ys ≡ blocks (win .width) (line pic stride win) out₀ (y + 1)
   rows-next {out} {vs} {ys} {y} e n l v q =
-      blocks-step (win .width) (line pic stride win) out₀ (λ i k. length-line pic stride win i) e
-      (q ∙ onto-whole _ vs (ap length v ∙ length-line pic stride win y ∙ sym (length-place out l n)) ∙ v)
+      blocks-step (win .width) (line pic stride win) out₀ (λ i k. length-row pic stride (rectOf win) i) e
+      (q ∙ onto-whole _ vs (ap length v ∙ length-row pic stride (rectOf win) y ∙ sym (length-place out l n)) ∙ v)
 
   -- the length stays
   pub rows-length : {out : List ℕ} {y : ℕ} → out ≡ blocks (win .width) (line pic stride win) out₀ y → y ≤ win .height → length out ≡ length out₀
   rows-length {out} {y} e l =
       ap length e
-      ∙ length-blocks (win .width) (line pic stride win) out₀ y (λ i k. length-line pic stride win i) (omega (arith, mul-le-mul-right (win .width) l, asks .size))
+      ∙ length-blocks (win .width) (line pic stride win) out₀ y (λ i k. length-row pic stride (rectOf win) i) (omega (arith, mul-le-mul-right (win .width) l, asks .size))
 
   -- the whole window
   pub rows-end : {out : List ℕ} {y : ℕ} → out ≡ blocks (win .width) (line pic stride win) out₀ y → y ≤ win .height → win .height ≤ y → out ≡ greysOf pic stride (rectOf win)
   unfolding blocks
   rows-end {out} {y} e l k =
       blocks-end (win .width) (line pic stride win) out₀ e l k
-      ∙ rw (← asks .size, drop-length out₀, append-nil) (sym (greys-lines pic stride win))
+      ∙ rw (← asks .size, drop-length out₀, append-nil) (sym (greys-rows pic stride (rectOf win)))

@@ -1,12 +1,12 @@
 -- The work of draw: what its steps ask, and the outcome of each of its returns.
 -- Assumes nothing.
-use Prim.Native.Nat.{ℕ, zero, suc, _*_}
+use Prim.Native.Nat.{ℕ, zero, suc}
 use mathlib.Core.Bool.{false}
 use mathlib.Core.List.{List}
 use mathlib.Core.Path.{_≡_, refl, sym, ap, _∙_}
 use lib.ListN.{length}
+use native.Mathlib.Nat.{mul-comm}
 use Rattle.lists.specs.Lists.{all}
-use Rattle.lists.proofs.Fills.{length-joined}
 use Rattle.refuse.specs.Refuse.{first}
 use Rattle.tile.specs.Tile.{within, greysOf}
 use Rattle.settings.specs.declared.Settings.{Settings}
@@ -14,17 +14,11 @@ use Rattle.settings.specs.declared.MapRecord.{MapRecord}
 use Rattle.settings.specs.declared.Window.{Window}
 use Rattle.settings.specs.Settings.{clipOne}
 use Rattle.render.specs.Render.{rectOf, renderOf, Mapped, Shown}
+use Rattle.tile.proofs.Greys.{length-greys}
 use Rattle.render.proofs.Laws.{ready-mapped}
 use Rattle.draw.specs.declared.Drawn.the-variants.{Done, Refused}
 use Rattle.draw.specs.Draw.{drawRows, drawnOf, drawOf, showing, settled, CopyAsks, WindowReady}
-use Rattle.draw.proofs.Frames.{line, greys-lines, length-line}
 use Rattle.draw.proofs.Tables.{framed}
-
--- there is a grey for each pixel of the window
-pub length-greys : (pic : List ℕ) (stride : ℕ) (win : Window) → length (greysOf pic stride (rectOf win)) ≡ win .height * win .width
-length-greys pic stride win =
-    ap length (greys-lines pic stride win)
-    ∙ length-joined (win .width) (win .height) (line pic stride win) (λ y l. length-line pic stride win y)
 
 -- what the copying asks
 pub copy-asks : {w h : ℕ} {pic : List ℕ} {s : Settings} {win : Window} {m : List ℕ} (out : List ℕ) → WindowReady w h pic s win m (length out) → CopyAsks pic w win out
@@ -39,7 +33,7 @@ render-asks {w} {h} {pic} {s} {win} {m} {out} ready e one = (
   record {
     across = ready .across;
     down = ready .down;
-    size = ap length e ∙ length-greys pic w win;
+    size = ap length e ∙ length-greys pic w (rectOf win) ∙ mul-comm (win .width) (win .height);
     greys = ap (all (within (s .min) (s .max))) e ∙ ready .greys;
   },
 )

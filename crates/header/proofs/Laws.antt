@@ -2,7 +2,7 @@
 -- how long a written header is, that its entries are bytes, and that it is read back as it was written.
 -- Assumes nothing.
 use Prim.Native.Nat.{ℕ, zero, suc, _+_, _-_, _*_, _/_, _%_, _≤_, _<_}
-use mathlib.Core.Bool.{Bool, true, false, _&&_, _||_, cond}
+use mathlib.Core.Bool.{Bool, true, false, _&&_, cond}
 use mathlib.Core.List.{List, [], _∷_, _++_, append-assoc}
 use mathlib.Core.Logic.{_⊎_, inl, inr, ⊎-elim}
 use mathlib.Core.Path.{_≡_, refl, sym, ap, _∙_}
@@ -11,7 +11,7 @@ use lib.ListN.{length, drop, getD, length-append}
 use lib.Seq.{drop-append-seam, drop-append-add, getD-append-seam, getD-append-add}
 use native.Mathlib.Nat.{zero-add, add-zero}
 use native.Mathlib.Omega.{arith}
-use native.Mathlib.Numerals.{add-one, one-add}
+use native.Mathlib.Numerals.{one-add}
 use borrow.Author.Tests.{le-leb, lt-ltb, ne-eqb}
 use Rattle.lists.specs.Lists.{all}
 use Rattle.lists.proofs.Tabs.{and-both, and-left, and-right}

@@ -1,11 +1,11 @@
 -- Document 01, "Raw PGM" and refusals 20 and 21: the header of a raw PGM file, as its reader takes it and as its writer lays it down.
 -- A file is a list of bytes; the end of input reads as 0, which is no white space, no digit and no `#`.
 -- Assumes nothing.
-use Prim.Native.Nat.{ℕ, zero, suc, _+_, _-_, _*_, _/_, _%_, _≤_}
+use Prim.Native.Nat.{ℕ, zero, suc, _+_, _-_, _*_, _/_, _%_}
 use mathlib.Core.Bool.{Bool, true, false, _&&_, _||_, cond}
 use mathlib.Core.List.{List, [], _∷_, _++_}
 use lib.Dec.{leb, ltb, eqb}
-use lib.ListN.{length, drop, getD}
+use lib.ListN.{drop, getD}
 use Rattle.header.specs.declared.Number.{Number}
 use Rattle.header.specs.declared.Number.the-variants.{Read, Misfit}
 use Rattle.header.specs.declared.Head.{Head}

@@ -4,12 +4,13 @@ use native.Mathlib.Nat.{le-trans, le-of-eq, le-max-left, le-max-right, max-le, m
 use native.Mathlib.Omega.{arith}
 use mathlib.Core.Bool.{Bool, true, false, _&&_, true≢false}
 use mathlib.Core.Path.{_≡_, refl, sym, ap, ap₂, _∙_, subst}
-use lib.Dec.{leb, lit≤}
+use lib.Dec.{leb, ltb, lit≤}
 use lib.IntN.{ℤ}
 use lib.Ieee.{Float, nan, inf, fin, up, down}
 use lib.Ieee.Fits.{down-pos}
 use borrow.Author.Tests.{leb-true, le-leb, eqb-true, eqb-false}
-use Rattle.limit.specs.Limit.{accepted, isOne, limitOf}
+use Rattle.limit.specs.declared.Clip.the-variants.{Off, Factor}
+use Rattle.limit.specs.Limit.{accepted, isOne, limitOf, tooTight}
 
 and-left : (a b : Bool) → (a && b) ≡ true → a ≡ true
 and-left true b h = refl
@@ -127,3 +128,20 @@ limit-bound s m e n b k p h =
         (le-trans (le-of-eq (mul-assoc x b d ∙ ap (λ (y : ℕ). x * y) (mul-comm b d)))
         (le-trans (div-mul-le-self (a * n) (d * b)) (le-trans (mul-le-mul-right n l) (le-of-eq (mul-right-comm k d n)))))
         q)
+
+-- ---- refusal 14
+
+-- clip off is not too tight
+pub loose-off : (n b : ℕ) → tooTight Off n b ≡ false
+unfolding tooTight
+loose-off n b = refl
+
+-- nor is the factor 1.0
+pub loose-one : (f : Float) (n b : ℕ) → isOne f ≡ true → tooTight (Factor f) n b ≡ false
+unfolding tooTight
+loose-one f n b h = rw h refl
+
+-- any other factor is where the limit times the bins is below the pixels
+pub tight-factor : (f : Float) (n b : ℕ) → isOne f ≡ false → tooTight (Factor f) n b ≡ ltb (limitOf f n b * b) n
+unfolding tooTight
+tight-factor f n b h = rw h refl

@@ -1,15 +1,15 @@
 -- Laws of the listing's calls: what prepare, greys and read left, and the text that follows.
 -- Assumes nothing.
-use Prim.Native.Nat.{ℕ, zero, suc, _+_, _-_, _*_, _≤_, _<_}
+use Prim.Native.Nat.{ℕ, zero, suc, _-_, _*_, _≤_, _<_}
 use mathlib.Core.Bool.{Bool, true, false, not}
-use mathlib.Core.List.{List, [], _∷_, _++_}
-use mathlib.Core.Path.{_≡_, refl, sym, ap, ap₂, _∙_, subst}
+use mathlib.Core.List.{List}
+use mathlib.Core.Path.{_≡_, refl, sym, ap, _∙_}
 use lib.Dec.{ltb}
 use lib.ListN.{length, take, drop, length-drop}
 use lib.Seq.{length-take-le}
 use native.Mathlib.Omega.{arith}
 use borrow.Author.Tests.{ltb-false, lt-ltb, le-ltb}
-use Rattle.lists.specs.Lists.{onto, filled}
+use Rattle.lists.specs.Lists.{onto}
 use Rattle.lists.proofs.Fills.{length-filled, take-onto}
 use Rattle.lists.proofs.Maps.{onto-whole}
 use Rattle.refuse.specs.Refuse.{first}
@@ -28,8 +28,8 @@ use Rattle.pgm.specs.declared.Sizes.{Sizes}
 use Rattle.pgm.specs.declared.Sizes.the-variants as Sizes
 use Rattle.pgm.specs.declared.Turned.{Turned}
 use Rattle.pgm.specs.declared.Turned.the-variants as Turned
-use Rattle.pgm.specs.Pgm.{rasterSize, limitRows, rasterRows, targetRows, greyRows, RasterAsks, Greyed, greyed, greyedAs, greysOf, readOf, sizesOf, rasterOf}
-use Rattle.pgm.proofs.Tables.{within-none, exact-none, grey-asks, read-header, read-within}
+use Rattle.pgm.specs.Pgm.{limitRows, rasterRows, targetRows, greyRows, RasterAsks, Greyed, greyed, greyedAs, greysOf, readOf, sizesOf, rasterOf}
+use Rattle.pgm.proofs.Tables.{within-none, exact-none, grey-asks, read-header}
 use Rattle.pgm.proofs.Laws.{read-asks}
 use Rattle.prepare.specs.declared.Prepared.{Prepared}
 use Rattle.prepare.specs.declared.Prepared.the-variants as Prepared
@@ -37,10 +37,10 @@ use Rattle.prepare.specs.Prepare.{prepareRows, footerOf, mappings, Ended, endin
 use Rattle.prepare.proofs.Table.{work}
 use Rattle.prepare.proofs.Films.{length-mappings}
 use Rattle.lister.specs.Lister.{settingsOf, limitFor, filmText, refusedText, unless, pick, isLarger, pictureText, readText, listingOf}
-use Rattle.lister.specs.Asks.{Told, LinesAsk, ListAsks}
+use Rattle.lister.specs.Asks.{Told, ListAsks}
 use Rattle.lister.proofs.Lines.{length-refused}
 use Rattle.lister.proofs.Films.{length-film}
-use Rattle.lister.proofs.Refusals.{prepare-below, read-below}
+use Rattle.lister.proofs.Refusals.{prepare-below}
 
 -- ---- texts
 

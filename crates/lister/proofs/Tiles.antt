@@ -1,28 +1,27 @@
 -- Laws of the listing's tiles: their counts and their excess, the limit, and the mapping of each in the map buffer.
 -- Assumes nothing.
-use Prim.Native.Nat.{ℕ, zero, suc, _+_, _-_, _*_, _/_, _%_, _≤_, _<_, max}
-use mathlib.Core.Bool.{Bool, true, false}
+use Prim.Native.Nat.{ℕ, _+_, _-_, _*_, _/_, _%_, _≤_, _<_, max}
+use mathlib.Core.Bool.{false}
 use mathlib.Core.List.{List, [], _∷_}
-use mathlib.Core.Path.{_≡_, refl, sym, ap, ap₂, _∙_, subst}
+use mathlib.Core.Path.{_≡_, refl, sym, ap, ap₂, _∙_}
 use lib.IntN.{pos}
 use lib.ListN.{length, getD}
 use native.Mathlib.Nat.{mul-le-mul, add-zero}
 use native.Mathlib.Omega.{arith}
-use Rattle.lists.specs.Lists.{onto, total, all}
+use Rattle.lists.specs.Lists.{onto, total}
 use Rattle.lists.proofs.Maps.{onto-whole}
 use Rattle.limit.proofs.Laws.{limit-bound}
 use Rattle.clip.specs.Clip.{excess}
 use Rattle.clip.proofs.Shares.{excess-most}
 use Rattle.tile.specs.declared.Rect.{Rect}
-use Rattle.tile.specs.Tile.{within, greysOf, countsOf, CountAsks, Inside}
+use Rattle.tile.specs.Tile.{greysOf, countsOf, CountAsks}
 use Rattle.tile.proofs.Counts.{length-counts, total-counts}
-use Rattle.settings.specs.declared.Settings.{Settings}
 use Rattle.settings.specs.Settings.{binsOf, tilePixels, Ready}
 use Rattle.prepare.specs.Prepare.{tileRect, tileMap, mappings, TilesAsk}
 use Rattle.prepare.proofs.Table.{tile-pixels-most}
 use Rattle.prepare.proofs.Films.{tile-inside, tile-greys, length-tile-greys, length-tile-map, length-mappings, getD-mappings}
 use Rattle.lister.specs.Lister.{two, settingsOf, limitFor, excessFor, tileLine, line}
-use Rattle.lister.specs.Asks.{tileFields, ExcessAsks}
+use Rattle.lister.specs.Asks.{tileFields}
 
 -- a product of two 32-bit numbers fits 64 bits
 pub product-fits : (a b : ℕ) → a < 4294967296 → b < 4294967296 → a * b < 18446744073709551616

@@ -1,19 +1,17 @@
 -- Laws of `joined` and `blocks`, lists made of blocks of k entries.
 -- Assumes nothing.
 use Prim.Native.Nat.{ℕ, zero, suc, _+_, _-_, _*_, _≤_, _<_}
-use mathlib.Core.Bool.{Bool, true, false, _&&_}
 use mathlib.Core.List.{List, [], _∷_, _++_, append-assoc}
 use mathlib.Core.Logic.{⊎-elim}
 use mathlib.Core.Path.{_≡_, refl, sym, ap, ap₂, _∙_}
 use lib.Arith.{digits-lt}
-use lib.ListN.{length, take, drop, getD, set, length-set, length-append, length-drop, List·getD-append, take-append-drop}
-use lib.Seq.{set-split, take-suc-set, drop-set-lt, append-snoc, take-suc, take-all, take-at, drop-at, drop-drop, getD-append-add}
+use lib.ListN.{length, take, drop, getD, set, length-set, length-append, length-drop, List·getD-append}
+use lib.Seq.{set-split, take-suc-set, drop-set-lt, append-snoc, take-at, drop-at, drop-drop, getD-append-add}
 use native.Mathlib.Nat.{suc-mul, add-mul, one-mul, eq-or-lt-of-le, le-of-suc-le-suc, not-suc-le-zero, mul-le-mul-right}
 use native.Mathlib.Omega.{arith}
 use native.Mathlib.Numerals.{add-one}
 use borrow.Rule.Slice.PartMut.{putMid}
-use Rattle.lists.specs.Lists.{tab, joined, blocks, onto, over, all, every}
-use Rattle.lists.proofs.Tabs.{and-left, and-right, and-both}
+use Rattle.lists.specs.Lists.{tab, joined, blocks, onto, over}
 use Rattle.lists.proofs.Fills.{joined-suc, length-joined}
 
 -- ---- joined

@@ -1,15 +1,15 @@
 -- Laws of `filled`, `onto`, `over`, `joined` and `blocks`: slices that are filled from the front, or in the middle.
 -- Assumes nothing.
 use Prim.Native.Nat.{ℕ, zero, suc, _+_, _-_, _*_, _≤_, _<_}
-use mathlib.Core.List.{List, [], _∷_, _++_, append-assoc, append-nil}
+use mathlib.Core.List.{List, _++_}
 use mathlib.Core.Path.{_≡_, refl, sym, ap, ap₂, _∙_}
-use lib.ListN.{length, take, drop, getD, set, length-append, length-drop, length-take, take-append-drop}
-use lib.Seq.{set-at, drop-cons, append-snoc, drop-at, take-at, length-take-le, drop-drop, getD-append-add}
-use native.Mathlib.Nat.{suc-mul, add-mul, one-mul, zero-mul, zero-add}
+use lib.ListN.{length, take, drop, getD, set, length-append, length-drop}
+use lib.Seq.{set-at, drop-cons, append-snoc, drop-at, take-at, length-take-le}
+use native.Mathlib.Nat.{suc-mul, zero-mul, zero-add}
 use native.Mathlib.Omega.{arith}
 use native.Mathlib.Numerals.{add-one}
 use Rattle.lists.specs.Lists.{tab, joined, filled, onto, over, blocks}
-use Rattle.lists.proofs.Tabs.{length-tab, tab-suc, tab-all, getD-tab}
+use Rattle.lists.proofs.Tabs.{length-tab, tab-suc, tab-all}
 
 -- ---- filled
 

@@ -2,7 +2,7 @@
 -- Assumes nothing.
 use Prim.Native.Nat.{ℕ, _+_, _*_, _/_, _≤_, _<_}
 use mathlib.Core.Path.{_≡_, refl, sym, _∙_}
-use native.Mathlib.Nat.{div-eq-of-lt-le, mul-add, add-mul, one-mul, mul-comm, mul-assoc, mul-right-comm, le-trans, le-of-eq, lt-of-le-of-lt, lt-of-lt-of-le, mul-le-mul-left, mul-le-mul-right, lt-of-mul-lt-mul-right, div-mul-le-self, lt-div-mul-add, le-of-lt}
+use native.Mathlib.Nat.{div-eq-of-lt-le, mul-add, add-mul, one-mul, mul-assoc, mul-right-comm, le-trans, le-of-eq, lt-of-le-of-lt, lt-of-lt-of-le, mul-le-mul-left, mul-le-mul-right, lt-of-mul-lt-mul-right, div-mul-le-self, lt-div-mul-add, le-of-lt}
 use native.Mathlib.Omega.{arith}
 
 -- the factor that stands for 1 / d

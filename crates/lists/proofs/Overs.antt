@@ -1,11 +1,11 @@
 -- Laws of `over` and `onto`: writers that follow each other, from the front or from a place on.
 -- Assumes nothing.
-use Prim.Native.Nat.{ℕ, zero, suc, _+_, _-_, _≤_, _<_}
+use Prim.Native.Nat.{ℕ, suc, _+_, _-_, _≤_, _<_}
 use mathlib.Core.List.{List, [], _∷_, _++_, append-assoc, append-nil}
 use mathlib.Core.Path.{_≡_, refl, sym, ap, ap₂, _∙_}
 use lib.ListN.{length, take, drop, set, length-append, length-drop, take-append-drop, drop-of-length-le}
-use lib.Seq.{set-split, take-set-le, drop-at, take-at, take-all, drop-length, length-take-le, drop-drop, drop-append-add, drop-append-seam, take-append-seam}
-use native.Mathlib.Nat.{add-zero, add-assoc}
+use lib.Seq.{set-split, take-set-le, drop-at, take-at, length-take-le, drop-drop, drop-append-add, take-append-seam}
+use native.Mathlib.Nat.{add-zero}
 use native.Mathlib.Omega.{arith}
 use native.Mathlib.Numerals.{add-one}
 use Rattle.lists.specs.Lists.{onto, over}

@@ -1,10 +1,10 @@
 -- Laws of `sum` and `total`.
 -- Assumes nothing.
 use Prim.Native.Nat.{ℕ, zero, suc, _+_, _-_, _*_, _≤_, _<_}
-use mathlib.Core.List.{List, [], _∷_, _++_, map}
+use mathlib.Core.List.{List, [], _∷_, _++_}
 use mathlib.Core.Path.{_≡_, refl, sym, ap, ap₂, _∙_}
 use lib.ListN.{length, take, drop, getD, set, take-append-drop}
-use native.Mathlib.Nat.{mul-add, add-mul, suc-mul, zero-mul, le-refl, add-le-add, not-suc-le-zero}
+use native.Mathlib.Nat.{suc-mul, zero-mul, not-suc-le-zero}
 use native.Mathlib.Omega.{arith}
 use Rattle.lists.specs.Lists.{tab, sum, total}
 

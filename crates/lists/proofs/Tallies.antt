@@ -1,19 +1,19 @@
 -- Laws of `times`, and of a filled slice one of whose entries is counted up.
 -- Assumes nothing.
-use Prim.Native.Nat.{ℕ, zero, suc, _+_, _-_, _*_, _≤_, _<_}
-use mathlib.Core.Bool.{Bool, true, false, _&&_, cond}
-use mathlib.Core.List.{List, [], _∷_, _++_, map, append-nil}
+use Prim.Native.Nat.{ℕ, zero, suc, _+_, _-_, _≤_, _<_}
+use mathlib.Core.Bool.{Bool, true, false, cond}
+use mathlib.Core.List.{List, [], _∷_, _++_}
 use mathlib.Core.Logic.{⊎-elim}
 use mathlib.Core.Path.{_≡_, refl, sym, ap, ap₂, _∙_}
 use lib.Dec.{eqb, ltb}
-use lib.ListN.{length, take, drop, getD, set, length-append, length-drop, length-set, List·getD-append}
-use lib.Seq.{getD-at, getD-take, getD-drop, getD-set-same, getD-set-other, set-append-left, length-take-le, drop-at, take-suc, take-take, take-nil}
+use lib.ListN.{length, take, drop, getD, set, length-drop, length-set, List·getD-append}
+use lib.Seq.{getD-take, getD-drop, getD-set-same, getD-set-other, set-append-left, length-take-le, drop-at, take-suc, take-take, take-nil}
 use native.Mathlib.Numerals.{add-one}
 use native.Mathlib.Nat.{suc-add, eq-or-lt-of-le, le-of-suc-le-suc, not-suc-le-zero}
 use native.Mathlib.Omega.{arith}
 use borrow.Author.Tests.{ltb-true, eqb-true, eqb-false, eq-eqb, ne-eqb}
-use Rattle.lists.specs.Lists.{tab, sum, total, joined, all, times, onto, filled}
-use Rattle.lists.proofs.Tabs.{length-tab, getD-tab, tab-cong, eq-tab, and-left, and-right, and-both}
+use Rattle.lists.specs.Lists.{tab, sum, total, all, times, filled}
+use Rattle.lists.proofs.Tabs.{length-tab, getD-tab, tab-cong, eq-tab, and-left, and-right}
 use Rattle.lists.proofs.Sums.{sum-add, sum-cong, sum-const, total-append, total-take-drop}
 
 -- ---- times

@@ -2,20 +2,20 @@
 -- Assumes nothing.
 use Prim.Native.Nat.{ℕ, zero, suc, _+_, _-_, _*_, _≤_, _<_}
 use mathlib.Core.Bool.{Bool, true, false, not}
-use mathlib.Core.List.{List, [], _∷_, _++_}
+use mathlib.Core.List.{List, _++_}
 use mathlib.Core.Path.{_≡_, refl, sym, ap, _∙_}
 use native.Mathlib.Omega.{arith}
 use native.Mathlib.Nat.{mul-le-mul, mul-pos}
-use lib.Dec.{eqb, ltb, lit<}
+use lib.Dec.{eqb, lit<}
 use lib.ListN.{length, drop, length-append}
 use borrow.Author.Tests.{ltb-false, eqb-false, eqb-true, not-false, not-true, ne-eqb, eq-eqb, le-ltb, lt-ltb}
-use Rattle.refuse.specs.Refuse.{Row, row, first, None, Numbered}
+use Rattle.refuse.specs.Refuse.{row, first, None, Numbered}
 use Rattle.refuse.proofs.Walk.{first-none, first-hit, none-first, none-append, numbered-append, none-front, none-behind, front, behind}
 use Rattle.header.specs.declared.Head.{Head}
 use Rattle.header.specs.declared.Head.the-variants as Head
 use Rattle.header.specs.Header.{headerOf, headerBytes}
 use Rattle.header.proofs.Laws.{found-within}
-use Rattle.samples.specs.Samples.{isWide, sizeOf, packed, unpacked, noneAbove}
+use Rattle.samples.specs.Samples.{isWide, sizeOf, unpacked, noneAbove}
 use Rattle.samples.proofs.Packing.{length-packed}
 use Rattle.pgm.specs.Pgm.{rasterSize, limitRows, rasterRows, targetRows, greyRows, writeRows, Within, RasterAsks, GreyAsks, WriteAsks, unless, judgedOf, readOf, fileOf}
 

@@ -1,18 +1,16 @@
 -- How prepare ends: refused, with the factor 1.0, or with the mappings laid down.
 -- Assumes nothing.
-use Prim.Native.Nat.{ℕ, zero, suc, _*_, _/_, _≤_, _<_}
+use Prim.Native.Nat.{ℕ, zero, suc}
 use mathlib.Core.Bool.{Bool, true, false}
 use mathlib.Core.List.{List}
-use mathlib.Core.Path.{_≡_, refl, sym, ap, ap₂, _∙_}
-use native.Mathlib.Omega.{arith}
+use mathlib.Core.Path.{_≡_, refl, sym, ap, _∙_}
 use lib.ListN.{length}
 use Rattle.refuse.specs.Refuse.{first}
-use Rattle.lists.specs.Lists.{onto, filled}
 use Rattle.settings.specs.declared.Settings.{Settings}
 use Rattle.settings.specs.declared.Footer.{Footer}
-use Rattle.settings.specs.Settings.{binsOf, keptOf, tilePixels, clipOne, Ready}
+use Rattle.settings.specs.Settings.{binsOf, keptOf, tilePixels, clipOne}
 use Rattle.prepare.specs.declared.Prepared.the-variants as Prepared
-use Rattle.prepare.specs.Prepare.{mappings, prepareRows, footerOf, stays, Ended, ending, settled, preparedOf, prepareOf, TightAsks, Work, TilesAsk, TilesDone}
+use Rattle.prepare.specs.Prepare.{mappings, prepareRows, footerOf, Ended, ending, settled, preparedOf, prepareOf, TightAsks, Work, TilesAsk, TilesDone}
 use Rattle.prepare.proofs.Table.{work, tight-asks}
 
 -- a number that is not 0 is a refusal

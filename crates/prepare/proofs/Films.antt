@@ -1,33 +1,33 @@
 -- Laws of a film's tiles: where they lie, and their mappings.
 -- Assumes nothing.
-use Prim.Native.Nat.{ℕ, zero, suc, _+_, _-_, _*_, _/_, _%_, _≤_, _<_}
-use mathlib.Core.Bool.{Bool, true, false, not, _&&_}
+use Prim.Native.Nat.{ℕ, _+_, _-_, _*_, _/_, _%_, _≤_, _<_}
+use mathlib.Core.Bool.{true, false}
 use mathlib.Core.List.{List}
-use mathlib.Core.Path.{_≡_, refl, sym, ap, ap₂, _∙_, subst}
-use native.Mathlib.Nat.{mod-lt, mul-comm, mul-le-mul, mul-le-mul-right, mul-pos, div-lt-iff-lt-mul, le-trans}
+use mathlib.Core.Path.{_≡_, refl, sym, ap, _∙_, subst}
+use native.Mathlib.Nat.{mod-lt, mul-comm, mul-le-mul, mul-le-mul-right, mul-pos, div-lt-iff-lt-mul}
 use native.Mathlib.Omega.{arith}
-use lib.Dec.{ltb}
 use lib.ListN.{length, take, drop, getD, length-drop}
 use lib.Seq.{length-take-le}
 use borrow.Author.Tests.{ltb-false, not-false}
 use borrow.Rule.Slice.PartMut.{putMid}
-use Rattle.lists.specs.Lists.{joined, onto, over, all}
+use Rattle.lists.specs.Lists.{all}
 use Rattle.lists.proofs.Fills.{length-joined, drop-onto, length-onto}
 use Rattle.lists.proofs.Blocks.{block-fits, getD-joined}
 use Rattle.lists.proofs.Maps.{over-part}
 use Rattle.lists.proofs.Alls.{all-joined}
 use Rattle.limit.specs.declared.Clip.{Clip}
 use Rattle.limit.specs.declared.Clip.the-variants.{Off, Factor}
-use Rattle.limit.specs.Limit.{isOne, accepted, limitOf, tooTight}
+use Rattle.limit.specs.Limit.{accepted, limitOf, tooTight}
+use Rattle.limit.proofs.Laws.{tight-factor}
 use Rattle.tile.specs.declared.Rect.{Rect}
 use Rattle.tile.specs.Tile.{within, greysOf, tileCounts, tileMapping, Inside, Holds, off, factor, TileMapped}
 use Rattle.tile.specs.Tile as tile
 use Rattle.tile.proofs.Greys.{length-greys, greys-all}
 use Rattle.tile.proofs.Tiles.{length-tile-counts, length-tile-mapping, tile-mapping-within}
 use Rattle.settings.specs.declared.Settings.{Settings}
-use Rattle.settings.specs.Settings.{binsOf, entriesOf, tileWidth, tileHeight, tilePixels, clipBad, clipOne, Ready}
+use Rattle.settings.specs.Settings.{binsOf, entriesOf, tileHeight, tilePixels, clipBad, clipOne, Ready}
 use Rattle.settings.proofs.Ready.{tiles-exact, tile-some, entries-small}
-use Rattle.prepare.specs.Prepare.{tileRect, tileMap, mappings, Work, TilesAsk, TileAsks, TileDone}
+use Rattle.prepare.specs.Prepare.{tileRect, tileMap, mappings, TilesAsk, TileAsks, TileDone}
 use Rattle.prepare.proofs.Table.{tile-pixels-most}
 
 -- ---- where a tile lies
@@ -63,11 +63,8 @@ length-tile-greys w h pic s k = length-greys pic w (tileRect w h s k)
 
 -- a clip setting that is neither refused nor 1.0 nor too tight
 pub holds : (clip : Clip) (n b : ℕ) → clipBad clip ≡ false → clipOne clip ≡ false → tooTight clip n b ≡ false → Holds clip n b
-unfolding tooTight
 holds Off n b g o t = off
-holds (Factor f) n b g o t =
-    let q : ltb (limitOf f n b * b) n ≡ false = rw o at t in
-    factor (not-false (accepted f) g) (ltb-false (limitOf f n b * b) n q)
+holds (Factor f) n b g o t = factor (not-false (accepted f) g) (ltb-false (limitOf f n b * b) n (sym (tight-factor f n b o) ∙ t))
 
 module _ {w h : ℕ} {pic : List ℕ} {s : Settings} {room scratch : ℕ} (asks : TilesAsk w h pic s room scratch) where
   -- so the limit has room for each tile
@@ -76,7 +73,9 @@ module _ {w h : ℕ} {pic : List ℕ} {s : Settings} {room scratch : ℕ} (asks 
 
   -- a tile's greys lie in Min to Max
   pub tile-greys : {k : ℕ} → k < s .across * s .down → all (within (s .min) (s .max)) (greysOf pic w (tileRect w h s k)) ≡ true
-  tile-greys {k} l = greys-all (within (s .min) (s .max)) pic w (tileRect w h s k) (tile-inside (asks .work .ready) l) (asks .work .greys)
+  tile-greys {k} l =
+      let inside = tile-inside (asks .work .ready) l in
+      greys-all (within (s .min) (s .max)) pic w (tileRect w h s k) (inside .across) (inside .down) (asks .work .greys)
 
   -- the same of the tile's rectangle
   pub rect-holds : (k : ℕ) → Holds (s .clip) (tileRect w h s k .width * tileRect w h s k .height) (binsOf s)

@@ -1,15 +1,15 @@
 -- How enhance ends: refused, with the factor 1.0, or with the picture rendered.
 -- Assumes nothing.
-use Prim.Native.Nat.{ℕ, zero, suc, _+_, _*_, _/_, _≤_, _<_}
+use Prim.Native.Nat.{ℕ, zero, suc}
 use mathlib.Core.Bool.{Bool, true, false}
 use mathlib.Core.List.{List}
-use mathlib.Core.Path.{_≡_, refl, sym, ap, ap₂, _∙_}
+use mathlib.Core.Path.{_≡_, refl, sym, ap, _∙_}
 use native.Mathlib.Nat.{mul-comm}
 use native.Mathlib.Omega.{arith}
-use lib.ListN.{length, take, getD}
+use lib.ListN.{length, take}
 use lib.Seq.{take-all}
 use Rattle.refuse.specs.Refuse.{first}
-use Rattle.lists.specs.Lists.{onto, filled, all}
+use Rattle.lists.specs.Lists.{onto, all}
 use Rattle.lists.proofs.Fills.{take-onto, length-onto}
 use Rattle.tile.specs.Tile.{within}
 use Rattle.settings.specs.declared.Settings.{Settings}
@@ -18,7 +18,7 @@ use Rattle.settings.specs.Settings.{binsOf, entriesOf, tilePixels, clipOne, Rea
 use Rattle.render.specs.Render.{renderOf, whole, Mapped, Shown}
 use Rattle.render.proofs.Laws.{render-front, ready-mapped}
 use Rattle.prepare.specs.declared.Enhanced.the-variants as Enhanced
-use Rattle.prepare.specs.Prepare.{mappings, prepareRows, footerOf, stays, Over, overing, settledOver, enhancedOf, enhanceOf, Work, TilesAsk, TilesDone}
+use Rattle.prepare.specs.Prepare.{mappings, prepareRows, footerOf, Over, overing, settledOver, enhancedOf, enhanceOf, Work, TilesAsk, TilesDone}
 use Rattle.prepare.proofs.Films.{length-mappings, mappings-within}
 use Rattle.prepare.proofs.Endings.{asks-tiles}
 

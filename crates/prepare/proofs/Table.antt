@@ -1,15 +1,15 @@
 -- The rows 1 to 14 as `refusal` asks them, and what they tell where none of them applies.
 -- Assumes nothing.
-use Prim.Native.Nat.{ℕ, zero, suc, _*_, _/_, _≤_, _<_}
-use mathlib.Core.Bool.{Bool, true, false, not}
-use mathlib.Core.List.{List, [], _∷_, _++_}
+use Prim.Native.Nat.{ℕ, _≤_, _<_}
+use mathlib.Core.Bool.{true, false, not}
+use mathlib.Core.List.{List}
 use mathlib.Core.Path.{_≡_, refl, sym, ap, _∙_}
 use native.Mathlib.Nat.{mul-le-mul}
 use native.Mathlib.Omega.{arith}
 use lib.Dec.{ltb, lit<}
 use lib.ListN.{length}
 use borrow.Author.Tests.{lt-ltb, le-ltb, ltb-false, not-false}
-use Rattle.refuse.specs.Refuse.{Row, row, first, None, Numbered}
+use Rattle.refuse.specs.Refuse.{first, Numbered}
 use Rattle.refuse.proofs.Walk.{front, behind, first-none, none-first, none-front, none-behind, numbered-append}
 use Rattle.lists.specs.Lists.{all}
 use Rattle.limit.specs.Limit.{tooTight}

@@ -1,27 +1,25 @@
 -- Refusal 14 and the footer, by the judgement of the factor.
 -- Assumes nothing.
-use Prim.Native.Nat.{ℕ, _*_, _≤_, _<_}
-use mathlib.Core.Bool.{Bool, true, false, not, _&&_}
-use mathlib.Core.Path.{_≡_, refl, sym, ap, _∙_}
-use native.Mathlib.Nat.{lt-of-le-of-lt}
+use Prim.Native.Nat.{ℕ, _*_}
+use mathlib.Core.Bool.{true, false, not}
+use mathlib.Core.Path.{_≡_, refl, sym}
 use native.Mathlib.Omega.{arith}
-use lib.Dec.{ltb, lit<}
+use lib.Dec.{ltb}
 use lib.Ieee.{Float, ofBits, binary32, binary64}
 use Rattle.limit.specs.declared.Clip.{Clip}
 use Rattle.limit.specs.declared.Clip.the-variants.{Off, Factor}
 use Rattle.limit.specs.declared.Judged.the-variants.{Refused, One, Above}
-use Rattle.limit.specs.Limit.{accepted, isOne, judgeOf, limitOf, usedOf, LimitAsks, UsedAsks, tooTight}
-use Rattle.limit.proofs.Laws.{limit-room}
+use Rattle.limit.specs.Limit.{accepted, judgeOf, limitOf, usedOf, LimitAsks, UsedAsks, tooTight}
+use Rattle.limit.proofs.Laws.{limit-room, loose-off, loose-one, tight-factor}
 use Rattle.settings.specs.Settings.{clipBad}
 use Rattle.settings.specs.declared.Footer.{Footer}
 use Rattle.settings.proofs.Clips.{refused-not, one-is, above-is}
-use Rattle.prepare.specs.Prepare.{footerOf, none, one, TightAsks}
+use Rattle.prepare.specs.Prepare.{footerOf, TightAsks}
 
 module _ (clip : Clip) (n b : ℕ) (asks : TightAsks clip n b) where
   -- clip off is never too tight
   pub tight-off : clip ≡ Off → false ≡ tooTight clip n b
-  unfolding tooTight
-  tight-off e = rw e refl
+  tight-off e = rw e (sym (loose-off n b))
 
   pub footer-off : clip ≡ Off → _≡_ {A = Footer} (record { limit = 0; asked = ofBits binary32 0; used = ofBits binary64 0 }) (footerOf clip n b)
   unfolding footerOf ofBits
@@ -38,8 +36,7 @@ module _ (clip : Clip) (n b : ℕ) (asks : TightAsks clip n b) where
 
     -- at 1.0 there is no 14
     pub tight-one : judgeOf f ≡ One → false ≡ tooTight clip n b
-    unfolding tooTight
-    tight-one j = rw (e, one-is f j .1) refl
+    tight-one j = rw e (sym (loose-one f n b (one-is f j .1)))
 
     pub footer-one : judgeOf f ≡ One
         → _≡_ {A = Footer} (record { limit = 0; asked = ofBits binary32 1065353216; used = ofBits binary64 4607182418800017408 }) (footerOf clip n b)
@@ -51,8 +48,7 @@ module _ (clip : Clip) (n b : ℕ) (asks : TightAsks clip n b) where
 
     -- above 1.0 it is the limit times the bins that decides
     pub tight-above : {l : ℕ} → judgeOf f ≡ Above → l ≡ limitOf f n b → ltb (l * b) n ≡ tooTight clip n b
-    unfolding tooTight
-    tight-above j q = rw (e, above-is f j .1, q) refl
+    tight-above j q = rw (e, q) (sym (tight-factor f n b (above-is f j .1)))
 
     pub footer-above : {l : ℕ} {u : Float} → judgeOf f ≡ Above → l ≡ limitOf f n b → u ≡ usedOf l b n
         → _≡_ {A = Footer} (record { limit = l; asked = f; used = u }) (footerOf clip n b)

@@ -1,17 +1,17 @@
 -- The turns of `map_tiles`: each tile's mapping is laid down in its place.
 -- Assumes nothing.
-use Prim.Native.Nat.{ℕ, zero, suc, _+_, _*_, _≤_, _<_}
+use Prim.Native.Nat.{ℕ, _+_, _*_, _≤_, _<_}
 use mathlib.Core.List.{List}
-use mathlib.Core.Path.{_≡_, refl, sym, ap, ap₂, _∙_}
-use native.Mathlib.Nat.{mul-le-mul, lt-of-le-of-lt, mul-le-mul-right}
+use mathlib.Core.Path.{_≡_, refl, ap, _∙_}
+use native.Mathlib.Nat.{mul-le-mul, mul-le-mul-right}
 use native.Mathlib.Omega.{arith}
 use lib.ListN.{length, drop}
-use Rattle.lists.specs.Lists.{blocks, filled, onto}
+use Rattle.lists.specs.Lists.{blocks, filled}
 use Rattle.lists.proofs.Blocks.{blocks-over, blocks-end, blocks-onto, length-blocks}
 use Rattle.lists.proofs.Fills.{blocks-none}
 use Rattle.lists.proofs.Maps.{filled-behind}
 use Rattle.settings.specs.declared.Settings.{Settings}
-use Rattle.settings.specs.Settings.{binsOf, entriesOf, Ready}
+use Rattle.settings.specs.Settings.{binsOf}
 use Rattle.prepare.specs.Prepare.{tileMap, mappings, TilesAsk, TileAsks, TileDone, TilesDone}
 use Rattle.prepare.proofs.Films.{length-tile-map}
 

@@ -17,7 +17,6 @@ use Rattle.limit.specs.Limit.{isOne, limitOf, usedOf, tooTight}
 use Rattle.tile.specs.declared.Rect.{Rect}
 use Rattle.tile.specs.Tile.{within, greysOf, tileMapping}
 use Rattle.settings.specs.declared.Settings.{Settings}
-use Rattle.settings.specs.declared.MapRecord.{MapRecord}
 use Rattle.settings.specs.declared.Footer.{Footer}
 use Rattle.settings.specs.Settings.{binsOf, recordOf, tileWidth, tileHeight, tilePixels, clipBad, clipOne, sharedRows, Ready}
 use Rattle.render.specs.Render.{renderOf, whole}

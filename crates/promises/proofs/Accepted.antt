@@ -19,7 +19,7 @@ use Rattle.prepare.specs.Prepare.{prepareRows, footerOf, Ended, ending, settled
 use Rattle.prepare.proofs.Table.{work}
 use Rattle.draw.specs.declared.Drawn.{Drawn}
 use Rattle.draw.specs.declared.Drawn.the-variants as Drawn
-use Rattle.draw.specs.Draw.{drawRows, Shows, showing, drawOf}
+use Rattle.draw.specs.Draw.{drawRows, showing, drawOf}
 use Rattle.draw.specs.Draw.{settled as shown}
 use Rattle.promises.specs.Films.{preparedNumber, enhancedNumber, drawnNumber}
 

@@ -1,13 +1,13 @@
 -- Document 00, demand 2: "The rendering of every accepted film is the one that the integer rule of document 01 gives for that film's own pixels and settings".
 -- Assumes nothing.
-use Prim.Native.Nat.{ℕ, zero, suc, _+_, _*_, _/_, _≤_, _<_}
+use Prim.Native.Nat.{ℕ, _+_, _*_, _≤_, _<_}
 use mathlib.Core.Bool.{Bool, true, false}
 use mathlib.Core.List.{List}
 use mathlib.Core.Logic.{_≢_}
 use mathlib.Core.Path.{_≡_, refl, sym, ap, ap₂, _∙_}
 use native.Mathlib.Nat.{mul-comm, zero-add}
 use native.Mathlib.Omega.{arith}
-use lib.ListN.{length, take, getD, List·getD-append}
+use lib.ListN.{length, getD, List·getD-append}
 use lib.Arith.{digits-lt}
 use Rattle.lists.specs.Lists.{onto}
 use Rattle.lists.proofs.Blocks.{block-fits}
@@ -25,7 +25,8 @@ use Rattle.blend.specs.Blend.{placeOf, greyOf}
 use Rattle.render.specs.Render.{rectOf, mappedAt, pixelOf, renderedOf, renderOf, whole, PixelAsks}
 use Rattle.render.proofs.Pixels.{tile-index, pixel-bin}
 use Rattle.render.proofs.Rows.{pixel-asks}
-use Rattle.render.proofs.Laws.{getD-greys, render-at, window-law}
+use Rattle.tile.proofs.Greys.{getD-greys}
+use Rattle.render.proofs.Laws.{render-at, window-law}
 use Rattle.prepare.specs.declared.Prepared.the-variants as Prepared
 use Rattle.prepare.specs.declared.Enhanced.the-variants as Enhanced
 use Rattle.prepare.specs.Prepare.{tileRect, tileMap, mappings, stays, Ended, prepareOf, preparedOf, Over, enhanceOf, enhancedOf, Work, TilesAsk}

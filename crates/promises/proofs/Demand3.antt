@@ -1,30 +1,31 @@
 -- Document 00, demand 3: "With clipping on (a factor above one), in every tile of a film that prepare or enhance accepts".
 -- Assumes nothing.
-use Prim.Native.Nat.{ℕ, zero, suc, _+_, _*_, _/_, _≤_, _<_}
-use mathlib.Core.Bool.{Bool, true, false, not, _&&_}
+use Prim.Native.Nat.{ℕ, _+_, _*_, _≤_, _<_}
+use mathlib.Core.Bool.{Bool, true, false}
 use mathlib.Core.List.{List, [], _∷_, _++_, append-assoc}
 use mathlib.Core.Logic.{_↔_}
-use mathlib.Core.Path.{_≡_, refl, sym, ap, ap₂, _∙_, subst}
+use mathlib.Core.Path.{_≡_, refl, sym, ap, _∙_, subst}
 use native.Mathlib.Omega.{arith}
 use lib.Dec.{ltb, lit<}
 use lib.Ieee.{Float}
 use lib.ListN.{length, getD}
-use borrow.Author.Tests.{ltb-true, ltb-false, lt-ltb, le-ltb}
+use borrow.Author.Tests.{ltb-true, ltb-false}
 use Rattle.lists.specs.Lists.{total}
-use Rattle.refuse.specs.Refuse.{Row, row, pick, first, Numbered}
+use Rattle.refuse.specs.Refuse.{row, pick, first, Numbered}
 use Rattle.refuse.proofs.Walk.{first-none, first-behind, numbered-append}
-use Rattle.limit.specs.declared.Clip.the-variants.{Off, Factor}
+use Rattle.limit.specs.declared.Clip.the-variants.{Factor}
 use Rattle.limit.specs.Limit.{isOne, limitOf, usedOf, tooTight}
+use Rattle.limit.proofs.Laws.{tight-factor}
 use Rattle.clip.specs.Clip.{clipped}
 use Rattle.clip.proofs.Laws.{length-clipped, total-clipped, clipped-most, clipped-least, no-filling, filling}
-use Rattle.tile.specs.Tile.{greysOf, countsOf, mappedOf, clippedBy, tileCounts, Holds}
+use Rattle.tile.specs.Tile.{greysOf, mappedOf, tileCounts, Holds}
 use Rattle.tile.proofs.Counts.{length-counts, total-counts}
 use Rattle.tile.proofs.Mapped.{mapped-mono, mapped-rise, mapped-first}
-use Rattle.tile.proofs.Tiles.{holds-room}
+use Rattle.tile.proofs.Tiles.{holds-room, tile-counts-factor}
 use Rattle.settings.specs.declared.Settings.{Settings}
 use Rattle.settings.specs.declared.MapRecord.{MapRecord}
 use Rattle.settings.specs.declared.Footer.{Footer}
-use Rattle.settings.specs.Settings.{binsOf, tilePixels, tileWidth, tileHeight, clipOne, sharedRows}
+use Rattle.settings.specs.Settings.{binsOf, tilePixels, sharedRows}
 use Rattle.settings.proofs.Ready.{shared-numbered}
 use Rattle.prepare.specs.declared.Prepared.the-variants as Prepared
 use Rattle.prepare.specs.declared.Enhanced.the-variants as Enhanced
@@ -58,11 +59,10 @@ module _ {w h : ℕ} {pic : List ℕ} {s : Settings} {room scratch : ℕ} (work 
 
   -- the clipped counts are the tile's own counts, clipped at L
   clipped-own : (k : ℕ) → clippedCounts w h pic s k ≡ clipped (limitOf f (tilePixels w h s) (binsOf s)) (rawCounts w h pic s k)
-  unfolding tileCounts clippedBy
   clipped-own k =
       ap (λ x. tileCounts (s .min) (s .max) (binsOf s) x (greysOf pic w (tileRect w h s k))) c
-      ∙ ap₂ (λ n b. clipped (limitOf f n b) (rawCounts w h pic s k)) (length-tile-greys w h pic s k)
-      (length-counts (s .min) (s .max) (binsOf s) (greysOf pic w (tileRect w h s k)))
+      ∙ tile-counts-factor (s .min) (s .max) (binsOf s) f (greysOf pic w (tileRect w h s k))
+      ∙ ap (λ n. clipped (limitOf f n (binsOf s)) (rawCounts w h pic s k)) (length-tile-greys w h pic s k)
 
   -- the limit has room for them
   tile-room : tilePixels w h s ≤ limitOf f (tilePixels w h s) (binsOf s) * binsOf s
@@ -148,12 +148,12 @@ module _ (w h : ℕ) (pic : List ℕ) (s : Settings) (room scratch : ℕ) where
   module _ (earlier : first (earlierRows w h pic s room scratch) ≡ 0) (f : Float) (c : s .clip ≡ Factor f) (one : isOne f ≡ false) where
     -- where none of the rows 1 to 13 applies, the limit times the bins decides
     rows-tight : (b : Bool) → ltb (limitOf f (tilePixels w h s) (binsOf s) * binsOf s) (tilePixels w h s) ≡ b → first (prepareRows w h pic s room scratch) ≡ pick b 14 0
-    unfolding tooTight first
+    unfolding first
     rows-tight b e =
         ap first rows-split
         ∙ first-behind (earlierRows w h pic s room scratch) _ (first-none (earlierRows w h pic s room scratch) earlier-numbered earlier)
         ∙ ap (λ x. first (row 14 (tooTight x (tilePixels w h s) (binsOf s)) ∷ [])) c
-        ∙ ap₂ (λ x y. first (row 14 (not x && y) ∷ [])) one e
+        ∙ ap (λ x. first (row 14 x ∷ [])) (tight-factor f (tilePixels w h s) (binsOf s) one ∙ e)
 
     -- "the clip refusal exactly when no filling of the bins, none above the limit, could hold the tile's pixels": of the table that prepare and enhance share
     pub clip-refusal : (first (prepareRows w h pic s room scratch) ≡ 14) ↔ (Filling (limitOf f (tilePixels w h s) (binsOf s)) (binsOf s) (tilePixels w h s) → ⊥)

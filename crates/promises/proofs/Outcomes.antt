@@ -1,7 +1,7 @@
 -- Document 01, "How tight the promises are", of prepare, enhance and draw: "any two outcomes it allows are equal".
 -- `Post` is the contract itself: of the arguments a, an answer r and the lent memory x at the end.
 -- Assumes nothing.
-use mathlib.Core.Path.{_≡_, refl, sym, ap, _∙_}
+use mathlib.Core.Path.{_≡_, sym, ap, _∙_}
 use contract.Lifetimes.{Lfts}
 use denote.Ref.{now}
 use denote.Triple.Clauses.{AtExit}

@@ -1,28 +1,27 @@
 -- A film that prepare accepted: other buffers that are long enough are accepted too, and so is a window inside it with what prepare left.
 -- Assumes nothing.
-use Prim.Native.Nat.{ℕ, zero, suc, _+_, _*_, _/_, _≤_, _<_}
+use Prim.Native.Nat.{ℕ, _+_, _*_, _≤_, _<_}
 use mathlib.Core.Bool.{Bool, true, false, not, _&&_}
 use mathlib.Core.List.{List, [], _∷_, _++_}
-use mathlib.Core.Path.{_≡_, refl, sym, ap, ap₂, _∙_}
-use native.Mathlib.Nat.{mul-comm}
+use mathlib.Core.Path.{_≡_, refl, sym, ap, _∙_}
+use native.Mathlib.Nat.{mul-comm, mul-le-mul-right}
 use native.Mathlib.Omega.{arith}
-use lib.Arith.{digits-lt}
-use lib.Dec.{ltb, eqb}
-use lib.ListN.{length, take, getD}
+use lib.Dec.{eqb}
+use lib.ListN.{length, take}
 use borrow.Author.Tests.{le-ltb, ne-eqb, eq-eqb}
 use Rattle.lists.specs.Lists.{onto, all}
 use Rattle.lists.proofs.Fills.{length-onto}
-use Rattle.lists.proofs.Alls.{all-at, all-joined, all-tab}
-use Rattle.refuse.specs.Refuse.{Row, row, first}
+use Rattle.refuse.specs.Refuse.{row, first}
 use Rattle.refuse.proofs.Walk.{first-none, none-first, none-front, none-behind}
 use Rattle.tile.specs.Tile.{within, greysOf}
+use Rattle.tile.proofs.Greys.{greys-all}
 use Rattle.settings.specs.declared.Settings.{Settings}
 use Rattle.settings.specs.declared.MapRecord.{MapRecord}
 use Rattle.settings.specs.declared.Footer.{Footer}
 use Rattle.settings.specs.declared.Window.{Window}
-use Rattle.settings.specs.Settings.{binsOf, entriesOf, recordOf, tilePixels, clipOne, sizeRows, gridRows, greyRows, roomRows, sharedRows}
+use Rattle.settings.specs.Settings.{binsOf, entriesOf, recordOf, clipOne, sizeRows, gridRows, greyRows, roomRows, sharedRows}
 use Rattle.settings.proofs.Ready.{shared-numbered, shared-room}
-use Rattle.render.specs.Render.{rectOf, renderOf, whole}
+use Rattle.render.specs.Render.{rectOf, whole}
 use Rattle.prepare.specs.declared.Prepared.the-variants as Prepared
 use Rattle.prepare.specs.Prepare.{mappings, prepareRows, stays, Ended, prepareOf, preparedOf, Work, TilesAsk}
 use Rattle.prepare.proofs.Table.{table-numbered, table-over, work}
@@ -73,11 +72,8 @@ window-free w h win room wide high across down area =
 -- its pixels are the film's
 pub window-greys : (p : ℕ → Bool) (w h : ℕ) (pic : List ℕ) (win : Window) → length pic ≡ w * h → win .left + win .width ≤ w → win .top + win .height ≤ h → all p pic ≡ true
     → all p (greysOf pic w (rectOf win)) ≡ true
-unfolding greysOf
 window-greys p w h pic win whole across down g =
-    all-joined p (win .height) _
-    (λ y l. all-tab p (win .width) _
-    (λ x q. all-at p pic g _ 0 (omega (arith, whole, mul-comm w h, digits-lt {q = win .top + y} {m = h} {r = win .left + x} {c = w} (omega arith) (omega arith)))))
+    greys-all p pic w (rectOf win) across (omega (arith, whole, mul-comm w h, mul-le-mul-right w down)) g
 
 -- ---- what prepare left
 

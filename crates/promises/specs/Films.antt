@@ -15,7 +15,6 @@ use Rattle.clip.specs.Clip.{share}
 use Rattle.tile.specs.Tile.{within, binOf, greysOf, countsOf, mappedOf, tileCounts}
 use Rattle.settings.specs.declared.Settings.{Settings}
 use Rattle.settings.specs.Settings.{binsOf, tileWidth, tileHeight, tilePixels, sharedRows}
-use Rattle.blend.specs.declared.Place.{Place}
 use Rattle.blend.specs.Blend.{placeOf, greyOf}
 use Rattle.prepare.specs.declared.Prepared.{Prepared}
 use Rattle.prepare.specs.declared.Prepared.the-variants as Prepared

@@ -3,14 +3,13 @@
 use Prim.Native.Nat.{ℕ, _+_, _*_}
 use mathlib.Core.Bool.{Bool, true, false, _&&_, Bool·beq}
 use mathlib.Core.List.{List, [], _∷_}
-use lib.Dec.{eqb, ltb}
+use lib.Dec.{eqb}
 use lib.ListN.{getD}
 use lib.Ieee.{ofBits, binary32}
 use Rattle.limit.specs.declared.Clip.the-variants.{Factor}
 use Rattle.limit.specs.Limit.{limitOf, tooTight}
 use Rattle.clip.specs.Clip.{clipped}
 use Rattle.tile.specs.Tile.{binOf, mappingOf}
-use Rattle.blend.specs.declared.Place.{Place}
 use Rattle.blend.specs.Blend.{placeOf, greyOf}
 
 -- two lists of numbers are the same

@@ -1,27 +1,26 @@
 -- Laws of rendering: where a window's pixels lie, a window against the whole film, and what the rendered greys are held to.
 -- Assumes nothing.
 use Prim.Native.Nat.{ℕ, zero, suc, _+_, _-_, _*_, _/_, _%_, _≤_, _<_}
-use mathlib.Core.Bool.{Bool, true, false}
+use mathlib.Core.Bool.{true}
 use mathlib.Core.List.{List}
-use mathlib.Core.Path.{_≡_, refl, sym, ap, ap₂, _∙_}
-use lib.Arith.{digits-lt}
+use mathlib.Core.Path.{_≡_, sym, ap, ap₂, _∙_}
 use lib.ListN.{length, getD, take}
 use lib.Seq.{length-take-le}
 use native.Mathlib.Nat.{zero-add, zero-mul, div-add-mod', div-le-of-le-mul, mul-le-mul-right}
 use native.Mathlib.Omega.{arith}
-use Rattle.lists.specs.Lists.{tab, joined, all, onto}
-use Rattle.lists.proofs.Tabs.{length-tab, getD-tab, tab-cong}
-use Rattle.lists.proofs.Fills.{length-joined, joined-cong, take-onto, length-onto}
+use Rattle.lists.specs.Lists.{all, onto}
+use Rattle.lists.proofs.Tabs.{getD-tab, tab-cong}
+use Rattle.lists.proofs.Fills.{length-joined, joined-cong, take-onto}
 use Rattle.lists.proofs.Blocks.{getD-joined, block-fits}
 use Rattle.lists.proofs.Windows.{getD-front}
 use Rattle.lists.proofs.Alls.{all-at, all-joined, all-tab}
-use Rattle.tile.specs.declared.Rect.{Rect}
 use Rattle.tile.specs.Tile.{within, binOf, greysOf}
+use Rattle.tile.proofs.Greys.{getD-greys}
 use Rattle.blend.specs.declared.Place.{Place}
 use Rattle.blend.specs.Blend.{greyOf}
 use Rattle.settings.specs.declared.Settings.{Settings}
 use Rattle.settings.specs.declared.Window.{Window}
-use Rattle.settings.specs.Settings.{binsOf, entriesOf, tileWidth, tileHeight, Ready}
+use Rattle.settings.specs.Settings.{binsOf, entriesOf, Ready}
 use Rattle.render.specs.Render.{mappedAt, pixelOf, renderedOf, renderOf, whole, rectOf, Mapped, Shown, PixelAsks}
 use Rattle.render.proofs.Pixels.{entry-index, pixel-bin, pixel-within}
 use Rattle.render.proofs.Rows.{pixel-asks}
@@ -42,14 +41,6 @@ render-at w h s m win vs {j} {i} l k =
     ap (λ t. getD t (j * win .width + i) 0) (render-strips w h s m win vs)
     ∙ getD-joined (win .width) (win .height) (strip w h s m win vs) (λ t q. length-strip w h s m win vs t) j i 0 l k
     ∙ getD-tab (win .width) (λ i. renderedOf w h s m (win .left + i) (win .top + j) (getD vs (j * win .width + i) 0)) i 0 k
-
--- the grey of a rectangle's pixel in row j and column i
-pub getD-greys : (pic : List ℕ) (stride : ℕ) (r : Rect) {j i : ℕ} → j < r .height → i < r .width
-    → getD (greysOf pic stride r) (j * r .width + i) 0 ≡ getD pic ((r .top + j) * stride + (r .left + i)) 0
-unfolding greysOf
-getD-greys pic stride r {j} {i} l k =
-    getD-joined (r .width) (r .height) (λ y. tab (r .width) (λ x. getD pic ((r .top + y) * stride + (r .left + x)) 0)) (λ y q. length-tab (r .width) _) j i 0 l k
-    ∙ getD-tab (r .width) (λ x. getD pic ((r .top + j) * stride + (r .left + x)) 0) i 0 k
 
 -- a pixel of a window inside the film is the same pixel of the whole film
 pub window-law : (w h : ℕ) (s : Settings) (m : List ℕ) (win : Window) (pic : List ℕ) → win .left + win .width ≤ w → win .top + win .height ≤ h

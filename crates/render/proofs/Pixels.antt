@@ -1,12 +1,12 @@
 -- Laws of single pixels: where a mapped value lies in the map buffer, and what a pixel's grey is held to.
 -- Assumes nothing.
-use Prim.Native.Nat.{ℕ, zero, suc, _+_, _-_, _*_, _≤_, _<_}
+use Prim.Native.Nat.{ℕ, _+_, _-_, _*_, _≤_, _<_}
 use mathlib.Core.Bool.{Bool, true, false, _&&_}
 use mathlib.Core.List.{List}
 use mathlib.Core.Path.{_≡_, refl, sym, ap, _∙_}
 use lib.Arith.{digits-lt}
 use lib.Dec.{leb}
-use lib.ListN.{length, getD, take}
+use lib.ListN.{length, take}
 use lib.Seq.{getD-take, length-take-le}
 use native.Mathlib.Nat.{mul-comm, mul-le-mul}
 use native.Mathlib.Omega.{arith}
@@ -16,7 +16,7 @@ use Rattle.lists.proofs.Alls.{all-at}
 use Rattle.tile.specs.Tile.{within, binOf, factorOf, binBy}
 use Rattle.tile.proofs.Bins.{within-low, within-high, within-both, bin-below, bin-by}
 use Rattle.blend.specs.declared.Place.{Place}
-use Rattle.blend.specs.Blend.{greyOf, Sound}
+use Rattle.blend.specs.Blend.{greyOf}
 use Rattle.blend.proofs.Laws.{grey-least, grey-most}
 use Rattle.settings.specs.declared.Settings.{Settings}
 use Rattle.settings.specs.Settings.{binsOf, entriesOf}

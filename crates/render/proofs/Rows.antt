@@ -1,15 +1,15 @@
 -- The turns of `render_row`: each pixel of a row is rendered in its place, run by run.
 -- Assumes nothing.
 use Prim.Native.Nat.{ℕ, zero, suc, _+_, _-_, _*_, _/_, _≤_, _<_}
-use mathlib.Core.Bool.{Bool, true, false}
-use mathlib.Core.List.{List, []}
-use mathlib.Core.Path.{_≡_, refl, sym, ap, ap₂, _∙_}
+use mathlib.Core.Bool.{true}
+use mathlib.Core.List.{List}
+use mathlib.Core.Path.{_≡_, ap, ap₂, _∙_}
 use lib.ListN.{length, getD, take, drop, length-drop}
 use lib.Seq.{getD-take, getD-drop, length-take-le}
 use borrow.Rule.Slice.PartMut.{putMid}
 use native.Mathlib.Nat.{div-zero, mul-pos, mul-le-mul}
 use native.Mathlib.Omega.{arith}
-use Rattle.lists.specs.Lists.{tab, all, filled}
+use Rattle.lists.specs.Lists.{tab, filled}
 use Rattle.lists.proofs.Steps.{drop-filled, filled-part}
 use Rattle.lists.proofs.Tabs.{tab-cong}
 use Rattle.lists.proofs.Fills.{filled-end}

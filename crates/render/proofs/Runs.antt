@@ -8,7 +8,7 @@ use lib.Dec.{ltb}
 use lib.ListN.{length, getD, set}
 use borrow.Author.Tests.{ltb-true, ltb-false}
 use native.Mathlib.Omega.{arith}
-use Rattle.lists.specs.Lists.{all, filled}
+use Rattle.lists.specs.Lists.{filled}
 use Rattle.lists.proofs.Fills.{filled-step, filled-end}
 use Rattle.lists.proofs.Windows.{getD-behind, filled-whole}
 use Rattle.lists.proofs.Alls.{all-at}

@@ -1,20 +1,18 @@
 -- The turns of `render`: each row of a window is rendered in its place.
 -- Assumes nothing.
-use Prim.Native.Nat.{ℕ, zero, suc, _+_, _-_, _*_, _/_, _≤_, _<_}
-use mathlib.Core.Bool.{Bool, true, false}
-use mathlib.Core.List.{List, _++_, append-nil}
+use Prim.Native.Nat.{ℕ, _+_, _-_, _*_, _≤_, _<_}
+use mathlib.Core.List.{List}
 use mathlib.Core.Path.{_≡_, refl, sym, ap, ap₂, _∙_}
 use lib.ListN.{length, getD, take, drop, length-drop}
-use lib.Seq.{getD-take, getD-drop, length-take-le, drop-length}
+use lib.Seq.{getD-take, getD-drop, length-take-le}
 use native.Mathlib.Nat.{mul-le-mul-right}
 use native.Mathlib.Omega.{arith}
 use borrow.Rule.Slice.PartMut.{putMid}
-use Rattle.lists.specs.Lists.{tab, joined, blocks, all}
+use Rattle.lists.specs.Lists.{tab, joined, blocks}
 use Rattle.lists.proofs.Tabs.{length-tab, tab-cong}
 use Rattle.lists.proofs.Blocks.{length-blocks, drop-blocks, blocks-step, blocks-end, block-fits}
 use Rattle.lists.proofs.Windows.{blocks-whole}
 use Rattle.lists.proofs.Alls.{all-drop, all-take}
-use Rattle.tile.specs.Tile.{within}
 use Rattle.settings.specs.declared.Settings.{Settings}
 use Rattle.settings.specs.declared.Window.{Window}
 use Rattle.render.specs.Render.{renderedOf, rowOf, renderOf, Mapped, Shown, RowAsks}

@@ -2,16 +2,16 @@
 -- Assumes nothing.
 use Prim.Native.Nat.{ℕ}
 use mathlib.Core.Bool.{Bool, true, false, not}
-use mathlib.Core.Path.{_≡_, refl, sym, ap, _∙_}
+use mathlib.Core.Path.{_≡_, refl}
 use native.Mathlib.Omega.{arith}
 use lib.Ieee.{Float}
 use Rattle.limit.specs.declared.Clip.{Clip}
-use Rattle.limit.specs.declared.Clip.the-variants.{Off, Factor}
+use Rattle.limit.specs.declared.Clip.the-variants.{Factor}
 use Rattle.limit.specs.declared.Judged.{Judged}
 use Rattle.limit.specs.declared.Judged.the-variants.{Refused, One, Above}
 use Rattle.limit.specs.Limit.{accepted, isOne, judgeOf, judgedBy}
 use Rattle.limit.proofs.Laws.{one-accepted}
-use Rattle.settings.specs.Settings.{clipBad, clipOne, sameClip}
+use Rattle.settings.specs.Settings.{clipBad, clipOne}
 
 -- a judgement as the pair of its tests
 data Split (j : Judged) (a o : Bool) : Type 0 where

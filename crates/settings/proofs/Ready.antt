@@ -1,17 +1,17 @@
 -- What the rows 1 to 11 tell where none of them applies.
 -- Assumes nothing.
 use Prim.Native.Nat.{ℕ, zero, suc, _+_, _*_, _/_, _%_, _≤_, _<_}
-use mathlib.Core.Bool.{Bool, true, false, not, cond}
-use mathlib.Core.List.{List, [], _∷_, _++_}
-use mathlib.Core.Path.{_≡_, refl, sym, ap, _∙_}
+use mathlib.Core.Bool.{Bool, true, false, cond}
+use mathlib.Core.List.{_++_}
+use mathlib.Core.Path.{_≡_, refl, sym, _∙_}
 use native.Mathlib.Omega.{arith}
 use native.Mathlib.Nat.{div-add-mod', mul-le-mul, mul-le-mul-right, zero-mul, le-trans, div-le-of-le-mul}
-use lib.Dec.{eqb, ltb, leb, lit<, lit≤}
-use borrow.Author.Tests.{ltb-false, leb-false, eqb-false, eqb-true, not-false, ne-eqb}
-use Rattle.refuse.specs.Refuse.{Row, row, first, None, Numbered}
-use Rattle.refuse.proofs.Walk.{first-none, numbered-append, none-front, none-behind, front, behind}
+use lib.Dec.{eqb, lit<, lit≤}
+use borrow.Author.Tests.{ltb-false, leb-false, eqb-false, eqb-true, not-false}
+use Rattle.refuse.specs.Refuse.{first, Numbered}
+use Rattle.refuse.proofs.Walk.{first-none, numbered-append, front, behind}
 use Rattle.settings.specs.declared.Settings.{Settings}
-use Rattle.settings.specs.Settings.{binsOf, entriesOf, clipBad, sizeRows, gridRows, greyRows, roomRows, sharedRows, Ready}
+use Rattle.settings.specs.Settings.{binsOf, sizeRows, gridRows, greyRows, roomRows, sharedRows, Ready}
 
 -- the numbers are above 0
 

@@ -1,8 +1,8 @@
 -- Laws of `within` and of `binOf`, the bin of a grey.
 -- Assumes nothing.
-use Prim.Native.Nat.{ℕ, zero, suc, _+_, _-_, _*_, _/_, _≤_, _<_}
-use mathlib.Core.Bool.{Bool, true, false, _&&_}
-use mathlib.Core.Path.{_≡_, refl, sym, ap, _∙_}
+use Prim.Native.Nat.{ℕ, _+_, _-_, _*_, _/_, _≤_, _<_}
+use mathlib.Core.Bool.{true}
+use mathlib.Core.Path.{_≡_, ap}
 use lib.Dec.{leb, ltb}
 use native.Mathlib.Nat.{div-lt-iff-lt-mul, lt-mul-div-succ, add-comm, div-le-self, mul-le-mul}
 use native.Mathlib.Omega.{arith}

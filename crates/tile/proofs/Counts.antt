@@ -1,20 +1,20 @@
 -- Laws of `countsOf` and `addedOf`: the counts of greys, and counts to which greys are added.
 -- Assumes nothing.
-use Prim.Native.Nat.{ℕ, zero, suc, _+_, _-_, _*_, _/_, _≤_, _<_}
-use mathlib.Core.Bool.{Bool, true, false}
+use Prim.Native.Nat.{ℕ, _+_, _-_, _≤_, _<_}
+use mathlib.Core.Bool.{true}
 use mathlib.Core.List.{List, [], _∷_, _++_, map}
-use mathlib.Core.Path.{_≡_, refl, sym, ap, ap₂, _∙_}
+use mathlib.Core.Path.{_≡_, sym, ap, _∙_}
 use lib.Dec.{ltb}
-use lib.ListN.{length, take, drop, getD, set, length-map, take-append-drop}
+use lib.ListN.{length, drop, getD, set, length-map, take-append-drop}
 use native.Mathlib.Omega.{arith}
-use Rattle.lists.specs.Lists.{tab, sum, total, all, times, onto, filled}
-use Rattle.lists.proofs.Tabs.{length-tab, tab-cong, tab-getD, map-append}
+use Rattle.lists.specs.Lists.{total, all, times, onto, filled}
+use Rattle.lists.proofs.Tabs.{length-tab, tab-getD, map-append}
 use Rattle.lists.proofs.Sums.{total-tab}
 use Rattle.lists.proofs.Fills.{length-filled, filled-onto}
 use Rattle.lists.proofs.Tallies.{times-append, times-le, sum-times, getD-filled, filled-cong, filled-filled, filled-bump, filled-tab}
 use Rattle.lists.proofs.Alls.{all-map}
 use Rattle.tile.specs.Tile.{within, binOf, countsOf, addedOf}
-use Rattle.tile.proofs.Bins.{bin-below, bin-test}
+use Rattle.tile.proofs.Bins.{bin-test}
 
 -- there is a count for each bin
 pub length-counts : (lo hi b : ℕ) (vs : List ℕ) → length (countsOf lo hi b vs) ≡ b

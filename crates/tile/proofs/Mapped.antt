@@ -1,14 +1,14 @@
 -- Laws of `mappedOf` and `mappingOf`: the mapping never falls, rises by at most L x R over N rounded up, stays within Min to Max and ends at Max.
 -- Assumes nothing.
-use Prim.Native.Nat.{ℕ, zero, suc, _+_, _-_, _*_, _/_, _≤_, _<_}
-use mathlib.Core.Bool.{Bool, true, false}
-use mathlib.Core.List.{List, [], _∷_, _++_}
-use mathlib.Core.Path.{_≡_, refl, sym, ap, ap₂, _∙_}
-use lib.ListN.{length, take, drop, getD}
+use Prim.Native.Nat.{ℕ, _+_, _-_, _*_, _/_, _≤_, _<_}
+use mathlib.Core.Bool.{true}
+use mathlib.Core.List.{List}
+use mathlib.Core.Path.{_≡_, refl, sym, ap, _∙_}
+use lib.ListN.{length, take, getD}
 use lib.Seq.{take-length}
-use native.Mathlib.Nat.{mul-le-mul-right, mul-div-right, le-div-iff-mul-le, div-lt-iff-lt-mul, div-mul-le-self, lt-div-mul-add, div-le-of-le-mul, le-trans, add-mul, zero-add}
+use native.Mathlib.Nat.{mul-le-mul-right, mul-div-right, le-div-iff-mul-le, div-lt-iff-lt-mul, div-mul-le-self, lt-div-mul-add, div-le-of-le-mul, le-trans, add-mul}
 use native.Mathlib.Omega.{arith}
-use Rattle.lists.specs.Lists.{tab, total, all}
+use Rattle.lists.specs.Lists.{total, all}
 use Rattle.lists.proofs.Tabs.{length-tab, getD-tab}
 use Rattle.lists.proofs.Tallies.{total-next, total-next-le, total-take-le, total-take-mono}
 use Rattle.lists.proofs.Alls.{all-tab}

@@ -1,10 +1,10 @@
 -- The turns of `count_row`: what each grey of a row does to the counts.
 -- Assumes nothing.
-use Prim.Native.Nat.{ℕ, zero, suc, _+_, _-_, _*_, _/_, _≤_, _<_}
-use mathlib.Core.Bool.{Bool, true, false}
-use mathlib.Core.List.{List, [], _∷_, _++_, map}
-use mathlib.Core.Path.{_≡_, refl, sym, ap, ap₂, _∙_}
-use lib.ListN.{length, take, drop, getD, set, length-take}
+use Prim.Native.Nat.{ℕ, _+_, _-_, _≤_, _<_}
+use mathlib.Core.Bool.{true}
+use mathlib.Core.List.{List}
+use mathlib.Core.Path.{_≡_, sym, ap, ap₂, _∙_}
+use lib.ListN.{length, take, getD, set}
 use lib.Seq.{take-suc, take-all, length-take-le}
 use native.Mathlib.Numerals.{add-one}
 use native.Mathlib.Omega.{arith}

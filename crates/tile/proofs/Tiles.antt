@@ -1,8 +1,8 @@
 -- Laws of `clippedBy`, `tileCounts` and `tileMapping`: the counts of a tile by its clip setting, and their mapping.
 -- Assumes nothing.
-use Prim.Native.Nat.{ℕ, zero, suc, _+_, _-_, _*_, _/_, _≤_, _<_}
-use mathlib.Core.Bool.{Bool, true, false}
-use mathlib.Core.List.{List, [], _∷_, _++_}
+use Prim.Native.Nat.{ℕ, _+_, _-_, _*_, _/_, _≤_, _<_}
+use mathlib.Core.Bool.{true}
+use mathlib.Core.List.{List, _++_}
 use mathlib.Core.Path.{_≡_, refl, sym, ap, ap₂, _∙_, subst}
 use lib.ListN.{length, take, drop, getD}
 use lib.Ieee.{Float}
@@ -89,13 +89,14 @@ total-tile-counts lo hi b clip vs h p room =
     (total-counts lo hi b vs h p)
     (omega (arith, length-counts lo hi b vs))
 
--- with a factor, none is above the limit
-pub tile-counts-most : (lo hi b : ℕ) (f : Float) (vs : List ℕ) (k : ℕ) → getD (tileCounts lo hi b (Factor f) vs) k 0 ≤ limitOf f (length vs) b
+-- with a factor they are its raw counts, clipped at the limit
+pub tile-counts-factor : (lo hi b : ℕ) (f : Float) (vs : List ℕ) → tileCounts lo hi b (Factor f) vs ≡ clipped (limitOf f (length vs) b) (countsOf lo hi b vs)
 unfolding tileCounts clippedBy
-tile-counts-most lo hi b f vs k =
-    let n : ℕ = limitOf f (length vs) (length (countsOf lo hi b vs)) in
-    let same : n ≡ limitOf f (length vs) b = ap (limitOf f (length vs)) (length-counts lo hi b vs) in
-    omega (arith, clipped-most n (countsOf lo hi b vs) k)
+tile-counts-factor lo hi b f vs = ap (λ k. clipped (limitOf f (length vs) k) (countsOf lo hi b vs)) (length-counts lo hi b vs)
+
+-- so none is above the limit
+pub tile-counts-most : (lo hi b : ℕ) (f : Float) (vs : List ℕ) (k : ℕ) → getD (tileCounts lo hi b (Factor f) vs) k 0 ≤ limitOf f (length vs) b
+tile-counts-most lo hi b f vs k = rw (tile-counts-factor lo hi b f vs) (clipped-most (limitOf f (length vs) b) (countsOf lo hi b vs) k)
 
 -- ---- the mapping of a tile
 

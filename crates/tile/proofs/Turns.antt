@@ -1,19 +1,18 @@
 -- The turns of `count`: what each row of a rectangle does to the counts.
 -- Assumes nothing.
-use Prim.Native.Nat.{ℕ, zero, suc, _+_, _-_, _*_, _/_, _≤_, _<_}
-use mathlib.Core.Bool.{Bool, true, false}
-use mathlib.Core.List.{List, [], _∷_, _++_, map}
-use mathlib.Core.Path.{_≡_, refl, sym, ap, ap₂, _∙_}
-use lib.ListN.{length, take, drop, getD, set}
+use Prim.Native.Nat.{ℕ, suc, _+_, _-_, _*_, _≤_, _<_}
+use mathlib.Core.List.{List}
+use mathlib.Core.Path.{_≡_, sym, ap, ap₂, _∙_}
+use lib.ListN.{length, take, drop, getD}
 use native.Mathlib.Nat.{mul-comm, suc-mul, mul-le-mul-right}
 use native.Mathlib.Omega.{arith}
 use Rattle.lists.specs.Lists.{joined, all, onto, filled}
 use Rattle.lists.proofs.Fills.{joined-suc, length-filled}
 use Rattle.lists.proofs.Tallies.{getD-filled}
 use Rattle.tile.specs.declared.Rect.{Rect}
-use Rattle.tile.specs.Tile.{within, factorOf, greysOf, countsOf, addedOf, Scale, Inside, RowAsks, CountAsks}
+use Rattle.tile.specs.Tile.{within, factorOf, greysOf, countsOf, addedOf, RowAsks, CountAsks}
 use Rattle.tile.proofs.Counts.{added-none, added-added, added-clear, added-le, length-added}
-use Rattle.tile.proofs.Greys.{rowOf, greys-rows, length-row, length-rows, part-row, row-all}
+use Rattle.tile.proofs.Greys.{rowOf, greys-rows, length-row, length-rows, inside-part, row-all}
 
 -- before the first row
 pub rows-first : (lo hi b : ℕ) (cs : List ℕ) (f : ℕ → List ℕ) → b ≤ length cs → cs ≡ addedOf lo hi b cs (joined 0 f)
@@ -46,7 +45,7 @@ pub row-asks : (pic : List ℕ) (stride : ℕ) (r : Rect) (lo hi b : ℕ) (d : L
     → cs ≡ addedOf lo hi b cs₀ (joined y (rowOf pic stride r)) → y < r .height
     → RowAsks (take ((r .top + y) * stride + r .left + r .width - ((r .top + y) * stride + r .left)) (drop ((r .top + y) * stride + r .left) pic)) lo hi b factor cs
 row-asks pic stride r lo hi b d {cs₀} {cs} {factor} y asks by z e h =
-    rw (part-row pic stride r (asks .inside) y h)
+    rw (inside-part pic stride r (asks .inside) y h)
     record {
       by = by;
       most = asks .scale .most;

@@ -3,7 +3,7 @@
 use Prim.Native.Nat.{_*_, _/_, _≤_, _<_}
 use mathlib.Core.Path.{_≡_, ap, _∙_}
 use native.Mathlib.Omega.{arith}
-use Rattle.blend.specs.Blend.{weighedOf, greyOf}
+use Rattle.blend.specs.Blend.{greyOf}
 use Rattle.blend.proofs.Laws.{spans-some, grey-most, weighed-most, factor-room, factor-divides}
 use Rattle.blend.proofs.grey_by.Statement.{statement}
 use Rattle.blend.proofs.grey_by.Tie as tie

@@ -6,7 +6,7 @@ use native.Mathlib.Omega.{arith}
 use borrow.Author.Needs.{needs, scaled-fits}
 use Rattle.lists.specs.Lists.{blocks}
 use Rattle.lists.proofs.Fills.{blocks-none}
-use Rattle.draw.proofs.Frames.{line, line-room, line-part, row-room, rows-next, rows-length, rows-end}
+use Rattle.draw.proofs.Frames.{line, line-room, line-part, place-room, rows-next, rows-length, rows-end}
 use Rattle.draw.proofs.copy_window.Statement.{statement}
 use Rattle.draw.proofs.copy_window.Tie as tie
 
@@ -26,7 +26,7 @@ room c = line-room (c .before .before .before .before .before .before .pre .fram
 
 -- its place lies inside the output
 place : (c : tie.Then1 Inv-loop μ-loop) → c .before .before .loop .y * c .before .before .before .before .before .before .args .win .width + c .before .before .before .before .before .before .args .win .width ≤ length (c .before .before .before .before .before .before .args .out .now)
-place c = row-room (c .before .before .before .before .before .before .pre) (c .if1 .taken)
+place c = place-room (c .before .before .before .before .before .before .pre) (c .if1 .taken)
 
 -- one row more is copied
 next : (c : tie.After-slice-known2 Inv-loop μ-loop)

@@ -1,12 +1,10 @@
 -- What is left to be laid down gives what the whole gives. Assumes nothing.
-use Prim.Native.Nat.{_≤_, _<_, _+_, _-_}
+use Prim.Native.Nat.{_≤_, _+_, _-_}
 use mathlib.Core.Path.{_≡_, refl, sym, ap, _∙_}
 use lib.ListN.{length, length-set}
-use native.Mathlib.Omega.{arith}
 use borrow.Author.Needs.{needs}
 use Rattle.lists.specs.Lists.{over}
-use Rattle.header.specs.Header.{decimalOf}
-use Rattle.header.proofs.Writing.{fixed, decimal-fixed, digit-laid, digits-laid, count-most}
+use Rattle.header.proofs.Writing.{fixed, decimal-fixed, digit-laid, digits-laid}
 use Rattle.header.proofs.decimal.Statement.{statement}
 use Rattle.header.proofs.decimal.Tie as tie
 

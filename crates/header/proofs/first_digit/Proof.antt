@@ -1,5 +1,5 @@
 -- Digits, or the misfit. Assumes nothing.
-use mathlib.Core.Path.{_≡_, refl, sym, ap, _∙_}
+use mathlib.Core.Path.{sym, ap, _∙_}
 use Rattle.header.specs.Header.{isDigit, misfitOf}
 use Rattle.header.specs.declared.Number.the-variants.{Misfit}
 use Rattle.header.proofs.Reading.{first-digits, first-misfit}

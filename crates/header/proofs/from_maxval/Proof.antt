@@ -1,5 +1,5 @@
 -- A number and what stands behind it. Assumes nothing.
-use mathlib.Core.Path.{_≡_, refl, sym, ap, _∙_}
+use mathlib.Core.Path.{sym, _∙_}
 use Rattle.header.proofs.Reading.{behind-read, behind-misfit}
 use borrow.Author.Needs.{needs}
 use Rattle.header.proofs.from_maxval.Statement.{statement}

@@ -1,6 +1,5 @@
 -- The magic, then three numbers. Assumes nothing.
-use mathlib.Core.Path.{_≡_, refl, sym, ap, _∙_}
-use lib.ListN.{length, getD}
+use mathlib.Core.Path.{sym, _∙_}
 use Rattle.header.proofs.Reading.{behind-read, behind-misfit, number-within, header-first, header-second, header-magic, magic-within}
 use borrow.Author.Needs.{needs}
 use Rattle.header.proofs.header.Statement.{statement}

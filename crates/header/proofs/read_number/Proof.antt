@@ -1,6 +1,5 @@
 -- White space, then digits; or the misfit. Assumes nothing.
-use mathlib.Core.Path.{_≡_, refl, sym, ap, _∙_}
-use lib.ListN.{length}
+use mathlib.Core.Path.{sym, ap, _∙_}
 use native.Mathlib.Omega.{arith}
 use Rattle.header.specs.Header.{isWhite, misfitOf, firstDigit}
 use Rattle.header.specs.declared.Number.the-variants.{Misfit}

@@ -1,11 +1,10 @@
 -- What is left equals the whole. Assumes nothing.
 use Prim.Native.Nat.{_≤_, _-_}
-use mathlib.Core.Path.{_≡_, refl, sym, ap, _∙_}
-use mathlib.Core.Bool.{true, false}
-use lib.ListN.{length, drop, getD}
+use mathlib.Core.Path.{_≡_, refl, sym, _∙_}
+use lib.ListN.{length, drop}
 use borrow.Author.Needs.{needs}
 use borrow.Author.Tests.{not-true, not-false}
-use Rattle.header.specs.Header.{whiteOf, isWhite}
+use Rattle.header.specs.Header.{whiteOf}
 use Rattle.header.proofs.Reading.{white-step, white-stop, white-end}
 use Rattle.header.proofs.white_end.Statement.{statement}
 use Rattle.header.proofs.white_end.Tie as tie

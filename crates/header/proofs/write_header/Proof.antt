@@ -1,10 +1,8 @@
 -- The pieces are laid down one behind the other. Assumes nothing.
-use Prim.Native.Nat.{_+_, _≤_, _<_}
-use mathlib.Core.Path.{_≡_, refl, sym, ap, _∙_}
+use mathlib.Core.Path.{_≡_, _∙_}
 use lib.ListN.{length, length-set}
 use native.Mathlib.Omega.{arith}
 use borrow.Author.Needs.{needs}
-use Rattle.header.specs.Header.{decimalOf}
 use Rattle.header.proofs.Writing.{length-header, header-laid}
 use Rattle.header.proofs.write_header.Statement.{statement}
 use Rattle.header.proofs.write_header.Tie as tie

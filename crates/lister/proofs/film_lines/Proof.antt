@@ -1,10 +1,10 @@
 -- The lines of the tiles, one behind the other. Assumes nothing.
-use Prim.Native.Nat.{_+_, _*_, _-_, _≤_}
+use Prim.Native.Nat.{_-_, _≤_}
 use mathlib.Core.Path.{_≡_, refl, _∙_}
 use lib.ListN.{length}
 use native.Mathlib.Omega.{arith}
 use Rattle.lister.proofs.Tiles.{excess-few, limit-few, mapped-length, fields-are}
-use Rattle.lister.proofs.Films.{Going, length-first, first-is, going-first, going-next, film-told, first-few}
+use Rattle.lister.proofs.Films.{Going, first-is, going-first, going-next, film-told, first-few}
 use Rattle.lister.proofs.film_lines.Statement.{statement}
 use Rattle.lister.proofs.film_lines.Tie as tie
 

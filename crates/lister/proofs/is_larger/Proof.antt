@@ -1,5 +1,5 @@
 -- By what the header is. Assumes nothing.
-use mathlib.Core.Path.{_≡_, refl, sym, ap, _∙_}
+use mathlib.Core.Path.{sym, ap, _∙_}
 use native.Mathlib.Omega.{arith}
 use Rattle.lister.specs.Lister.{isLarger}
 use Rattle.lister.proofs.Tiles.{product-fits}

@@ -1,5 +1,5 @@
 -- By the input's length, its header and what read answers. Assumes nothing.
-use mathlib.Core.Path.{_≡_, refl, sym, ap, _∙_}
+use mathlib.Core.Path.{sym, _∙_}
 use native.Mathlib.Omega.{arith}
 use Rattle.lister.proofs.Refusals.{read-below}
 use Rattle.lister.proofs.Calls.{told-both, sizes-refused, listing-long, listing-larger, listing-refused, list-asks, listing-found}

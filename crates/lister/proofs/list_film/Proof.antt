@@ -1,6 +1,5 @@
 -- By what prepare answers. Assumes nothing.
-use mathlib.Core.Path.{_≡_, refl, _∙_}
-use native.Mathlib.Omega.{arith}
+use mathlib.Core.Path.{refl}
 use Rattle.lister.proofs.Calls.{told-as, prepared-done, prepared-refused, told-none}
 use borrow.Author.Needs.{needs}
 use Rattle.lister.proofs.list_film.Statement.{statement}

@@ -1,5 +1,5 @@
 -- By what the greys answer. Assumes nothing.
-use mathlib.Core.Path.{_≡_, refl, sym, ap, _∙_}
+use mathlib.Core.Path.{refl, ap, _∙_}
 use native.Mathlib.Omega.{arith}
 use Rattle.lister.specs.Lister.{refusedText}
 use Rattle.lister.proofs.Calls.{told-as, greys-told, greys-refused, film-count, film-front, picture-listed, picture-above}

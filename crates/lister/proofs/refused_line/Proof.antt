@@ -1,6 +1,6 @@
 -- The word, the tab, and the number behind them. Assumes nothing.
-use mathlib.Core.Path.{_≡_, _∙_}
-use lib.ListN.{length, length-set}
+use mathlib.Core.Path.{_∙_}
+use lib.ListN.{length-set}
 use native.Mathlib.Omega.{arith}
 use Rattle.header.proofs.Writing.{count-most}
 use Rattle.lister.proofs.Lines.{word-laid, refused-laid}

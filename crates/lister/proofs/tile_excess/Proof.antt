@@ -1,7 +1,4 @@
 -- The tile's counts, and what of them stands above the limit. Assumes nothing.
-use Prim.Native.Nat.{_≤_}
-use mathlib.Core.Path.{_≡_, _∙_}
-use lib.ListN.{length}
 use native.Mathlib.Omega.{arith}
 use Rattle.lister.proofs.Tiles.{product-fits, count-asks, counts-whole, counts-few, excess-is, excess-fits}
 use borrow.Author.Needs.{needs}

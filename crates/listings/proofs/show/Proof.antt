@@ -1,5 +1,5 @@
 -- The text fits its array. Assumes nothing.
-use mathlib.Core.Path.{_≡_, sym, _∙_}
+use mathlib.Core.Path.{sym}
 use lib.Seq.{length-take-le}
 use native.Mathlib.Omega.{arith}
 use Rattle.lister.proofs.Calls.{listing-short}

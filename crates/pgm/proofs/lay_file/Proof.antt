@@ -1,5 +1,5 @@
 -- The header at the front, and the raster in the part that is lent behind it. Assumes nothing.
-use mathlib.Core.Path.{sym, _∙_}
+use mathlib.Core.Path.{sym}
 use Rattle.pgm.proofs.Tables.{length-file}
 use Rattle.pgm.proofs.Parts.{file-room, file-laid}
 use borrow.Author.Needs.{needs}

@@ -1,6 +1,4 @@
 use mathlib.Core.Path.{sym, _∙_}
-use lib.Dec.{lit<}
-use native.Mathlib.Nat.{lt-of-le-of-lt}
 use Rattle.prepare.proofs.Tight.{footer-off, footer-one, footer-above, not-refused, limit-asks, used-asks}
 use borrow.Author.Needs.{needs}
 use Rattle.prepare.proofs.footer.Statement.{statement}

@@ -1,8 +1,8 @@
 -- `render::mapped` meets its contract: the entry of a bin of a tile lies in the map buffer.
 -- Assumes nothing.
-use Prim.Native.Nat.{_+_, _*_, _≤_, _<_}
-use mathlib.Core.Path.{_≡_, refl, ap}
-use lib.ListN.{length, getD}
+use Prim.Native.Nat.{_+_, _*_, _<_}
+use mathlib.Core.Path.{refl}
+use lib.ListN.{length}
 use native.Mathlib.Omega.{arith}
 use Rattle.render.specs.Render.{mappedAt}
 use Rattle.render.proofs.Pixels.{tile-small, entry-index, entry-small}

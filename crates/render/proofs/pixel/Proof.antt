@@ -1,7 +1,7 @@
 -- `render::pixel` meets its contract: its bin and its four tiles have mapped values of at most 4095.
 -- Assumes nothing.
-use Prim.Native.Nat.{_≤_, _<_}
-use mathlib.Core.Path.{_≡_, refl, ap}
+use Prim.Native.Nat.{_≤_}
+use mathlib.Core.Path.{_≡_, refl}
 use native.Mathlib.Omega.{arith}
 use Rattle.blend.proofs.Laws.{sound-wider}
 use Rattle.tile.proofs.Bins.{within-low, within-high}

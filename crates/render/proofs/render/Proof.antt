@@ -1,8 +1,8 @@
 -- `render::render` meets its contract: the rows passed are rendered, those ahead are as they were.
 -- Assumes nothing.
-use Prim.Native.Nat.{_≤_, _<_, _-_, _+_, _*_}
-use mathlib.Core.Path.{_≡_, refl, ap}
-use lib.ListN.{length, getD}
+use Prim.Native.Nat.{_≤_, _-_}
+use mathlib.Core.Path.{_≡_, refl}
+use lib.ListN.{length}
 use native.Mathlib.Omega.{arith}
 use borrow.Author.Needs.{needs}
 use Rattle.lists.specs.Lists.{blocks}

@@ -1,7 +1,7 @@
 -- `render::render_row` meets its contract: the pixels passed are rendered, those ahead are as they were.
 -- Assumes nothing.
-use Prim.Native.Nat.{_≤_, _<_, _-_, _+_, _/_}
-use mathlib.Core.Path.{_≡_, refl, sym, ap, _∙_}
+use Prim.Native.Nat.{_≤_, _-_, _+_, _/_}
+use mathlib.Core.Path.{_≡_, refl, ap, _∙_}
 use lib.ListN.{length}
 use native.Mathlib.Omega.{arith}
 use borrow.Author.Needs.{needs}

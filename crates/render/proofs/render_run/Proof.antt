@@ -1,6 +1,6 @@
 -- `render::render_run` meets its contract: the pixels passed are rendered, those ahead are as they were.
 -- Assumes nothing.
-use Prim.Native.Nat.{_≤_, _<_, _-_, _+_}
+use Prim.Native.Nat.{_≤_, _-_}
 use mathlib.Core.Path.{_≡_, refl}
 use lib.ListN.{length, length-set}
 use native.Mathlib.Omega.{arith}

@@ -1,5 +1,4 @@
 use borrow.Author.Needs.{needs}
-use Rattle.clip.specs.Asks.{ClipAsks}
 use Rattle.tile.proofs.Tiles.{limit-asks, clip-asks, clipped-off, clipped-factor}
 use Rattle.tile.proofs.clip_by.Statement.{statement}
 use Rattle.tile.proofs.clip_by.Tie as tie

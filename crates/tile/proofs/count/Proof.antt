@@ -1,14 +1,13 @@
-use Prim.Native.Nat.{_≤_, _<_, _-_, _+_, _*_}
-use mathlib.Core.Path.{_≡_, refl, sym, _∙_, ap}
-use mathlib.Core.Bool.{true}
-use lib.ListN.{length, getD, take, drop}
+use Prim.Native.Nat.{_≤_, _-_, _+_, _*_}
+use mathlib.Core.Path.{_≡_, refl, _∙_, ap}
+use lib.ListN.{length}
 use native.Mathlib.Omega.{arith}
 use borrow.Author.Needs.{needs, scaled-fits}
-use Rattle.lists.specs.Lists.{all, joined, filled}
+use Rattle.lists.specs.Lists.{joined}
 use Rattle.lists.proofs.Fills.{length-filled}
-use Rattle.tile.specs.Tile.{addedOf, CountAsks, RowAsks}
+use Rattle.tile.specs.Tile.{addedOf}
 use Rattle.tile.proofs.Turns.{rows-first, rows-next, rows-end, row-asks}
-use Rattle.tile.proofs.Greys.{rowOf, row-room, bottom-room, some-width, part-row}
+use Rattle.tile.proofs.Greys.{rowOf, inside-room, bottom-room, some-width, inside-part}
 use Rattle.tile.proofs.count.Statement.{statement}
 use Rattle.tile.proofs.count.Tie as tie
 
@@ -34,7 +33,7 @@ loop-holds c = (search needs, refl, rows-first _ _ _ _ _ (omega (arith, cleared 
 -- the row lies inside the picture
 room : (c : tie.Then1 Inv-loop μ-loop)
     → (c .before .before .before .before .before .before .before .before .before .before .args .rect .top + c .before .before .loop .y) * c .before .before .before .before .before .before .before .before .before .before .args .stride + (c .before .before .before .before .before .before .before .before .before .before .args .rect .left + c .before .before .before .before .before .before .before .before .before .before .args .rect .width) ≤ length (c .before .before .before .before .before .before .before .before .before .before .args .picture .now)
-room c = row-room (c .before .before .before .before .before .before .before .before .before .before .pre .inside) _ (c .if1 .taken)
+room c = inside-room (c .before .before .before .before .before .before .before .before .before .before .pre .inside) _ (c .if1 .taken)
 
 add-a : tie.Need-add-a Inv-loop μ-loop
 add-a c = omega (arith, bottom-room (c .before .before .before .before .before .before .before .before .before .before .before .pre .inside))
@@ -76,7 +75,7 @@ loop-less : tie.Need-loop-less Inv-loop μ-loop
 loop-less c = search needs
 
 loop-again : tie.Need-loop-again Inv-loop μ-loop
-loop-again c = (search needs, search needs, rows-next _ _ _ _ _ _ (c .before .before .before .before .before .before .before .before .before .before .loop .inv .2) (part-row _ _ _ (c .before .before .before .before .before .before .before .before .before .before .before .before .before .before .before .before .before .before .pre .inside) _ (c .before .before .before .before .before .before .before .before .if1 .taken)) (c .before .before .count-row .ensures))
+loop-again c = (search needs, search needs, rows-next _ _ _ _ _ _ (c .before .before .before .before .before .before .before .before .before .before .loop .inv .2) (inside-part _ _ _ (c .before .before .before .before .before .before .before .before .before .before .before .before .before .before .before .before .before .before .pre .inside) _ (c .before .before .before .before .before .before .before .before .if1 .taken)) (c .before .before .count-row .ensures))
 
 same-length : tie.Need-same-length Inv-loop μ-loop
 same-length c = search needs

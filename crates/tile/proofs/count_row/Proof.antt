@@ -1,10 +1,9 @@
 use Prim.Native.Nat.{_≤_, _<_, _-_}
-use mathlib.Core.Path.{_≡_, refl, _∙_, ap}
+use mathlib.Core.Path.{_≡_, refl}
 use mathlib.Core.Bool.{true}
 use lib.ListN.{length, length-set, getD, take}
 use native.Mathlib.Omega.{arith}
 use borrow.Author.Needs.{needs}
-use Rattle.lists.specs.Lists.{all}
 use Rattle.tile.specs.Tile.{within, addedOf, RowAsks}
 use Rattle.tile.proofs.Counts.{added-none}
 use Rattle.tile.proofs.Bins.{within-low, within-high}

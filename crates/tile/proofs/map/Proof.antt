@@ -1,11 +1,11 @@
-use Prim.Native.Nat.{_≤_, _<_, _-_, _+_, _*_, _/_}
-use mathlib.Core.Path.{_≡_, refl, sym, _∙_, ap}
+use Prim.Native.Nat.{_≤_, _-_, _+_, _*_, _/_}
+use mathlib.Core.Path.{_≡_, refl, _∙_}
 use lib.ListN.{length, length-set, getD, take}
 use native.Mathlib.Omega.{arith}
 use borrow.Author.Needs.{needs}
 use Rattle.lists.specs.Lists.{filled, total}
 use Rattle.lists.proofs.Fills.{filled-none, filled-step, filled-end, filled-onto}
-use Rattle.tile.specs.Tile.{mappedOf, mappingOf, MapAsks}
+use Rattle.tile.specs.Tile.{mappedOf, mappingOf}
 use Rattle.lists.proofs.Tallies.{total-next, total-take-le}
 use native.Mathlib.Nat.{mul-le-mul}
 use Rattle.tile.proofs.Mapped.{mapped-next, part-le}

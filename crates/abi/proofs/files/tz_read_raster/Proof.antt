@@ -1,6 +1,6 @@
 use denote.Ref.{now}
 use Rattle.pgm.specs.Pgm.{readOf}
-use mathlib.Core.Path.{refl, sym, _∙_}
+use mathlib.Core.Path.{refl}
 use Rattle.abi.proofs.Handed.{raster-size, raster-found, raster-refused}
 use borrow.Author.Needs.{needs}
 use Rattle.abi.proofs.files.tz_read_raster.Statement.{statement}

@@ -1,4 +1,4 @@
-use mathlib.Core.Path.{refl, sym, _∙_}
+use mathlib.Core.Path.{refl}
 use borrow.Author.Needs.{needs}
 use Rattle.abi.proofs.flat.put_record.Statement.{statement}
 use Rattle.abi.proofs.flat.put_record.Tie as tie
