@@ -38,12 +38,9 @@ weighedOf column row a b c d =
     row .lowerweight * (column .lowerweight * a + column .upperweight * b)
     + row .upperweight * (column .lowerweight * c + column .upperweight * d)
 
--- "floor(((th - p)((tw - o)A + oB') + p((tw - o)C + oD)) / (tw x th))", a b c d the mapped values upper left, upper right, lower left, lower right
+-- "floor(.. / (tw x th))" of that
 unfoldable pub greyOf : Place → Place → ℕ → ℕ → ℕ → ℕ → ℕ
-greyOf column row a b c d =
-    (row .lowerweight * (column .lowerweight * a + column .upperweight * b)
-    + row .upperweight * (column .lowerweight * c + column .upperweight * d))
-    / (column .span * row .span)
+greyOf column row a b c d = weighedOf column row a b c d / (column .span * row .span)
 
 -- what callers know of a place: its weights add up to its span, which is above 0, and its tiles are below the grid
 pub record Sound (grid most : ℕ) (p : Place) : Type 0 where

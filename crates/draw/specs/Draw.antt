@@ -8,7 +8,7 @@ use mathlib.Core.Path.{_≡_}
 use lib.Dec.{ltb, eqb}
 use lib.ListN.{length, take}
 use Rattle.lists.specs.Lists.{all}
-use Rattle.refuse.specs.Refuse.{Row, row, first}
+use Rattle.refuse.specs.Refuse.{Row, row, first, Says, accepted, refused}
 use Rattle.tile.specs.Tile.{within, greysOf}
 use Rattle.settings.specs.declared.Settings.{Settings}
 use Rattle.settings.specs.declared.MapRecord.{MapRecord}
@@ -54,7 +54,12 @@ unfoldable pub drawRows : ℕ → ℕ → ℕ → List ℕ → Settings → MapR
 drawRows film w h pic s r win m room =
     sharedRows w h (length pic) s (length m) ++ (recordRows film w h s r ++ (windowRows w h win room ++ pixelRows w pic s win m))
 
--- "the window's pixels row by row in the output, each by the rule above from the map entries as lent, whoever wrote them. At factor 1.0 it copies them."
+-- document 01's number of draw's answers: none where it drew, which hands back no value, or a refusal
+unfoldable pub drawnSays : Drawn → Says (Unit {0})
+drawnSays Done = accepted tt
+drawnSays (Refused n) = refused n
+
+-- "At factor 1.0 it copies them": the film's own greys there, else the rendered ones
 abbrev pub drawnOf : Bool → List ℕ → List ℕ → List ℕ
 drawnOf true greys rendered = greys
 drawnOf false greys rendered = rendered
@@ -69,6 +74,7 @@ abbrev pub settled : ℕ → List ℕ → List ℕ → Shows
 settled zero out pixels = record { answer = Done; out = pixels }
 settled (suc n) out pixels = record { answer = Refused (suc n); out = out }
 
+-- "the window's pixels row by row in the output, each by the rule above from the map entries as lent, whoever wrote them"; a refusal writes nothing
 unfoldable pub drawOf : ℕ → ℕ → ℕ → List ℕ → Settings → MapRecord → Window → List ℕ → List ℕ → Shows
 drawOf film w h pic s r win m out =
     settled (first (drawRows film w h pic s r win m (length out))) out

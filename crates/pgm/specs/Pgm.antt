@@ -8,7 +8,7 @@ use mathlib.Core.Path.{_≡_}
 use lib.Dec.{ltb, eqb}
 use lib.ListN.{length, drop}
 use Rattle.lists.specs.Lists.{onto}
-use Rattle.refuse.specs.Refuse.{Row, row, first}
+use Rattle.refuse.specs.Refuse.{Row, row, first, Says, accepted, refused}
 use Rattle.header.specs.declared.Head.{Head}
 use Rattle.header.specs.declared.Head.the-variants as Head
 use Rattle.header.specs.Header.{headerOf, headerBytes}
@@ -72,6 +72,11 @@ abbrev pub rasterOf : Head → List ℕ → List ℕ
 rasterOf (Head.Found w h m at) s = drop at s
 rasterOf (Head.Refused n) s = []
 
+-- document 01's values and number of read's answers: width, height and maxval, or a refusal
+unfoldable pub sizesSays : Sizes → Says (ℕ × ℕ × ℕ)
+sizesSays (Sizes.Found w h m) = accepted (w, h, m)
+sizesSays (Sizes.Refused n) = refused n
+
 -- ---- greys
 
 -- 27 and 26: "the caller's target too short", "a sample above maxval"
@@ -94,6 +99,11 @@ pub record GreyAsks (bytes : List ℕ) (start w h m room : ℕ) : Type 0 where
   pub raster : RasterAsks bytes start w h m
   pub fitting : w * h ≤ room
   pub bounded : noneAbove m (unpacked (isWide m) (drop start bytes) (w * h)) ≡ true
+
+-- document 01's number of the answers: none where the greys were laid down, which hands back no value, or a refusal
+unfoldable pub turnedSays : Turned → Says (Unit {0})
+turnedSays Turned.Done = accepted tt
+turnedSays (Turned.Refused n) = refused n
 
 -- what the call leaves: its answer and the target
 pub record Greyed : Type 0 where
@@ -135,6 +145,11 @@ pub record WriteAsks (pic : List ℕ) (w h m room : ℕ) : Type 0 where
   pub whole : length pic ≡ w * h
   pub bounded : noneAbove m pic ≡ true
   pub fitting : length (headerBytes w h m) + rasterSize w h m ≤ room
+
+-- document 01's value and number of write's answers: "the byte count", or a refusal
+unfoldable pub writtenSays : Written → Says ℕ
+writtenSays (Written.Bytes n) = accepted n
+writtenSays (Written.Refused n) = refused n
 
 -- what the call leaves: its answer and the output
 pub record Wrote : Type 0 where

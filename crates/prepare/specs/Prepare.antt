@@ -10,13 +10,14 @@ use lib.IntN.{pos}
 use lib.Ieee.{Float, fin}
 use lib.ListN.{length, drop}
 use Rattle.lists.specs.Lists.{joined, onto, over, filled, all}
-use Rattle.refuse.specs.Refuse.{Row, row, first}
+use Rattle.refuse.specs.Refuse.{Row, row, first, Says, accepted, refused}
 use Rattle.limit.specs.declared.Clip.{Clip}
 use Rattle.limit.specs.declared.Clip.the-variants.{Off, Factor}
 use Rattle.limit.specs.Limit.{isOne, limitOf, usedOf, tooTight}
 use Rattle.tile.specs.declared.Rect.{Rect}
 use Rattle.tile.specs.Tile.{within, greysOf, tileMapping}
 use Rattle.settings.specs.declared.Settings.{Settings}
+use Rattle.settings.specs.declared.MapRecord.{MapRecord}
 use Rattle.settings.specs.declared.Footer.{Footer}
 use Rattle.settings.specs.Settings.{binsOf, recordOf, tileWidth, tileHeight, tilePixels, clipBad, clipOne, sharedRows, Ready}
 use Rattle.render.specs.Render.{renderOf, whole}
@@ -52,13 +53,27 @@ prepareRows w h pic s room scratch =
     ∷ row 14 (tooTight (s .clip) (tilePixels w h s) (binsOf s))
     ∷ [])
 
--- the floats 0.0 and 1.0
+-- ---- the answers
+
+-- document 01's values and number of prepare's answers: "the map record and a footer record", or a refusal
+unfoldable pub preparedSays : Prepared → Says (MapRecord × Footer)
+preparedSays (Prepared.Done r foot) = accepted (r, foot)
+preparedSays (Prepared.Refused n) = refused n
+
+-- and of enhance's: "the same .. footer", or a refusal
+unfoldable pub enhancedSays : Enhanced → Says Footer
+enhancedSays (Enhanced.Done foot) = accepted foot
+enhancedSays (Enhanced.Refused n) = refused n
+
+-- the float 0.0
 abbrev pub none : Float
 none = fin false 0 (pos 0)
 
+-- and 1.0
 abbrev pub one : Float
 one = fin false 1 (pos 0)
 
+-- the one footer where it holds, else the other
 abbrev pub pickFooter : Bool → Footer → Footer → Footer
 pickFooter true a b = a
 pickFooter false a b = b
@@ -83,6 +98,7 @@ pub record Ended : Type 0 where
   pub map : List ℕ
   pub scratch : List ℕ
 
+-- the answer, the map buffer and the scratch at the end, as prepare leaves them
 abbrev pub ending : Prepared → List ℕ → List ℕ → Ended
 ending r m t = record { answer = r; map = m; scratch = t }
 
@@ -101,6 +117,7 @@ preparedOf film w h pic s m t =
       scratch = stays (clipOne (s .clip)) t (filled (λ k. 0) t (binsOf s));
     }
 
+-- "The first that applies is given", and nothing else happens; where none applies, prepare does its work
 unfoldable pub prepareOf : ℕ → ℕ → ℕ → List ℕ → Settings → List ℕ → List ℕ → Ended
 prepareOf film w h pic s m t = settled (first (prepareRows w h pic s (length m) (length t))) m t (preparedOf film w h pic s m t)
 
@@ -113,9 +130,11 @@ pub record Over : Type 0 where
   pub map : List ℕ
   pub scratch : List ℕ
 
+-- the answer, the picture, the map buffer and the scratch at the end, as enhance leaves them
 abbrev pub overing : Enhanced → List ℕ → List ℕ → List ℕ → Over
 overing r pic m t = record { answer = r; picture = pic; map = m; scratch = t }
 
+-- a refusal leaves the picture and all memory as they were
 abbrev pub settledOver : ℕ → List ℕ → List ℕ → List ℕ → Over → Over
 settledOver zero pic m t ok = ok
 settledOver (suc n) pic m t ok = record { answer = Enhanced.Refused (suc n); picture = pic; map = m; scratch = t }
@@ -130,6 +149,7 @@ enhancedOf w h pic s m t =
       scratch = stays (clipOne (s .clip)) t (filled (λ k. 0) t (binsOf s));
     }
 
+-- the refusals are prepare's; where none applies, enhance does its work
 unfoldable pub enhanceOf : ℕ → ℕ → List ℕ → Settings → List ℕ → List ℕ → Over
 enhanceOf w h pic s m t = settledOver (first (prepareRows w h pic s (length m) (length t))) pic m t (enhancedOf w h pic s m t)
 

@@ -1,6 +1,6 @@
 -- Document 01, the refusal table: "The first that applies is given."
 -- Assumes nothing.
-use Prim.Native.Nat.{ℕ, _<_}
+use Prim.Native.Nat.{ℕ, zero, suc, _<_}
 use mathlib.Core.Bool.{Bool, true, false}
 use mathlib.Core.List.{List, [], _∷_}
 use mathlib.Core.Path.{_≡_}
@@ -32,3 +32,13 @@ Numbered (row n b ∷ rows) = (0 < n) × Numbered rows
 -- the rows in front of `rest` do not apply: what is left of the table gives the whole table's number
 pub record Past (whole rest : List Row) : Type 0 where
   pub same : first whole ≡ first rest
+
+-- an answer in document 01's terms: accepted, with the values that the call hands back, or refused with a number
+pub data Says (A : Type 0) : Type 0 where
+  accepted : A → Says A
+  refused : ℕ → Says A
+
+-- what a call says where n is the number of the first row that applies
+abbrev pub says : {A : Type 0} → ℕ → A → Says A
+says zero v = accepted v
+says (suc n) v = refused (suc n)
