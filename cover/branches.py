@@ -13,9 +13,12 @@ import sys
 # What is not ours: the kit's libraries, the compiler's own, and the test programs themselves.
 OTHERS = ("libc", "io", "std", "check", "os", "films", "listings", "rattle-llvm-checks")
 
+# How many counters counts.c has room for.
+MOST = 100000
+
 DEFINE = re.compile(r'^define .*@"?([\w:-]+)"?\(')
 LABEL = re.compile(r'^([\w.]+):')
-CONDITION = re.compile(r'^  br i1 |^    i\d+ \d+, label ')
+CONDITION = re.compile(r'^  br i1 |^  switch |^    i\d+ \d+, label ')
 WAY = re.compile(r'label %([\w.]+)')
 
 COUNT = """  %cover.now.{0} = load i64, ptr getelementptr (i64, ptr @cover_counts, i64 {0})
@@ -57,7 +60,7 @@ def dead(lines):
 
 def marked(name, lines, names):
     """The lines of a function of ours, with its counters."""
-    skipped, pending = dead(lines), []
+    skipped, pending, first = dead(lines), [], len(names)
 
     def counted(found):
         """A way, led through a block that counts."""
@@ -65,7 +68,7 @@ def marked(name, lines, names):
         if way in skipped:
             return found.group(0)
         pending.append((len(names), way))
-        names.append((name, way, "way"))
+        names.append((name, f"{way}/{len(names) - first}", "way"))
         return f"label %cover.{pending[-1][0]}"
 
     for line in lines:
@@ -87,6 +90,7 @@ def mark(source, target, listed):
         for name, lines in functions(text):
             out.writelines(marked(name, lines, names) if ours(name) else lines)
         out.write("\n@cover_counts = external global i64\n")
+    assert len(names) <= MOST, "counts.c has room for fewer counters"
     with open(listed, "w", encoding="utf-8") as out:
         out.writelines(" ".join(row) + "\n" for row in names)
 

@@ -1,11 +1,12 @@
 """Faults put into a compiled program one at a time: does the set find each?
 
-faults.py PROGRAM IN.ll ROOM [PART PARTS]    tries the faults of part PART of PARTS (0 of 1 if none is named)
+faults.py PROGRAM IN.ll ROOM [CRATE]    tries the faults, of one crate if it is named
 
 In each function of the library, one at a time: a comparison is moved by one (< to <=, = to not equal), a sum becomes a
 difference, a product a sum, a quotient a remainder, and each number that stands in a comparison, in reckoning, in a
-stored value, a returned one or an argument becomes the next one. (The compiler's own checks for a division by 0 are left
-alone.) A fault is found if the program crashes, does not end in ten seconds or prints anything but its stored output.
+stored value, a returned one or an argument becomes the next one. (The compiler's own checks for a division by 0 and the
+tags of enums are left alone.) A fault is found if the program crashes, does not end in ten seconds or prints anything but
+its stored output.
 """
 
 import re
@@ -27,6 +28,8 @@ RECKONED = re.compile(r"^(  %[\w.]+ = )(\w+) (.*)$")
 NUMBERED = re.compile(r"^  (?:%[\w.]+ = )?(?:icmp|add|sub|mul|udiv|urem|and|or|xor|shl|lshr|store|ret|call)\b")
 NUMBER = re.compile(r"(?<=[ (])(\d+)(?=[,) \n]|$)")
 FLAGS = re.compile(r" (?:nuw|nsw|inbounds|exact)(?= )|, !range !\d+|, !noundef !\d+")
+
+TAG = re.compile(r"^  store i8 \d+, ptr ")
 
 SLOW = re.compile(r'^(define .*@"\w+::(?:run_\w+|main)"\(.*\)) #0 \{$')
 
@@ -51,8 +54,11 @@ def candidates(lines):
     """All faults: the function, the line's place and the line that takes its place."""
     place = 0
     for name, body in branches.functions(lines):
+        # a function that returns nothing to the machine fills in an answer's tag
+        tagged = body and body[0].startswith("define internal void")
         for line, following in zip(body, body[1:] + [""]):
-            if branches.ours(name) and "label %trap" not in following:
+            skipped = "label %trap" in following or (tagged and TAG.match(line))
+            if branches.ours(name) and not skipped:
                 for fault in faults(line):
                     yield name, place, fault
             place += 1
@@ -64,7 +70,7 @@ def plain(text):
     return lines + ["attributes #99 = { noinline optnone nounwind }\n"]
 
 
-def ran(lines, room, program, expected):
+def ran(lines, room, expected):
     """Whether the program prints what it should."""
     with open(room + "/fault.ll", "w", encoding="utf-8") as out:
         out.writelines(lines)
@@ -76,23 +82,23 @@ def ran(lines, room, program, expected):
     return done.returncode == 0 and done.stdout == expected
 
 
-def main(program, source, room, part="0", parts="1"):
+def main(program, source, room, crate=None):
     """Tries the faults and tells which are not found."""
     with open(source, encoding="utf-8") as text:
         lines = plain(text)
     with open(f"crates/{program}/stdout", "rb") as stored:
         expected = stored.read()
-    assert ran(lines, room, program, expected), "the program without a fault"
+    assert ran(lines, room, expected), "the program without a fault"
     tried, missed = {}, 0
-    for name, place, fault in list(candidates(lines))[int(part)::int(parts)]:
-        whole = lines[:place] + [fault] + lines[place + 1:]
-        crate = name.split("::")[0]
-        tried[crate] = tried.get(crate, 0) + 1
-        if ran(whole, room, program, expected):
-            missed += 1
-            print(f"not found: {name}: {lines[place].strip()}  ->  {fault.strip()}", flush=True)
-    print(" ".join(f"{crate} {number}" for crate, number in sorted(tried.items())))
-    print(f"{sum(tried.values())} tried, {sum(tried.values()) - missed} found")
+    for name, place, fault in candidates(lines):
+        own = name.split("::")[0]
+        if crate in (None, own):
+            tried[own] = tried.get(own, 0) + 1
+            if ran(lines[:place] + [fault] + lines[place + 1:], room, expected):
+                missed += 1
+                print(f"not found: {name}: {lines[place].strip()}  ->  {fault.strip()}", flush=True)
+    print(", ".join(f"{own} {number}" for own, number in sorted(tried.items())))
+    print(f"{program}: {sum(tried.values())} tried, {sum(tried.values()) - missed} found", flush=True)
 
 
 if __name__ == "__main__":

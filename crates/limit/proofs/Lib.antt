@@ -1,4 +1,3 @@
 pub mod Factor
 pub mod Pattern
 pub mod Laws
-pub mod Worked
