@@ -1,6 +1,6 @@
 // The clip setting, the judgement of its factor, the limit L from the factor's exact fraction, and the factor used.
 ghost use mathlib.Core.Path.{_≡_};
-ghost use Rattle.limit.specs.Limit.{accepted, judgeOf, limitOf, usedOf, LimitAsks, UsedAsks};
+ghost use Rattle.limit.specs.Limit.{judgeOf, limitOf, usedOf, LimitAsks, UsedAsks};
 
 // The clip setting is one of two: off, or a factor carried as f32.
 pub enum Clip {

@@ -1,10 +1,9 @@
 // The calls prepare and enhance: the tile mappings of a film, and the whole film rendered in place.
 ghost use mathlib.Core.Path.{_≡_};
-ghost use Prim.Native.Nat.{_≤_, _<_};
+ghost use Prim.Native.Nat.{_<_};
 ghost use lib.ListN.{length};
 ghost use Rattle.limit.specs.Limit.{tooTight};
 ghost use Rattle.refuse.specs.Refuse.{first};
-ghost use Rattle.settings.specs.Settings.{binsOf, tilePixels};
 ghost use Rattle.prepare.specs.Prepare.{prepareRows, footerOf, tileRect, prepareOf, enhanceOf, ending, overing, TightAsks, TileAsks, TilesAsk, TileDone, TilesDone};
 use limit::Clip;
 use limit::Judged;

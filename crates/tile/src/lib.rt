@@ -1,10 +1,9 @@
 // One tile: the bin of a grey, the counts of a rectangle of a picture, and the mapping of counts.
 ghost use mathlib.Core.Path.{_≡_};
-ghost use mathlib.Core.Bool.{true};
-ghost use Prim.Native.Nat.{_*_, _≤_, _<_};
+ghost use Prim.Native.Nat.{_≤_, _<_};
 ghost use lib.ListN.{length};
-ghost use Rattle.lists.specs.Lists.{onto, all, total};
-ghost use Rattle.tile.specs.Tile.{within, binOf, factorOf, binBy, greysOf, countsOf, addedOf, mappingOf, clippedBy, RowAsks, CountAsks, MapAsks, ClipByAsks, TileAsks, TileMapped};
+ghost use Rattle.lists.specs.Lists.{onto};
+ghost use Rattle.tile.specs.Tile.{factorOf, binBy, greysOf, countsOf, addedOf, mappingOf, clippedBy, RowAsks, CountAsks, MapAsks, ClipByAsks, TileAsks, TileMapped};
 use limit::Clip;
 
 // A rectangle of a picture: a tile is one.
