@@ -1,27 +1,23 @@
--- What an answer tells: which row of the table of document 01 was met, and that none was where the answer is that all is done.
+-- What an answer tells, in document 01's terms: which row of its table was met, and that none was where the answer is that all is done.
 -- Assumes nothing.
 use Prim.Native.Nat.{ℕ, zero, suc}
 use mathlib.Core.List.{List}
 use mathlib.Core.Path.{_≡_, refl, sym, ap, _∙_}
 use native.Mathlib.Omega.{arith}
 use lib.ListN.{length}
-use Rattle.refuse.specs.Refuse.{first}
+use Rattle.refuse.specs.Refuse.{first, says}
 use Rattle.settings.specs.declared.Settings.{Settings}
 use Rattle.settings.specs.declared.MapRecord.{MapRecord}
 use Rattle.settings.specs.declared.Footer.{Footer}
 use Rattle.settings.specs.declared.Window.{Window}
 use Rattle.settings.specs.Settings.{binsOf, recordOf, tilePixels}
-use Rattle.prepare.specs.declared.Prepared.{Prepared}
 use Rattle.prepare.specs.declared.Prepared.the-variants as Prepared
-use Rattle.prepare.specs.declared.Enhanced.{Enhanced}
 use Rattle.prepare.specs.declared.Enhanced.the-variants as Enhanced
-use Rattle.prepare.specs.Prepare.{prepareRows, footerOf, Ended, ending, settled, preparedOf, prepareOf, Over, overing, settledOver, enhancedOf, enhanceOf, Work}
+use Rattle.prepare.specs.Prepare.{prepareRows, preparedSays, enhancedSays, footerOf, Ended, ending, settled, preparedOf, prepareOf, Over, overing, settledOver, enhancedOf, enhanceOf, Work}
 use Rattle.prepare.proofs.Table.{work}
-use Rattle.draw.specs.declared.Drawn.{Drawn}
 use Rattle.draw.specs.declared.Drawn.the-variants as Drawn
-use Rattle.draw.specs.Draw.{drawRows, showing, drawOf}
+use Rattle.draw.specs.Draw.{drawRows, drawnSays, showing, drawOf}
 use Rattle.draw.specs.Draw.{settled as shown}
-use Rattle.promises.specs.Films.{preparedNumber, enhancedNumber, drawnNumber}
 
 -- ---- prepare
 
@@ -63,14 +59,6 @@ module _ (film w h : ℕ) (pic : List ℕ) (s : Settings) (m t : List ℕ) where
   unfolding prepareOf
   prepare-refused e = ap (λ n. settled n m t (preparedOf film w h pic s m t) .answer) e
 
-  done-number : preparedNumber (preparedOf film w h pic s m t .answer) ≡ 0
-  unfolding preparedNumber preparedOf
-  done-number = refl
-
-  refused-number : (k : ℕ) → preparedNumber (Prepared.Refused (suc k)) ≡ suc k
-  unfolding preparedNumber
-  refused-number k = refl
-
   settled-refused : {n : ℕ} (k : ℕ) → settled k m t (preparedOf film w h pic s m t) .answer ≡ Prepared.Refused n
       → (k ≡ n) × (settled k m t (preparedOf film w h pic s m t) ≡ ending (Prepared.Refused n) m t)
   unfolding preparedOf
@@ -87,14 +75,15 @@ module _ (film w h : ℕ) (pic : List ℕ) (s : Settings) (m t : List ℕ) where
   unfolding prepareOf
   prepare-keeps e = settled-refused (first (prepareRows w h pic s (length m) (length t))) e .1
 
-  -- the answer's number is that of the first row that applies
-  pub prepare-number : preparedNumber (prepareOf film w h pic s m t .answer) ≡ first (prepareRows w h pic s (length m) (length t))
-  unfolding prepareOf
-  prepare-number = go (first (prepareRows w h pic s (length m) (length t)))
+  -- the answer says the number of the first row that applies, and where none does the map record and the footer
+  pub prepared-says : preparedSays (prepareOf film w h pic s m t .answer)
+      ≡ says (first (prepareRows w h pic s (length m) (length t))) (recordOf film w h s, footerOf (s .clip) (tilePixels w h s) (binsOf s))
+  unfolding prepareOf preparedOf preparedSays
+  prepared-says = go (first (prepareRows w h pic s (length m) (length t)))
     where
-      go : (k : ℕ) → preparedNumber (settled k m t (preparedOf film w h pic s m t) .answer) ≡ k
-      go zero = done-number
-      go (suc k) = refused-number k
+      go : (k : ℕ) → preparedSays (settled k m t (preparedOf film w h pic s m t) .answer) ≡ says k (recordOf film w h s, footerOf (s .clip) (tilePixels w h s) (binsOf s))
+      go zero = refl
+      go (suc k) = refl
 
 -- ---- enhance
 
@@ -134,23 +123,6 @@ module _ (w h : ℕ) (pic : List ℕ) (s : Settings) (m t : List ℕ) where
   unfolding enhanceOf
   enhance-refused e = ap (λ n. settledOver n pic m t (enhancedOf w h pic s m t) .answer) e
 
-  over-done-number : enhancedNumber (enhancedOf w h pic s m t .answer) ≡ 0
-  unfolding enhancedNumber enhancedOf
-  over-done-number = refl
-
-  over-refused-number : (k : ℕ) → enhancedNumber (Enhanced.Refused (suc k)) ≡ suc k
-  unfolding enhancedNumber
-  over-refused-number k = refl
-
-  -- the answer's number is that of the first row that applies
-  pub enhance-number : enhancedNumber (enhanceOf w h pic s m t .answer) ≡ first (prepareRows w h pic s (length m) (length t))
-  unfolding enhanceOf
-  enhance-number = go (first (prepareRows w h pic s (length m) (length t)))
-    where
-      go : (k : ℕ) → enhancedNumber (settledOver k pic m t (enhancedOf w h pic s m t) .answer) ≡ k
-      go zero = over-done-number
-      go (suc k) = over-refused-number k
-
   over-refused : {n : ℕ} (k : ℕ) → settledOver k pic m t (enhancedOf w h pic s m t) .answer ≡ Enhanced.Refused n
       → (k ≡ n) × (settledOver k pic m t (enhancedOf w h pic s m t) ≡ overing (Enhanced.Refused n) pic m t)
   unfolding enhancedOf
@@ -167,6 +139,16 @@ module _ (w h : ℕ) (pic : List ℕ) (s : Settings) (m t : List ℕ) where
   unfolding enhanceOf
   enhance-keeps e = over-refused (first (prepareRows w h pic s (length m) (length t))) e .1
 
+  -- the answer says the number of the first row that applies, and where none does the footer
+  pub enhanced-says : enhancedSays (enhanceOf w h pic s m t .answer)
+      ≡ says (first (prepareRows w h pic s (length m) (length t))) (footerOf (s .clip) (tilePixels w h s) (binsOf s))
+  unfolding enhanceOf enhancedOf enhancedSays
+  enhanced-says = go (first (prepareRows w h pic s (length m) (length t)))
+    where
+      go : (k : ℕ) → enhancedSays (settledOver k pic m t (enhancedOf w h pic s m t) .answer) ≡ says k (footerOf (s .clip) (tilePixels w h s) (binsOf s))
+      go zero = refl
+      go (suc k) = refl
+
 -- ---- draw
 
 module _ (film w h : ℕ) (pic : List ℕ) (s : Settings) (r : MapRecord) (win : Window) (m out : List ℕ) where
@@ -179,11 +161,11 @@ module _ (film w h : ℕ) (pic : List ℕ) (s : Settings) (r : MapRecord) (win :
       go zero pixels q = absurd (let z : _≡_ {A = ℕ} 0 1 = cc in omega arith)
       go (suc k) pixels q = ap (λ x. showing x out) q
 
-  -- the answer's number is that of the first row that applies
-  pub draw-number : drawnNumber (drawOf film w h pic s r win m out .answer) ≡ first (drawRows film w h pic s r win m (length out))
-  unfolding drawOf drawnNumber
-  draw-number = go (first (drawRows film w h pic s r win m (length out))) _
+  -- the answer says the number of the first row that applies, and where none does no value
+  pub drawn-says : drawnSays (drawOf film w h pic s r win m out .answer) ≡ says (first (drawRows film w h pic s r win m (length out))) tt
+  unfolding drawOf drawnSays
+  drawn-says = go (first (drawRows film w h pic s r win m (length out))) _
     where
-      go : (k : ℕ) (pixels : List ℕ) → drawnNumber (shown k out pixels .answer) ≡ k
+      go : (k : ℕ) (pixels : List ℕ) → drawnSays (shown k out pixels .answer) ≡ says k tt
       go zero pixels = refl
       go (suc k) pixels = refl

@@ -1,8 +1,9 @@
--- Document 01, "How tight the promises are", of read, greys and write: any two outcomes that a contract allows are equal, and a refusal keeps lent memory.
+-- Document 01, "How tight the promises are", of read, greys and write: any two outcomes that a contract allows are equal, what each answer says, and that a refusal keeps lent memory.
 -- `Post` is the contract itself: of the arguments a, an answer r and the lent memory s at the end.
 -- Assumes nothing.
-use Prim.Native.Nat.{ℕ, _*_, _≤_}
-use mathlib.Core.List.{[]}
+use Prim.Native.Nat.{ℕ, _-_, _*_, _≤_}
+use mathlib.Core.List.{[], _++_}
+use mathlib.Core.Logic.{_⊎_}
 use mathlib.Core.Path.{_≡_, sym, ap, _∙_}
 use contract.Lifetimes.{Lfts}
 use denote.Ref.{now}
@@ -10,11 +11,14 @@ use denote.Triple.Clauses.{AtExit}
 use borrow.Fn.Kinds.{Dens, endedOf, resT}
 use lib.ListN.{length, take}
 use Rattle.lists.specs.Lists.{onto}
+use Rattle.refuse.specs.Refuse.{first, refused, says}
 use Rattle.header.specs.declared.Head.the-variants as Head
+use Rattle.header.specs.Header.{headerOf}
+use Rattle.header.proofs.Laws.{refused-number}
 use Rattle.pgm.specs.declared.Sizes.the-variants as Sizes
 use Rattle.pgm.specs.declared.Turned.the-variants as Turned
 use Rattle.pgm.specs.declared.Written.the-variants as Written
-use Rattle.pgm.specs.Pgm.{readOf, sizesOf, greyedAs, Greyed, Wrote}
+use Rattle.pgm.specs.Pgm.{limitRows, rasterRows, greyRows, writeRows, readOf, sizesOf, sizesSays, turnedSays, writtenSays, greyedAs, Greyed, fileOf, Wrote}
 use Rattle.pgm.proofs.read_sizes.Kinds as sizes
 use Rattle.pgm.proofs.read_sizes.Reads as read-sizes
 use Rattle.pgm.proofs.read_raster.Kinds as raster
@@ -23,7 +27,7 @@ use Rattle.pgm.proofs.read_greys.Kinds as greys
 use Rattle.pgm.proofs.read_greys.Reads as read-greys
 use Rattle.pgm.proofs.write.Kinds as write
 use Rattle.pgm.proofs.write.Reads as write-reads
-use Rattle.promises.proofs.Files.{refused-part, same-film, greys-kept, write-kept}
+use Rattle.promises.proofs.Files.{refused-part, same-film, found-says, misfit-says, turned-says, written-says, greys-kept, write-kept}
 
 -- ---- any two outcomes are equal
 
@@ -50,6 +54,33 @@ pub write-determined : (κs : Lfts 2) (a : Dens κs write.ps) (r r′ : resT wri
 write-determined κs a r r′ s s′ p q =
     let e = p ∙ sym q in
     (ap (λ (x : Wrote). x .answer) e, ap (λ (x : Wrote). x .out) e)
+
+-- ---- what each call says
+
+-- demand 1, "Bad input meets a numbered refusal", of read, asked for the sizes: "header bytes from the front .. then 22 to 25".
+-- Where the header is found, the number is that of the first of the rows 22 to 25 that applies; where none does the header's width, height and maxval are handed back
+pub sizes-says-found : (κs : Lfts 1) (a : Dens κs sizes.ps) (r : resT sizes.r κs .Denot) (s : AtExit (endedOf 1 sizes.ps sizes.r) κs) (w h m at : ℕ)
+    → read-sizes.Post κs a r s → headerOf (now (a .0)) ≡ Head.Found w h m at
+    → sizesSays r ≡ says (first (limitRows w h m ++ rasterRows w h m (length (now (a .0)) - at))) (w, h, m)
+sizes-says-found κs a r s w h m at p q = ap sizesSays p ∙ found-says (now (a .0)) q
+
+-- where it is not, the number is the header's, 20 or 21
+pub sizes-says-misfit : (κs : Lfts 1) (a : Dens κs sizes.ps) (r : resT sizes.r κs .Denot) (s : AtExit (endedOf 1 sizes.ps sizes.r) κs) (n : ℕ)
+    → read-sizes.Post κs a r s → headerOf (now (a .0)) ≡ Head.Refused n → (sizesSays r ≡ refused n) × ((n ≡ 20) ⊎ (n ≡ 21))
+sizes-says-misfit κs a r s n p q = (ap sizesSays p ∙ misfit-says (now (a .0)) q, refused-number (now (a .0)) q)
+
+-- the same of greys: the first row that applies, "22, 23, 24, 25, 27, 26"; where none does there is no value to hand back
+pub greys-says : (κs : Lfts 2) (a : Dens κs greys.ps) (r : resT greys.r κs .Denot) (s : AtExit (endedOf 2 greys.ps greys.r) κs) → read-greys.Post κs a r s
+    → turnedSays r
+    ≡ says (first (greyRows (now (a .0)) (a .1 .0) (a .1 .1 .0) (a .1 .1 .1 .0) (a .1 .1 .1 .1 .0) (length (now (a .1 .1 .1 .1 .1 .0))))) tt
+greys-says κs a r s p = ap (λ (x : Greyed). turnedSays (x .answer)) p ∙ turned-says _ _ _ _ _ _
+
+-- the same of write: the first row that applies, "22, 23, 2, 26, 27"; where none does it "returns the byte count"
+pub write-says : (κs : Lfts 2) (a : Dens κs write.ps) (r : resT write.r κs .Denot) (s : AtExit (endedOf 2 write.ps write.r) κs) → write-reads.Post κs a r s
+    → writtenSays r
+    ≡ says (first (writeRows (now (a .0)) (a .1 .0) (a .1 .1 .0) (a .1 .1 .1 .0) (length (now (a .1 .1 .1 .1 .0)))))
+    (length (fileOf (now (a .0)) (a .1 .0) (a .1 .1 .0) (a .1 .1 .1 .0)))
+write-says κs a r s p = ap (λ (x : Wrote). writtenSays (x .answer)) p ∙ written-says _ _ _ _ _
 
 -- ---- a refusal keeps lent memory
 

@@ -1,4 +1,5 @@
--- Demand 2 of files: what write lays down read gives back, what read gives back write lays down again, and the part that read hands back is the raster.
+-- Demand 2 of files: what write lays down read gives back, what read gives back write lays down again, and the part that read hands back is the raster;
+-- and demand 1 of them: what each answer says, and that a refusal keeps lent memory.
 -- Each law speaks of the outcomes that the contracts of read_sizes, read_raster, read_greys and write cite.
 -- Assumes nothing.
 use Prim.Native.Nat.{ℕ, zero, suc, _+_, _-_, _*_, _≤_}
@@ -8,7 +9,7 @@ use native.Mathlib.Omega.{arith}
 use lib.ListN.{length, take, drop, length-drop, take-append-drop}
 use Rattle.lists.specs.Lists.{onto}
 use Rattle.lists.proofs.Fills.{take-onto}
-use Rattle.refuse.specs.Refuse.{first}
+use Rattle.refuse.specs.Refuse.{first, refused, says}
 use Rattle.refuse.proofs.Walk.{none-first}
 use Rattle.header.specs.declared.Head.the-variants as Head
 use Rattle.header.specs.Header.{headerOf, headerBytes}
@@ -16,8 +17,8 @@ use Rattle.samples.specs.Samples.{isWide, unpacked}
 use Rattle.pgm.specs.declared.Sizes.the-variants as Sizes
 use Rattle.pgm.specs.declared.Turned.the-variants as Turned
 use Rattle.pgm.specs.declared.Written.the-variants as Written
-use Rattle.pgm.specs.Pgm.{rasterSize, limitRows, rasterRows, greyRows, targetRows, writeRows, GreyAsks, WriteAsks, readOf, sizesOf, rasterOf, Greyed, greyed, greyedAs, greysOf, fileOf, Wrote, wrote, wroteAs, writeOf}
-use Rattle.pgm.proofs.Tables.{within-none, read-header, grey-asks, write-asks, write-fits, length-file}
+use Rattle.pgm.specs.Pgm.{rasterSize, limitRows, rasterRows, greyRows, targetRows, writeRows, GreyAsks, WriteAsks, unless, judgedOf, readOf, sizesOf, rasterOf, sizesSays, turnedSays, writtenSays, Greyed, greyed, greyedAs, greysOf, fileOf, Wrote, wrote, wroteAs, writeOf}
+use Rattle.pgm.proofs.Tables.{within-none, read-judged, read-refused, read-header, grey-asks, write-asks, write-fits, length-file}
 use Rattle.pgm.proofs.Parts.{write-done}
 use Rattle.pgm.proofs.Laws.{written-front, write-then-read, write-then-greys, read-asks}
 
@@ -138,6 +139,44 @@ same-bytes pic w h m out left n w′ h′ m′ target greys out′ q z g l =
     let d : m ≡ m′ = cc in
     let k : greyedAs Turned.Done greys ≡ greysOf (rasterOf (readOf (take n left)) (take n left)) 0 w h m target = rw (x, y, d) g in
     rw (← x, ← y, ← d) (again pic w h m out left n target greys out′ q k l)
+
+-- ---- what the answers say
+
+-- read, asked for the sizes, of a file whose header is found: the number of the first of the rows 22 to 25 that applies, and where none does the header's numbers
+pub found-says : (s : List ℕ) {w h m at : ℕ} → headerOf s ≡ Head.Found w h m at
+    → sizesSays (sizesOf (readOf s)) ≡ says (first (limitRows w h m ++ rasterRows w h m (length s - at))) (w, h, m)
+unfolding judgedOf sizesSays
+found-says s {w} {h} {m} {at} q =
+    ap (λ x. sizesSays (sizesOf x)) (sym (read-judged s q refl)) ∙ go (first (limitRows w h m ++ rasterRows w h m (length s - at)))
+  where
+    go : (k : ℕ) → sizesSays (sizesOf (unless k (Head.Found w h m at))) ≡ says k (w, h, m)
+    go zero = refl
+    go (suc k) = refl
+
+-- of a file whose header is refused: the header's number
+pub misfit-says : (s : List ℕ) {n : ℕ} → headerOf s ≡ Head.Refused n → sizesSays (sizesOf (readOf s)) ≡ refused n
+unfolding sizesSays
+misfit-says s q = ap (λ x. sizesSays (sizesOf x)) (sym (read-refused s q))
+
+-- greys: the number of the first row that applies, and where none does no value
+pub turned-says : (s : List ℕ) (start w h m : ℕ) (target : List ℕ)
+    → turnedSays (greysOf s start w h m target .answer) ≡ says (first (greyRows s start w h m (length target))) tt
+unfolding greysOf turnedSays
+turned-says s start w h m target = go (first (greyRows s start w h m (length target)))
+  where
+    go : (k : ℕ) → turnedSays (greyed k target (unpacked (isWide m) (drop start s) (w * h)) .answer) ≡ says k tt
+    go zero = refl
+    go (suc k) = refl
+
+-- write: the number of the first row that applies, and where none does the file's length
+pub written-says : (pic : List ℕ) (w h m : ℕ) (out : List ℕ)
+    → writtenSays (writeOf pic w h m out .answer) ≡ says (first (writeRows pic w h m (length out))) (length (fileOf pic w h m))
+unfolding writeOf writtenSays
+written-says pic w h m out = go (first (writeRows pic w h m (length out)))
+  where
+    go : (k : ℕ) → writtenSays (wrote k out (fileOf pic w h m) .answer) ≡ says k (length (fileOf pic w h m))
+    go zero = refl
+    go (suc k) = refl
 
 -- ---- refusals
 

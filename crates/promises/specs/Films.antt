@@ -1,4 +1,4 @@
--- What the promises speak of: the numbers of answers, the grey of a pixel by document 01's rule, what holds of each tile of an accepted film
+-- What the promises speak of: the grey of a pixel by document 01's rule, what holds of each tile of an accepted film
 -- with clipping on, and fillings of the bins.
 -- w and h are the film's width and height, pic its pixels.
 -- Assumes nothing.
@@ -16,30 +16,7 @@ use Rattle.tile.specs.Tile.{within, binOf, greysOf, countsOf, mappedOf, tileCou
 use Rattle.settings.specs.declared.Settings.{Settings}
 use Rattle.settings.specs.Settings.{binsOf, tileWidth, tileHeight, tilePixels, sharedRows}
 use Rattle.blend.specs.Blend.{placeOf, greyOf}
-use Rattle.prepare.specs.declared.Prepared.{Prepared}
-use Rattle.prepare.specs.declared.Prepared.the-variants as Prepared
-use Rattle.prepare.specs.declared.Enhanced.{Enhanced}
-use Rattle.prepare.specs.declared.Enhanced.the-variants as Enhanced
 use Rattle.prepare.specs.Prepare.{tileRect}
-use Rattle.draw.specs.declared.Drawn.{Drawn}
-use Rattle.draw.specs.declared.Drawn.the-variants as Drawn
-
--- ---- the answers
-
--- the number of prepare's answer: 0 where it is done, else the refusal's
-unfoldable pub preparedNumber : Prepared → ℕ
-preparedNumber (Prepared.Done r foot) = 0
-preparedNumber (Prepared.Refused n) = n
-
--- the number of enhance's answer
-unfoldable pub enhancedNumber : Enhanced → ℕ
-enhancedNumber (Enhanced.Done foot) = 0
-enhancedNumber (Enhanced.Refused n) = n
-
--- the number of draw's answer
-unfoldable pub drawnNumber : Drawn → ℕ
-drawnNumber Drawn.Done = 0
-drawnNumber (Drawn.Refused n) = n
 
 -- ---- a tile
 
