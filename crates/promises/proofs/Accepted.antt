@@ -5,21 +5,30 @@ use mathlib.Core.List.{List}
 use mathlib.Core.Path.{_≡_, refl, sym, ap, _∙_}
 use native.Mathlib.Omega.{arith}
 use lib.ListN.{length}
-use Rattle.refuse.specs.Refuse.{first, says}
+use Rattle.refuse.specs.Refuse.{first, refused, says}
 use Rattle.settings.specs.declared.Settings.{Settings}
 use Rattle.settings.specs.declared.MapRecord.{MapRecord}
 use Rattle.settings.specs.declared.Footer.{Footer}
 use Rattle.settings.specs.declared.Window.{Window}
 use Rattle.settings.specs.Settings.{binsOf, recordOf, tilePixels}
+use Rattle.prepare.specs.declared.Prepared.{Prepared}
 use Rattle.prepare.specs.declared.Prepared.the-variants as Prepared
+use Rattle.prepare.specs.declared.Enhanced.{Enhanced}
 use Rattle.prepare.specs.declared.Enhanced.the-variants as Enhanced
 use Rattle.prepare.specs.Prepare.{prepareRows, preparedSays, enhancedSays, footerOf, Ended, ending, settled, preparedOf, prepareOf, Over, overing, settledOver, enhancedOf, enhanceOf, Work}
 use Rattle.prepare.proofs.Table.{work}
+use Rattle.draw.specs.declared.Drawn.{Drawn}
 use Rattle.draw.specs.declared.Drawn.the-variants as Drawn
 use Rattle.draw.specs.Draw.{drawRows, drawnSays, showing, drawOf}
 use Rattle.draw.specs.Draw.{settled as shown}
 
 -- ---- prepare
+
+-- an answer that says a refusal is that refusal
+pub prepared-refused : (r : Prepared) {n : ℕ} → preparedSays r ≡ refused n → r ≡ Prepared.Refused n
+unfolding preparedSays
+prepared-refused (Prepared.Done r foot) e = absurd (let z : _≡_ {A = ℕ} 0 1 = cc in omega arith)
+prepared-refused (Prepared.Refused k) e = cc
 
 settled-done : (n : ℕ) (m t : List ℕ) (ok : Ended) {r : MapRecord} {foot : Footer} → settled n m t ok .answer ≡ Prepared.Done r foot → n ≡ 0
 settled-done zero m t ok e = refl
@@ -87,6 +96,12 @@ module _ (film w h : ℕ) (pic : List ℕ) (s : Settings) (m t : List ℕ) where
 
 -- ---- enhance
 
+-- an answer that says a refusal is that refusal
+pub enhanced-refused : (r : Enhanced) {n : ℕ} → enhancedSays r ≡ refused n → r ≡ Enhanced.Refused n
+unfolding enhancedSays
+enhanced-refused (Enhanced.Done foot) e = absurd (let z : _≡_ {A = ℕ} 0 1 = cc in omega arith)
+enhanced-refused (Enhanced.Refused k) e = cc
+
 over-done : (n : ℕ) (pic m t : List ℕ) (ok : Over) {foot : Footer} → settledOver n pic m t ok .answer ≡ Enhanced.Done foot → n ≡ 0
 over-done zero pic m t ok e = refl
 over-done (suc n) pic m t ok e = absurd (let z : _≡_ {A = ℕ} 0 1 = cc in omega arith)
@@ -150,6 +165,12 @@ module _ (w h : ℕ) (pic : List ℕ) (s : Settings) (m t : List ℕ) where
       go (suc k) = refl
 
 -- ---- draw
+
+-- an answer that says a refusal is that refusal
+pub drawn-refused : (r : Drawn) {n : ℕ} → drawnSays r ≡ refused n → r ≡ Drawn.Refused n
+unfolding drawnSays
+drawn-refused Drawn.Done e = absurd (let z : _≡_ {A = ℕ} 0 1 = cc in omega arith)
+drawn-refused (Drawn.Refused k) e = cc
 
 module _ (film w h : ℕ) (pic : List ℕ) (s : Settings) (r : MapRecord) (win : Window) (m out : List ℕ) where
   -- a refusal keeps the output

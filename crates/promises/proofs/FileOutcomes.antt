@@ -11,14 +11,12 @@ use denote.Triple.Clauses.{AtExit}
 use borrow.Fn.Kinds.{Dens, endedOf, resT}
 use lib.ListN.{length, take}
 use Rattle.lists.specs.Lists.{onto}
-use Rattle.refuse.specs.Refuse.{first, refused, says}
+use Rattle.refuse.specs.Refuse.{first, accepted, refused, says}
 use Rattle.header.specs.declared.Head.the-variants as Head
 use Rattle.header.specs.Header.{headerOf}
 use Rattle.header.proofs.Laws.{refused-number}
-use Rattle.pgm.specs.declared.Sizes.the-variants as Sizes
 use Rattle.pgm.specs.declared.Turned.the-variants as Turned
-use Rattle.pgm.specs.declared.Written.the-variants as Written
-use Rattle.pgm.specs.Pgm.{limitRows, rasterRows, greyRows, writeRows, readOf, sizesOf, sizesSays, turnedSays, writtenSays, greyedAs, Greyed, fileOf, Wrote}
+use Rattle.pgm.specs.Pgm.{limitRows, rasterRows, greyRows, writeRows, readOf, sizesOf, sizesSays, turnedSays, writtenSays, greyedAs, Greyed, fileOf, Wrote, wroteAs}
 use Rattle.pgm.proofs.read_sizes.Kinds as sizes
 use Rattle.pgm.proofs.read_sizes.Reads as read-sizes
 use Rattle.pgm.proofs.read_raster.Kinds as raster
@@ -27,7 +25,7 @@ use Rattle.pgm.proofs.read_greys.Kinds as greys
 use Rattle.pgm.proofs.read_greys.Reads as read-greys
 use Rattle.pgm.proofs.write.Kinds as write
 use Rattle.pgm.proofs.write.Reads as write-reads
-use Rattle.promises.proofs.Files.{refused-part, same-film, found-says, misfit-says, turned-says, written-says, greys-kept, write-kept}
+use Rattle.promises.proofs.Files.{refused-part, SameFilm, same-film, found-says, misfit-says, turned-says, written-says, read-refuses, turned-refused, written-refused, written-bytes, greys-kept, write-kept}
 
 -- ---- any two outcomes are equal
 
@@ -85,28 +83,34 @@ write-says κs a r s p = ap (λ (x : Wrote). writtenSays (x .answer)) p ∙ writ
 -- ---- a refusal keeps lent memory
 
 -- demand 1, "after a refusal all lent memory holds what it held before", of greys: the target
-pub greys-refusal-keeps : (κs : Lfts 2) (a : Dens κs greys.ps) (n : ℕ) (s : AtExit (endedOf 2 greys.ps greys.r) κs)
-    → read-greys.Post κs a (Turned.Refused n) s → now (s .1 .1 .1 .1 .1 .0) ≡ now (a .1 .1 .1 .1 .1 .0)
-greys-refusal-keeps κs a n s p = greys-kept _ _ _ _ _ _ _ n p
+pub greys-refusal-keeps : (κs : Lfts 2) (a : Dens κs greys.ps) (r : resT greys.r κs .Denot) (s : AtExit (endedOf 2 greys.ps greys.r) κs) (n : ℕ)
+    → read-greys.Post κs a r s → turnedSays r ≡ refused n → now (s .1 .1 .1 .1 .1 .0) ≡ now (a .1 .1 .1 .1 .1 .0)
+greys-refusal-keeps κs a r s n p q = greys-kept _ _ _ _ _ _ _ n (ap (λ y. greyedAs y (now (s .1 .1 .1 .1 .1 .0))) (sym (turned-refused r q)) ∙ p)
 
 -- the same of write: the output
-pub write-refusal-keeps : (κs : Lfts 2) (a : Dens κs write.ps) (n : ℕ) (s : AtExit (endedOf 2 write.ps write.r) κs)
-    → write-reads.Post κs a (Written.Refused n) s → now (s .1 .1 .1 .1 .0) ≡ now (a .1 .1 .1 .1 .0)
-write-refusal-keeps κs a n s p = write-kept _ _ _ _ _ _ n p
+pub write-refusal-keeps : (κs : Lfts 2) (a : Dens κs write.ps) (r : resT write.r κs .Denot) (s : AtExit (endedOf 2 write.ps write.r) κs) (n : ℕ)
+    → write-reads.Post κs a r s → writtenSays r ≡ refused n → now (s .1 .1 .1 .1 .0) ≡ now (a .1 .1 .1 .1 .0)
+write-refusal-keeps κs a r s n p q = write-kept _ _ _ _ _ _ n (ap (λ y. wroteAs y (now (s .1 .1 .1 .1 .0))) (sym (written-refused r q)) ∙ p)
 
--- "A refusal hands back an empty part.": where the sizes are refused, the raster is empty
-pub raster-refusal-empty : (κs : Lfts 1) (a : Dens κs raster.ps) (n : ℕ) (r : resT raster.r κs .Denot) (s : AtExit (endedOf 1 raster.ps raster.r) κs)
-    → readOf (now (a .0)) ≡ Head.Refused n → read-raster.Post κs a r s → now r ≡ []
-raster-refusal-empty κs a n r s q p = p ∙ refused-part (now (a .0)) q
+-- "A refusal hands back an empty part.": where read of these bytes, asked for the sizes, says a refusal, the raster is empty
+pub raster-refusal-empty : (κs : Lfts 1) (a : Dens κs raster.ps) (r : resT raster.r κs .Denot) (s : AtExit (endedOf 1 raster.ps raster.r) κs) (n : ℕ)
+    → read-raster.Post κs a r s → sizesSays (sizesOf (readOf (now (a .0)))) ≡ refused n → now r ≡ []
+raster-refusal-empty κs a r s n p q = p ∙ refused-part (now (a .0)) (read-refuses (readOf (now (a .0))) q)
 
 -- ---- a film written and read back, call by call
 
 -- one call of write: what it was handed, how many bytes it answered, and what it left
-module _ (κs : Lfts 2) (a : Dens κs write.ps) (n : ℕ) (s : AtExit (endedOf 2 write.ps write.r) κs) (wrote : write-reads.Post κs a (Written.Bytes n) s) where
+module _ (κs : Lfts 2) (a : Dens κs write.ps) (r₀ : resT write.r κs .Denot) (s : AtExit (endedOf 2 write.ps write.r) κs) (n : ℕ)
+    (wrote : write-reads.Post κs a r₀ s) (bytes : writtenSays r₀ ≡ accepted n) where
+  -- those bytes hold the film
+  back : SameFilm (take n (now (s .1 .1 .1 .1 .0))) (now (a .0)) (a .1 .0) (a .1 .1 .0) (a .1 .1 .1 .0)
+  back = same-film _ _ _ _ _ _ n (ap (λ y. wroteAs y (now (s .1 .1 .1 .1 .0))) (sym (written-bytes r₀ bytes)) ∙ wrote)
+
   -- demand 2, "a film written and read back is the same film": read over those bytes answers the film's width, height and maxval
   pub sizes-read-back : (κ : Lfts 1) (b : Dens κ sizes.ps) (r : resT sizes.r κ .Denot) (t : AtExit (endedOf 1 sizes.ps sizes.r) κ)
-      → now (b .0) ≡ take n (now (s .1 .1 .1 .1 .0)) → read-sizes.Post κ b r t → r ≡ Sizes.Found (a .1 .0) (a .1 .1 .0) (a .1 .1 .1 .0)
-  sizes-read-back κ b r t e p = p ∙ (ap (λ x. sizesOf (readOf x)) e ∙ same-film _ _ _ _ _ _ n wrote .sizes)
+      → now (b .0) ≡ take n (now (s .1 .1 .1 .1 .0)) → read-sizes.Post κ b r t → sizesSays r ≡ accepted (a .1 .0, a .1 .1 .0, a .1 .1 .1 .0)
+  unfolding sizesSays
+  sizes-read-back κ b r t e p = ap sizesSays (p ∙ (ap (λ x. sizesOf (readOf x)) e ∙ back .sizes))
 
   -- and greys of the part that read hands back, in a target with room, leave the film's greys
   pub greys-read-back : (κ : Lfts 1) (b : Dens κ raster.ps) (r : resT raster.r κ .Denot) (t : AtExit (endedOf 1 raster.ps raster.r) κ)
@@ -114,8 +118,9 @@ module _ (κs : Lfts 2) (a : Dens κs write.ps) (n : ℕ) (s : AtExit (endedOf 2
       → now (b .0) ≡ take n (now (s .1 .1 .1 .1 .0)) → read-raster.Post κ b r t
       → now (g .0) ≡ now r → g .1 .0 ≡ 0 → g .1 .1 .0 ≡ a .1 .0 → g .1 .1 .1 .0 ≡ a .1 .1 .0 → g .1 .1 .1 .1 .0 ≡ a .1 .1 .1 .0
       → a .1 .0 * a .1 .1 .0 ≤ length (now (g .1 .1 .1 .1 .1 .0)) → read-greys.Post κ′ g r′ t′
-      → (r′ ≡ Turned.Done) × (now (t′ .1 .1 .1 .1 .1 .0) ≡ onto (now (g .1 .1 .1 .1 .1 .0)) (now (a .0)))
+      → (turnedSays r′ ≡ accepted tt) × (now (t′ .1 .1 .1 .1 .1 .0) ≡ onto (now (g .1 .1 .1 .1 .1 .0)) (now (a .0)))
+  unfolding turnedSays
   greys-read-back κ b r t κ′ g r′ t′ e p i z w h m l q =
       let x : greyedAs r′ (now (t′ .1 .1 .1 .1 .1 .0)) ≡ greyedAs Turned.Done (onto (now (g .1 .1 .1 .1 .1 .0)) (now (a .0))) =
-      q ∙ (rw (i, p, e, z, w, h, m) (same-film _ _ _ _ _ _ n wrote .greys (now (g .1 .1 .1 .1 .1 .0)) l)) in
-      (ap (λ (y : Greyed). y .answer) x, ap (λ (y : Greyed). y .target) x)
+      q ∙ (rw (i, p, e, z, w, h, m) (back .greys (now (g .1 .1 .1 .1 .1 .0)) l)) in
+      (ap (λ (y : Greyed). turnedSays (y .answer)) x, ap (λ (y : Greyed). y .target) x)

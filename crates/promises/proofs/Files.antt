@@ -9,13 +9,16 @@ use native.Mathlib.Omega.{arith}
 use lib.ListN.{length, take, drop, length-drop, take-append-drop}
 use Rattle.lists.specs.Lists.{onto}
 use Rattle.lists.proofs.Fills.{take-onto}
-use Rattle.refuse.specs.Refuse.{first, refused, says}
+use Rattle.refuse.specs.Refuse.{first, accepted, refused, says}
 use Rattle.refuse.proofs.Walk.{none-first}
+use Rattle.header.specs.declared.Head.{Head}
 use Rattle.header.specs.declared.Head.the-variants as Head
 use Rattle.header.specs.Header.{headerOf, headerBytes}
 use Rattle.samples.specs.Samples.{isWide, unpacked}
 use Rattle.pgm.specs.declared.Sizes.the-variants as Sizes
+use Rattle.pgm.specs.declared.Turned.{Turned}
 use Rattle.pgm.specs.declared.Turned.the-variants as Turned
+use Rattle.pgm.specs.declared.Written.{Written}
 use Rattle.pgm.specs.declared.Written.the-variants as Written
 use Rattle.pgm.specs.Pgm.{rasterSize, limitRows, rasterRows, greyRows, targetRows, writeRows, GreyAsks, WriteAsks, unless, judgedOf, readOf, sizesOf, rasterOf, sizesSays, turnedSays, writtenSays, Greyed, greyed, greyedAs, greysOf, fileOf, Wrote, wrote, wroteAs, writeOf}
 use Rattle.pgm.proofs.Tables.{within-none, read-judged, read-refused, read-header, grey-asks, write-asks, write-fits, length-file}
@@ -177,6 +180,30 @@ written-says pic w h m out = go (first (writeRows pic w h m (length out)))
     go : (k : ℕ) → writtenSays (wrote k out (fileOf pic w h m) .answer) ≡ says k (length (fileOf pic w h m))
     go zero = refl
     go (suc k) = refl
+
+-- an answer that says a refusal is that refusal: read's
+pub read-refuses : (x : Head) {n : ℕ} → sizesSays (sizesOf x) ≡ refused n → x ≡ Head.Refused n
+unfolding sizesSays
+read-refuses (Head.Found w h m at) e = absurd (let z : _≡_ {A = ℕ} 0 1 = cc in omega arith)
+read-refuses (Head.Refused k) e = cc
+
+-- greys'
+pub turned-refused : (r : Turned) {n : ℕ} → turnedSays r ≡ refused n → r ≡ Turned.Refused n
+unfolding turnedSays
+turned-refused Turned.Done e = absurd (let z : _≡_ {A = ℕ} 0 1 = cc in omega arith)
+turned-refused (Turned.Refused k) e = cc
+
+-- write's
+pub written-refused : (r : Written) {n : ℕ} → writtenSays r ≡ refused n → r ≡ Written.Refused n
+unfolding writtenSays
+written-refused (Written.Bytes k) e = absurd (let z : _≡_ {A = ℕ} 0 1 = cc in omega arith)
+written-refused (Written.Refused k) e = cc
+
+-- and one that says a byte count is that count
+pub written-bytes : (r : Written) {n : ℕ} → writtenSays r ≡ accepted n → r ≡ Written.Bytes n
+unfolding writtenSays
+written-bytes (Written.Bytes k) e = cc
+written-bytes (Written.Refused k) e = absurd (let z : _≡_ {A = ℕ} 0 1 = cc in omega arith)
 
 -- ---- refusals
 
