@@ -1,20 +1,22 @@
 -- Document 00, demand 3: "With clipping on (a factor above one), in every tile of a film that prepare or enhance accepts".
 -- Assumes nothing.
 use Prim.Native.Nat.{ℕ, _+_, _*_, _≤_, _<_}
-use mathlib.Core.Bool.{Bool, true, false}
+use mathlib.Core.Bool.{Bool, true, false, true≢false}
 use mathlib.Core.List.{List, [], _∷_, _++_, append-assoc}
 use mathlib.Core.Logic.{_↔_}
 use mathlib.Core.Path.{_≡_, refl, sym, ap, _∙_, subst}
 use native.Mathlib.Omega.{arith}
 use lib.Dec.{ltb, lit<}
-use lib.Ieee.{Float}
+use lib.Ieee.{Float, ofBits}
 use lib.ListN.{length, getD}
 use borrow.Author.Tests.{ltb-true, ltb-false}
 use Rattle.lists.specs.Lists.{total}
 use Rattle.refuse.specs.Refuse.{row, pick, first, Numbered}
 use Rattle.refuse.proofs.Walk.{first-none, first-behind, numbered-append}
 use Rattle.limit.specs.declared.Clip.the-variants.{Factor}
-use Rattle.limit.specs.Limit.{isOne, limitOf, usedOf, tooTight}
+use Rattle.limit.specs.declared.Judged.{Judged}
+use Rattle.limit.specs.declared.Judged.the-variants.{Refused, One, Above}
+use Rattle.limit.specs.Limit.{isOne, judgeOf, limitOf, tooTight}
 use Rattle.limit.proofs.Laws.{tight-factor}
 use Rattle.clip.specs.Clip.{clipped}
 use Rattle.clip.proofs.Laws.{length-clipped, total-clipped, clipped-most, clipped-least, no-filling, filling}
@@ -26,12 +28,15 @@ use Rattle.settings.specs.declared.Settings.{Settings}
 use Rattle.settings.specs.declared.MapRecord.{MapRecord}
 use Rattle.settings.specs.declared.Footer.{Footer}
 use Rattle.settings.specs.Settings.{binsOf, tilePixels, sharedRows}
+use Rattle.settings.proofs.Clips.{one-is, above-is}
 use Rattle.settings.proofs.Ready.{shared-numbered}
 use Rattle.prepare.specs.declared.Prepared.the-variants as Prepared
 use Rattle.prepare.specs.declared.Enhanced.the-variants as Enhanced
-use Rattle.prepare.specs.Prepare.{tileRect, prepareRows, footerOf, prepareOf, enhanceOf, Work, TilesAsk}
+use Rattle.prepare.specs.Prepare.{tileRect, prepareRows, footerOf, prepareOf, enhanceOf, TightAsks, Work, TilesAsk}
+use Rattle.prepare.proofs.Table.{tight-asks}
+use Rattle.prepare.proofs.Tight.{footer-off, footer-one, footer-above, not-refused}
 use Rattle.prepare.proofs.Films.{length-tile-greys, tile-greys, tile-holds, tile-inside}
-use Rattle.promises.specs.Films.{rawCounts, clippedCounts, TileSound, earlierRows, Filling}
+use Rattle.promises.specs.Films.{rawCounts, clippedCounts, FooterShows, TileSound, earlierRows, Filling}
 use Rattle.promises.proofs.Accepted.{prepare-work, prepare-hands, prepare-refused, prepare-refuses, enhance-work, enhance-hands, enhance-refused, enhance-refuses}
 use Rattle.promises.proofs.Reuse.{prepared-foot}
 use Rattle.promises.proofs.Demand2.{own-mapping, own-mapping-enhance}
@@ -111,27 +116,51 @@ tiles-sound-enhance w h pic s m t e f c one k l =
 
 -- ---- the footer
 
-footer-above : (s : Settings) (n b : ℕ) (f : Float) → s .clip ≡ Factor f → isOne f ≡ false
-    → _≡_ {A = Footer} (footerOf (s .clip) n b) (record { limit = limitOf f n b; asked = f; used = usedOf (limitOf f n b) b n })
-unfolding footerOf
-footer-above s n b f c one = rw (c, one) refl
+-- the footer of an accepted film, by the clip setting
+module _ {w h : ℕ} {pic : List ℕ} {s : Settings} {room scratch : ℕ} (work : Work w h pic s room scratch) where
+  foot-asks : TightAsks (s .clip) (tilePixels w h s) (binsOf s)
+  foot-asks = tight-asks (work .ready) refl
+
+  -- a factor that is accepted is 1.0 or above it
+  judged-one : (f : Float) → s .clip ≡ Factor f → isOne f ≡ true → judgeOf f ≡ One
+  judged-one f c q = go (judgeOf f) refl
+    where
+      go : (j : Judged) → judgeOf f ≡ j → judgeOf f ≡ One
+      go Refused e = absurd (not-refused (s .clip) _ _ foot-asks f c e)
+      go One e = e
+      go Above e = absurd (true≢false (sym q ∙ above-is f e .1))
+
+  judged-above : (f : Float) → s .clip ≡ Factor f → isOne f ≡ false → judgeOf f ≡ Above
+  judged-above f c q = go (judgeOf f) refl
+    where
+      go : (j : Judged) → judgeOf f ≡ j → judgeOf f ≡ Above
+      go Refused e = absurd (not-refused (s .clip) _ _ foot-asks f c e)
+      go One e = absurd (true≢false (sym (one-is f e .1) ∙ q))
+      go Above e = e
+
+  foot-shows : FooterShows (s .clip) (tilePixels w h s) (binsOf s) (footerOf (s .clip) (tilePixels w h s) (binsOf s))
+  unfolding ofBits
+  foot-shows =
+      record {
+        off = λ c. sym (footer-off (s .clip) _ _ foot-asks c);
+        unchanged = λ f c q. sym (footer-one (s .clip) _ _ foot-asks f c (judged-one f c q));
+        above = λ f c q. sym (footer-above (s .clip) _ _ foot-asks f c (judged-above f c q) refl refl);
+      }
 
 enhanced-foot : {foot foot′ : Footer} → Enhanced.Done foot ≡ Enhanced.Done foot′ → foot ≡ foot′
 enhanced-foot e = cc
 
--- the footer that prepare hands back shows that same limit
+-- the footer that prepare hands back: with a factor above one it shows that same limit, the factor asked and the factor used
 pub footer-shows : (film w h : ℕ) (pic : List ℕ) (s : Settings) (m t : List ℕ) {r : MapRecord} {foot : Footer}
-    → prepareOf film w h pic s m t .answer ≡ Prepared.Done r foot → (f : Float) → s .clip ≡ Factor f → isOne f ≡ false
-    → foot .limit ≡ limitOf f (tilePixels w h s) (binsOf s)
-footer-shows film w h pic s m t e f c one =
-    ap (λ (x : Footer). x .limit) (sym (prepared-foot (prepare-hands film w h pic s m t e)) ∙ footer-above s (tilePixels w h s) (binsOf s) f c one)
+    → prepareOf film w h pic s m t .answer ≡ Prepared.Done r foot → FooterShows (s .clip) (tilePixels w h s) (binsOf s) foot
+footer-shows film w h pic s m t e =
+    subst (FooterShows (s .clip) (tilePixels w h s) (binsOf s)) (prepared-foot (prepare-hands film w h pic s m t e)) (foot-shows (prepare-work film w h pic s m t e))
 
 -- and so does the one of enhance
 pub footer-shows-enhance : (w h : ℕ) (pic : List ℕ) (s : Settings) (m t : List ℕ) {foot : Footer}
-    → enhanceOf w h pic s m t .answer ≡ Enhanced.Done foot → (f : Float) → s .clip ≡ Factor f → isOne f ≡ false
-    → foot .limit ≡ limitOf f (tilePixels w h s) (binsOf s)
-footer-shows-enhance w h pic s m t e f c one =
-    ap (λ (x : Footer). x .limit) (sym (enhanced-foot (enhance-hands w h pic s m t e)) ∙ footer-above s (tilePixels w h s) (binsOf s) f c one)
+    → enhanceOf w h pic s m t .answer ≡ Enhanced.Done foot → FooterShows (s .clip) (tilePixels w h s) (binsOf s) foot
+footer-shows-enhance w h pic s m t e =
+    subst (FooterShows (s .clip) (tilePixels w h s) (binsOf s)) (enhanced-foot (enhance-hands w h pic s m t e)) (foot-shows (enhance-work w h pic s m t e))
 
 -- ---- the clip refusal
 

@@ -1,22 +1,27 @@
--- What the promises speak of: the grey of a pixel by document 01's rule, what holds of each tile of an accepted film
--- with clipping on, and fillings of the bins.
+-- What the promises speak of: the grey of a pixel by document 01's rule, the footer by the clip setting, what holds of each tile
+-- of an accepted film with clipping on, and fillings of the bins.
 -- w and h are the film's width and height, pic its pixels.
 -- Assumes nothing.
 use Prim.Native.Nat.{ℕ, _+_, _-_, _*_, _/_, _≤_, _<_}
-use mathlib.Core.Bool.{not}
+use mathlib.Core.Bool.{true, false, not}
 use mathlib.Core.List.{List, [], _∷_, _++_}
 use mathlib.Core.Logic.{_⊎_}
 use mathlib.Core.Path.{_≡_}
 use lib.Dec.{ltb}
+use lib.Ieee.{Float}
 use lib.ListN.{length, getD}
 use Rattle.lists.specs.Lists.{total, all}
 use Rattle.refuse.specs.Refuse.{Row, row}
+use Rattle.limit.specs.declared.Clip.{Clip}
+use Rattle.limit.specs.declared.Clip.the-variants.{Off, Factor}
+use Rattle.limit.specs.Limit.{isOne, limitOf, usedOf}
 use Rattle.clip.specs.Clip.{share}
 use Rattle.tile.specs.Tile.{within, binOf, greysOf, countsOf, mappedOf, tileCounts}
 use Rattle.settings.specs.declared.Settings.{Settings}
+use Rattle.settings.specs.declared.Footer.{Footer}
 use Rattle.settings.specs.Settings.{binsOf, tileWidth, tileHeight, tilePixels, sharedRows}
 use Rattle.blend.specs.Blend.{placeOf, greyOf}
-use Rattle.prepare.specs.Prepare.{tileRect}
+use Rattle.prepare.specs.Prepare.{tileRect, none, one}
 
 -- ---- a tile
 
@@ -40,6 +45,21 @@ ruleGrey w h pic s x y =
     let row = placeOf (tileHeight h s) (s .down) y in
     let value = tileValue w h pic s (getD pic (y * w + x) 0) in
     greyOf column row (value (row .lower) (column .lower)) (value (row .lower) (column .upper)) (value (row .upper) (column .lower)) (value (row .upper) (column .upper))
+
+-- ---- the footer
+
+-- a footer of L, the factor asked and the factor used
+abbrev pub footer : ℕ → Float → Float → Footer
+footer l asked used = record { limit = l; asked = asked; used = used }
+
+-- what a footer shows of a film with this clip setting, n pixels a tile and b bins
+pub record FooterShows (clip : Clip) (n b : ℕ) (foot : Footer) : Type 0 where
+  -- "Clip off: L 0, both factors 0.0."
+  pub off : clip ≡ Off → foot ≡ footer 0 none none
+  -- "Factor 1.0: L 0, both 1.0"
+  pub unchanged : (f : Float) → clip ≡ Factor f → isOne f ≡ true → foot ≡ footer 0 one one
+  -- "a footer record with L, the factor asked as f32 and the factor used as f64: L x B and N are each converted exactly and divided once"
+  pub above : (f : Float) → clip ≡ Factor f → isOne f ≡ false → foot ≡ footer (limitOf f n b) f (usedOf (limitOf f n b) b n)
 
 -- ---- demand 3
 
@@ -66,7 +86,7 @@ pub record TileSound (lo hi n b l : ℕ) (raw clipped : List ℕ) (entry : ℕ �
   -- and from Min to the first bin by at most as much
   pub begins : entry 0 ≤ lo + steepest lo hi n l
 
--- the rows 1 to 13, which stand before the clip refusal in "01's order"
+-- the rows 1 to 13, which stand before the clip refusal in "01's order": `prepareRows` without its last row, so 12 and 13 stand here once more (Demand3: `rows-split`)
 unfoldable pub earlierRows : ℕ → ℕ → List ℕ → Settings → ℕ → ℕ → List Row
 earlierRows w h pic s room scratch =
     sharedRows w h (length pic) s room
