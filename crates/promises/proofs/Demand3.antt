@@ -118,10 +118,11 @@ tiles-sound-enhance w h pic s m t e f c one k l =
 
 -- the footer of an accepted film, by the clip setting
 module _ {w h : ℕ} {pic : List ℕ} {s : Settings} {room scratch : ℕ} (work : Work w h pic s room scratch) where
+  -- what the laws of the footer ask
   foot-asks : TightAsks (s .clip) (tilePixels w h s) (binsOf s)
   foot-asks = tight-asks (work .ready) refl
 
-  -- a factor that is accepted is 1.0 or above it
+  -- its factor was judged: 1.0 is 1.0
   judged-one : (f : Float) → s .clip ≡ Factor f → isOne f ≡ true → judgeOf f ≡ One
   judged-one f c q = go (judgeOf f) refl
     where
@@ -130,6 +131,7 @@ module _ {w h : ℕ} {pic : List ℕ} {s : Settings} {room scratch : ℕ} (work 
       go One e = e
       go Above e = absurd (true≢false (sym q ∙ above-is f e .1))
 
+  -- and any other is above it
   judged-above : (f : Float) → s .clip ≡ Factor f → isOne f ≡ false → judgeOf f ≡ Above
   judged-above f c q = go (judgeOf f) refl
     where
@@ -138,6 +140,7 @@ module _ {w h : ℕ} {pic : List ℕ} {s : Settings} {room scratch : ℕ} (work 
       go One e = absurd (true≢false (sym (one-is f e .1) ∙ q))
       go Above e = e
 
+  -- the footer that the rules give, in each of the three cases
   foot-shows : FooterShows (s .clip) (tilePixels w h s) (binsOf s) (footerOf (s .clip) (tilePixels w h s) (binsOf s))
   unfolding ofBits
   foot-shows =
@@ -150,7 +153,7 @@ module _ {w h : ℕ} {pic : List ℕ} {s : Settings} {room scratch : ℕ} (work 
 enhanced-foot : {foot foot′ : Footer} → Enhanced.Done foot ≡ Enhanced.Done foot′ → foot ≡ foot′
 enhanced-foot e = cc
 
--- the footer that prepare hands back: with a factor above one it shows that same limit, the factor asked and the factor used
+-- the footer that prepare hands back: with a factor above one it shows that same limit, the factor asked and the factor used, with clip off and at 1.0 what document 01 says
 pub footer-shows : (film w h : ℕ) (pic : List ℕ) (s : Settings) (m t : List ℕ) {r : MapRecord} {foot : Footer}
     → prepareOf film w h pic s m t .answer ≡ Prepared.Done r foot → FooterShows (s .clip) (tilePixels w h s) (binsOf s) foot
 footer-shows film w h pic s m t e =
