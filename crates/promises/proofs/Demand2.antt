@@ -1,6 +1,6 @@
 -- Document 00, demand 2: "The rendering of every accepted film is the one that the integer rule of document 01 gives for that film's own pixels and settings".
 -- Assumes nothing.
-use Prim.Native.Nat.{ℕ, _+_, _*_, _≤_, _<_}
+use Prim.Native.Nat.{ℕ, zero, suc, _+_, _*_, _≤_, _<_}
 use mathlib.Core.Bool.{Bool, true, false}
 use mathlib.Core.List.{List}
 use mathlib.Core.Logic.{_≢_}
@@ -12,7 +12,7 @@ use lib.Arith.{digits-lt}
 use Rattle.lists.specs.Lists.{onto}
 use Rattle.lists.proofs.Blocks.{block-fits}
 use Rattle.lists.proofs.Alls.{all-at}
-use Rattle.refuse.specs.Refuse.{first}
+use Rattle.refuse.specs.Refuse.{Row, first}
 use Rattle.tile.specs.Tile.{within, binOf, greysOf, mappedOf}
 use Rattle.tile.proofs.Tiles.{getD-tile-mapping}
 use Rattle.settings.specs.declared.Settings.{Settings}
@@ -33,12 +33,14 @@ use Rattle.prepare.specs.Prepare.{tileRect, tileMap, mappings, stays, Ended, pr
 use Rattle.prepare.proofs.Films.{length-tile-greys, length-mappings, getD-mappings}
 use Rattle.prepare.proofs.Renders.{laid-mapped, laid-render}
 use Rattle.draw.specs.declared.Drawn.the-variants.{Done, Refused}
-use Rattle.draw.specs.Draw.{recordRows, drawnOf, Shows, showing, drawOf, Held}
+use Rattle.draw.specs.Draw.{recordRows, drawRows, drawnOf, Shows, showing, drawOf, Held}
 use Rattle.draw.proofs.Laws.{other-record, record-differs}
+use Rattle.draw.proofs.Tables.{draw-ready}
 use Rattle.draw.proofs.Works.{ends-refused, ends-well}
 use Rattle.promises.specs.Films.{clippedCounts, tileValue, ruleGrey}
 use Rattle.promises.proofs.Accepted.{prepare-accepts, prepare-done, prepare-work, prepare-hands, enhance-accepted, enhance-done, enhance-work}
-use Rattle.promises.proofs.Reuse.{prepared-foot, rows-any, left-laid, left-asks, draw-free}
+use Rattle.promises.proofs.Handed.{draw-like, draw-room, HandedOn}
+use Rattle.promises.proofs.Reuse.{prepared-foot, rows-any, left-room, left-laid, left-asks, draw-free}
 
 -- ---- each tile's own mapping
 
@@ -143,6 +145,26 @@ own-pixels w h pic s m t e one =
 
 -- ---- a record of another film
 
+module _ (film w h : ℕ) (pic : List ℕ) (s : Settings) (r : MapRecord) (win : Window) (m out : List ℕ) where
+  -- for every picture, settings, window, map and output: a record that differs from what comes with the call, in whatever field, is refused with a number above 0,
+  -- and the output holds what it held
+  pub differing-refused : (Held film w h s r → ⊥) → (n : ℕ) × (0 < n) × (drawOf film w h pic s r win m out ≡ showing (Refused n) out)
+  differing-refused d = (first rows, some (first rows) applies, sym (ends-refused film w h pic s r win m out refl applies))
+    where
+      rows : List Row
+      rows = drawRows film w h pic s r win m (length out)
+
+      applies : first rows ≢ 0
+      applies z = d (draw-ready film w h pic s r win m (length out) z .held)
+
+      some : (n : ℕ) → n ≢ 0 → 0 < n
+      some zero z = absurd (z refl)
+      some (suc n) z = omega arith
+
+  -- "A window drawn with the record of a film of another number is refused."
+  pub other-film-refused : film ≢ r .film → (n : ℕ) × (0 < n) × (drawOf film w h pic s r win m out ≡ showing (Refused n) out)
+  other-film-refused d = differing-refused (λ held. d (held .number))
+
 module _ (film w h : ℕ) (pic : List ℕ) (s : Settings) (r : MapRecord) (win : Window) (m out : List ℕ) (shared : first (sharedRows w h (length pic) s (length m)) ≡ 0) where
   -- 15 of 01's order: where none of 1 to 11 applies, a record that differs is refused with 15, whatever the window, the pixels and the map entries
   pub other-record-refused : first (recordRows film w h s r) ≢ 0 → drawOf film w h pic s r win m out .answer ≡ Refused 15
@@ -153,7 +175,7 @@ module _ (film w h : ℕ) (pic : List ℕ) (s : Settings) (r : MapRecord) (win :
   other-refused : (Held film w h s r → ⊥) → drawOf film w h pic s r win m out .answer ≡ Refused 15
   other-refused d = other-record-refused (record-differs film w h s r d)
 
-  -- "A window drawn with the record of a film of another number is refused."
+  -- a film of another number
   pub other-film : film ≢ r .film → drawOf film w h pic s r win m out .answer ≡ Refused 15
   other-film d = other-refused (λ held. d (held .number))
 
@@ -198,19 +220,22 @@ module _ (film w h : ℕ) (pic : List ℕ) (s : Settings) (m t : List ℕ) {r : 
       enhance-accepted w h pic s m₂ t₂ (rows-any w h pic s (length m) (length t) (length m₂) (length t₂) (prepare-accepts film w h pic s m t done) room scratch)
       ∙ ap Enhanced.Done (prepared-foot (prepare-hands film w h pic s m t done))
 
-  module _ (win : Window) (out : List ℕ) (wide : 0 < win .width) (high : 0 < win .height) (across : win .left + win .width ≤ w) (down : win .top + win .height ≤ h)
-      (area : length out ≡ win .height * win .width) where
-    -- draw accepts a window inside the film, and an output of its area, with the record and the buffer that prepare left
-    pub draw-agrees : drawOf film w h pic s r win (prepareOf film w h pic s m t .map) out
+  module _ (s₃ : Settings) (m₃ : List ℕ) (win : Window) (out : List ℕ) (handed : HandedOn w h s (prepareOf film w h pic s m t .map) s₃ m₃ win (length out)) where
+    -- draw accepts a window inside the film, and an output of its area, with the record and the mappings that prepare left
+    pub draw-agrees : drawOf film w h pic s₃ r win m₃ out
         ≡ showing Done (drawnOf (clipOne (s .clip)) (greysOf pic w (rectOf win)) (renderOf w h s (prepareOf film w h pic s m t .map) win (greysOf pic w (rectOf win))))
-    draw-agrees = sym (ends-well film w h pic s r win (prepareOf film w h pic s m t .map) out (sym (draw-free film w h pic s m t done win (length out) wide high across down area)) refl refl)
+    draw-agrees =
+        draw-like film w h pic s s₃ r win m₃ out (handed .like)
+        ∙ draw-room film w h pic s r win m₃ (prepareOf film w h pic s m t .map) out (handed .long) (left-room film w h pic s m t done) (handed .front)
+        ∙ sym (ends-well film w h pic s r win (prepareOf film w h pic s m t .map) out
+        (sym (draw-free film w h pic s m t done win (length out) (handed .wide) (handed .high) (handed .across) (handed .down) (handed .area))) refl refl)
 
     -- "With the record and buffer that prepare left for the film, and the film's pixels as they were then, each drawn pixel is the one in enhance's picture."
     pub drawn-is-enhanced : (m₂ t₂ : List ℕ) → entriesOf s ≤ length m₂ → binsOf s ≤ length t₂
-        → (drawOf film w h pic s r win (prepareOf film w h pic s m t .map) out .answer ≡ Done)
+        → (drawOf film w h pic s₃ r win m₃ out .answer ≡ Done)
         × (enhanceOf w h pic s m₂ t₂ .answer ≡ Enhanced.Done foot)
         × ((j i : ℕ) → j < win .height → i < win .width
-        → getD (drawOf film w h pic s r win (prepareOf film w h pic s m t .map) out .out) (j * win .width + i) 0
+        → getD (drawOf film w h pic s₃ r win m₃ out .out) (j * win .width + i) 0
         ≡ getD (enhanceOf w h pic s m₂ t₂ .picture) ((win .top + j) * w + (win .left + i)) 0)
     unfolding enhancedOf
     drawn-is-enhanced m₂ t₂ room scratch = (
@@ -226,22 +251,22 @@ module _ (film w h : ℕ) (pic : List ℕ) (s : Settings) (m t : List ℕ) {r : 
             ≡ getD (stays b pic (renderOf w h s (mappings w h pic s) (whole w h) pic)) ((win .top + j) * w + (win .left + i)) 0
         same true e j i l k = getD-greys pic w (rectOf win) l k
         same false e j i l k =
-            window-law w h s (prepareOf film w h pic s m t .map) win pic across down l k
+            window-law w h s (prepareOf film w h pic s m t .map) win pic (handed .across) (handed .down) l k
             ∙ ap (λ ys. getD ys ((win .top + j) * w + (win .left + i)) 0) (laid-render m (left-asks film w h pic s m t done e) (left-laid film w h pic s m t done e) refl)
 
     -- "or through a window from the record and mappings prepared for those pixels and unchanged since": each drawn pixel is the one of the integer rule
     pub own-window : clipOne (s .clip) ≡ false → (j i : ℕ) → j < win .height → i < win .width
-        → getD (drawOf film w h pic s r win (prepareOf film w h pic s m t .map) out .out) (j * win .width + i) 0 ≡ ruleGrey w h pic s (win .left + i) (win .top + j)
+        → getD (drawOf film w h pic s₃ r win m₃ out .out) (j * win .width + i) 0 ≡ ruleGrey w h pic s (win .left + i) (win .top + j)
     own-window one j i l k =
         drawn-is-enhanced m t (known .ready .fitting) (known .bins) .2 j i l k
-        ∙ own-rendering w h pic s m t (enhance-agrees m t (known .ready .fitting) (known .bins)) one (win .left + i) (win .top + j) (omega arith) (omega arith)
+        ∙ own-rendering w h pic s m t (enhance-agrees m t (known .ready .fitting) (known .bins)) one (win .left + i) (win .top + j) (omega (arith, handed .across)) (omega (arith, handed .down))
       where
         known : Work w h pic s (length m) (length t)
         known = prepare-work film w h pic s m t done
 
     -- at the factor 1.0 they are the film's own pixels
     pub drawn-is-film : clipOne (s .clip) ≡ true → (j i : ℕ) → j < win .height → i < win .width
-        → getD (drawOf film w h pic s r win (prepareOf film w h pic s m t .map) out .out) (j * win .width + i) 0 ≡ getD pic ((win .top + j) * w + (win .left + i)) 0
+        → getD (drawOf film w h pic s₃ r win m₃ out .out) (j * win .width + i) 0 ≡ getD pic ((win .top + j) * w + (win .left + i)) 0
     drawn-is-film one j i l k =
         ap (λ (x : Shows). getD (x .out) (j * win .width + i) 0) draw-agrees
         ∙ ap (λ b. getD (drawnOf b (greysOf pic w (rectOf win)) (renderOf w h s (prepareOf film w h pic s m t .map) win (greysOf pic w (rectOf win)))) (j * win .width + i) 0) one

@@ -19,7 +19,7 @@ use Rattle.settings.specs.declared.Settings.{Settings}
 use Rattle.settings.specs.declared.MapRecord.{MapRecord}
 use Rattle.settings.specs.declared.Footer.{Footer}
 use Rattle.settings.specs.declared.Window.{Window}
-use Rattle.settings.specs.Settings.{binsOf, entriesOf, recordOf, clipOne, sizeRows, gridRows, greyRows, roomRows, sharedRows}
+use Rattle.settings.specs.Settings.{binsOf, entriesOf, keptOf, recordOf, clipOne, sizeRows, gridRows, greyRows, roomRows, sharedRows}
 use Rattle.settings.proofs.Ready.{shared-numbered, shared-room}
 use Rattle.render.specs.Render.{rectOf, whole}
 use Rattle.prepare.specs.declared.Prepared.the-variants as Prepared
@@ -28,9 +28,10 @@ use Rattle.prepare.proofs.Table.{table-numbered, table-over, work}
 use Rattle.prepare.proofs.Films.{length-mappings, mappings-within}
 use Rattle.prepare.proofs.Renders.{laid-front}
 use Rattle.draw.specs.Draw.{recordRows, windowRows, pixelRows, drawRows}
-use Rattle.draw.proofs.Laws.{own-record}
+use Rattle.draw.proofs.Laws.{bins-kept, own-record}
 use Rattle.draw.proofs.Tables.{draw-pixel}
 use Rattle.promises.proofs.Accepted.{prepare-accepts, prepare-done, prepare-work, prepare-hands}
+use Rattle.promises.proofs.Handed.{kept-same}
 
 -- the same film with another map buffer that is long enough
 pub shared-room-any : (w h size : ℕ) (s : Settings) (room room′ : ℕ) → first (sharedRows w h size s room) ≡ 0 → entriesOf s ≤ room′ → first (sharedRows w h size s room′) ≡ 0
@@ -102,6 +103,14 @@ module _ (film w h : ℕ) (pic : List ℕ) (s : Settings) (m t : List ℕ) {r : 
       go : (b : Bool) → length (stays b m (onto m (mappings w h pic s))) ≡ length m
       go true = refl
       go false = length-onto m (mappings w h pic s) (omega (arith, length-mappings w h pic s, prepare-work film w h pic s m t done .ready .fitting))
+
+  -- so it is long enough
+  pub left-room : entriesOf s ≤ length (prepareOf film w h pic s m t .map)
+  left-room = rw left-length (prepare-work film w h pic s m t done .ready .fitting)
+
+  -- the record's own settings are kept as the same
+  pub left-settings : keptOf (r .settings) ≡ keptOf s
+  left-settings = ap (λ (x : MapRecord). keptOf (x .settings)) (sym left-record) ∙ kept-same s (keptOf s) refl refl (bins-kept s) refl refl refl
 
   -- with a factor that is not 1.0 the mappings lie there
   pub left-laid : clipOne (s .clip) ≡ false → prepareOf film w h pic s m t .map ≡ onto m (mappings w h pic s)
