@@ -1,4 +1,4 @@
--- Document 00, demand 2, call by call: a window drawn with the record of another film, and one drawn with what prepare left.
+-- Document 00, demand 2, call by call: a window drawn with the record of another film, the whole film, and a window drawn with what prepare left.
 -- `Post` is the contract itself: of the arguments a, an answer r and the lent memory x at the end.
 -- Assumes nothing.
 use Prim.Native.Nat.{ℕ, _+_, _*_, _≤_, _<_}
@@ -10,7 +10,7 @@ use contract.Lifetimes.{Lfts}
 use denote.Ref.{now}
 use denote.Triple.Clauses.{AtExit}
 use borrow.Fn.Kinds.{Dens, endedOf, resT}
-use lib.ListN.{length, getD}
+use lib.ListN.{length, getD, take}
 use Rattle.tile.specs.Tile.{mappedOf}
 use Rattle.settings.specs.declared.Settings.{Settings}
 use Rattle.settings.specs.declared.MapRecord.{MapRecord}
@@ -31,7 +31,8 @@ use Rattle.draw.proofs.draw.Reads as draw-reads
 use Rattle.promises.specs.Films.{clippedCounts, ruleGrey}
 use Rattle.promises.proofs.Handed.{enhance-like, HandedOn}
 use Rattle.promises.proofs.Reuse.{left-record, left-settings}
-use Rattle.promises.proofs.Demand2.{own-mapping, differing-refused, own-rendering, own-pixels, drawn-is-enhanced, own-window, drawn-is-film}
+use Rattle.promises.proofs.Demand2.{own-mapping, differing-refused, own-rendering, own-pixels, enhance-agrees, draw-agrees}
+use Rattle.promises.proofs.Windows.{accepted-by-rule, accepted-as-film, accepted-as-enhanced}
 
 -- ---- a record of another film
 
@@ -78,6 +79,10 @@ module _ (film w h : ℕ) (pic : List ℕ) (s : Settings) {r : MapRecord} {foot 
   done : prepareOf film w h pic s (now (a .1 .1 .1 .1 .1 .0)) (now (a .1 .1 .1 .1 .1 .1 .0)) .answer ≡ Prepared.Done r foot
   done = sym (ap (λ (z : Ended). z .answer) left)
 
+  onward : {s′ : Settings} {m′ : List ℕ} {win : Window} {room : ℕ} → HandedOn w h s (now (x .1 .1 .1 .1 .1 .0)) s′ m′ win room
+      → HandedOn w h s (prepareOf film w h pic s (now (a .1 .1 .1 .1 .1 .0)) (now (a .1 .1 .1 .1 .1 .1 .0)) .map) s′ m′ win room
+  onward {s′} {m′} {win} {room} = subst (λ n. HandedOn w h s n s′ m′ win room) (ap (λ (z : Ended). z .map) left)
+
   -- each tile's own mapping lies in the map buffer
   pub prepared-by-rule : clipOne (s .clip) ≡ false → (k b : ℕ) → k < s .across * s .down → b < binsOf s
       → getD (now (x .1 .1 .1 .1 .1 .0)) (k * binsOf s + b) 0 ≡ mappedOf (s .min) (s .max) (tilePixels w h s) (clippedCounts w h pic s k) b
@@ -94,47 +99,56 @@ module _ (film w h : ℕ) (pic : List ℕ) (s : Settings) {r : MapRecord} {foot 
   prepared-other-film κ b answer y drew same other =
       draw-other-film-refused κ b answer y drew (λ e. other (e ∙ ap (λ (z : MapRecord). z .film) (same ∙ sym (left-record film w h pic s _ _ done))))
 
-  -- one call of draw, handed the same film with that record, and the settings and mappings that prepare left
-  module _ (win : Window) (κ : Lfts 3) (b : Dens κ draw.ps) (answer : resT draw.r κ .Denot) (y : AtExit (endedOf 3 draw.ps draw.r) κ) (drew : draw-reads.Post κ b answer y)
-      (film₂ : b .0 ≡ film) (wide₂ : b .1 .0 ≡ w) (high₂ : b .1 .1 .0 ≡ h) (pixels₂ : now (b .1 .1 .1 .0) ≡ pic) (record₂ : b .1 .1 .1 .1 .1 .0 ≡ r)
-      (window₂ : b .1 .1 .1 .1 .1 .1 .0 ≡ win)
-      (handed : HandedOn w h s (now (x .1 .1 .1 .1 .1 .0)) (b .1 .1 .1 .1 .0) (now (b .1 .1 .1 .1 .1 .1 .1 .0)) win (length (now (b .1 .1 .1 .1 .1 .1 .1 .1 .0)))) where
-    shows : showing answer (now (y .1 .1 .1 .1 .1 .1 .1 .1 .0))
-        ≡ drawOf film w h pic (b .1 .1 .1 .1 .0) r win (now (b .1 .1 .1 .1 .1 .1 .1 .0)) (now (b .1 .1 .1 .1 .1 .1 .1 .1 .0))
-    shows = drew ∙ rw (film₂, wide₂, high₂, pixels₂, record₂, window₂) refl
+  -- draw accepts the same film with that record, the settings and mappings that prepare left, a window inside the film and an output of its area
+  pub drawn-done : (κ : Lfts 3) (b : Dens κ draw.ps) (answer : resT draw.r κ .Denot) (y : AtExit (endedOf 3 draw.ps draw.r) κ) → draw-reads.Post κ b answer y
+      → b .0 ≡ film → b .1 .0 ≡ w → b .1 .1 .0 ≡ h → now (b .1 .1 .1 .0) ≡ pic → b .1 .1 .1 .1 .1 .0 ≡ r
+      → HandedOn w h s (now (x .1 .1 .1 .1 .1 .0)) (b .1 .1 .1 .1 .0) (now (b .1 .1 .1 .1 .1 .1 .1 .0)) (b .1 .1 .1 .1 .1 .1 .0) (length (now (b .1 .1 .1 .1 .1 .1 .1 .1 .0)))
+      → answer ≡ Drawn.Done
+  drawn-done κ b answer y drew film₂ wide₂ high₂ pixels₂ record₂ handed =
+      ap (λ (z : Shows). z .answer) drew
+      ∙ rw (film₂, wide₂, high₂, pixels₂, record₂)
+      (ap (λ (z : Shows). z .answer) (draw-agrees film w h pic s _ _ done _ _ _ (now (b .1 .1 .1 .1 .1 .1 .1 .1 .0)) (onward handed)))
 
-    onward : HandedOn w h s (prepareOf film w h pic s (now (a .1 .1 .1 .1 .1 .0)) (now (a .1 .1 .1 .1 .1 .1 .0)) .map)
-        (b .1 .1 .1 .1 .0) (now (b .1 .1 .1 .1 .1 .1 .1 .0)) win (length (now (b .1 .1 .1 .1 .1 .1 .1 .1 .0)))
-    onward = subst (λ m. HandedOn w h s m (b .1 .1 .1 .1 .0) (now (b .1 .1 .1 .1 .1 .1 .1 .0)) win (length (now (b .1 .1 .1 .1 .1 .1 .1 .1 .0)))) (ap (λ (z : Ended). z .map) left) handed
+  -- one call of draw that accepts, handed the same pixels, that record and the mappings that prepare left, whatever else
+  module _ (win : Window) (κ : Lfts 3) (b : Dens κ draw.ps) (y : AtExit (endedOf 3 draw.ps draw.r) κ) (drew : draw-reads.Post κ b Drawn.Done y)
+      (pixels₂ : now (b .1 .1 .1 .0) ≡ pic) (record₂ : b .1 .1 .1 .1 .1 .0 ≡ r) (window₂ : b .1 .1 .1 .1 .1 .1 .0 ≡ win)
+      (front : clipOne (s .clip) ≡ false → take (entriesOf s) (now (b .1 .1 .1 .1 .1 .1 .1 .0)) ≡ take (entriesOf s) (now (x .1 .1 .1 .1 .1 .0))) where
+    shows : showing Drawn.Done (now (y .1 .1 .1 .1 .1 .1 .1 .1 .0))
+        ≡ drawOf (b .0) (b .1 .0) (b .1 .1 .0) pic (b .1 .1 .1 .1 .0) r win (now (b .1 .1 .1 .1 .1 .1 .1 .0)) (now (b .1 .1 .1 .1 .1 .1 .1 .1 .0))
+    shows = drew ∙ rw (pixels₂, record₂, window₂) refl
+
+    accepts : drawOf (b .0) (b .1 .0) (b .1 .1 .0) pic (b .1 .1 .1 .1 .0) r win (now (b .1 .1 .1 .1 .1 .1 .1 .0)) (now (b .1 .1 .1 .1 .1 .1 .1 .1 .0)) .answer ≡ Drawn.Done
+    accepts = sym (ap (λ (z : Shows). z .answer) shows)
+
+    entries : clipOne (s .clip) ≡ false
+        → take (entriesOf s) (now (b .1 .1 .1 .1 .1 .1 .1 .0)) ≡ take (entriesOf s) (prepareOf film w h pic s (now (a .1 .1 .1 .1 .1 .0)) (now (a .1 .1 .1 .1 .1 .1 .0)) .map)
+    entries one = front one ∙ ap (λ (z : Ended). take (entriesOf s) (z .map)) left
 
     -- "or through a window from the record and mappings prepared for those pixels and unchanged since"
     pub drawn-by-rule : clipOne (s .clip) ≡ false → (j i : ℕ) → j < win .height → i < win .width
         → getD (now (y .1 .1 .1 .1 .1 .1 .1 .1 .0)) (j * win .width + i) 0 ≡ ruleGrey w h pic s (win .left + i) (win .top + j)
     drawn-by-rule one j i l k =
-        ap (λ (z : Shows). getD (z .out) (j * win .width + i) 0) shows ∙ own-window film w h pic s _ _ done _ _ win _ onward one j i l k
+        ap (λ (z : Shows). getD (z .out) (j * win .width + i) 0) shows ∙ accepted-by-rule film w h pic s _ _ done _ _ _ _ _ win _ accepts entries one j i l k
 
     -- at the factor 1.0 the film's own pixels
     pub drawn-as-film : clipOne (s .clip) ≡ true → (j i : ℕ) → j < win .height → i < win .width
         → getD (now (y .1 .1 .1 .1 .1 .1 .1 .1 .0)) (j * win .width + i) 0 ≡ getD pic ((win .top + j) * w + (win .left + i)) 0
     drawn-as-film one j i l k =
-        ap (λ (z : Shows). getD (z .out) (j * win .width + i) 0) shows ∙ drawn-is-film film w h pic s _ _ done _ _ win _ onward one j i l k
+        ap (λ (z : Shows). getD (z .out) (j * win .width + i) 0) shows ∙ accepted-as-film film w h pic s _ _ done _ _ _ _ _ win _ accepts entries one j i l k
 
     -- "With the record and buffer that prepare left for the film, and the film's pixels as they were then, each drawn pixel is the one in enhance's picture.":
     -- of one call of enhance, handed the same film with these settings, and buffers that are long enough
     pub drawn-as-enhanced : (κ′ : Lfts 3) (c : Dens κ′ enhance.ps) (e : resT enhance.r κ′ .Denot) (z : AtExit (endedOf 3 enhance.ps enhance.r) κ′) → enhance-reads.Post κ′ c e z
         → c .0 ≡ w → c .1 .0 ≡ h → now (c .1 .1 .0) ≡ pic → keptOf (c .1 .1 .1 .0) ≡ keptOf s
         → entriesOf s ≤ length (now (c .1 .1 .1 .1 .0)) → binsOf s ≤ length (now (c .1 .1 .1 .1 .1 .0))
-        → (answer ≡ Drawn.Done)
-        × (e ≡ Enhanced.Done foot)
+        → (e ≡ Enhanced.Done foot)
         × ((j i : ℕ) → j < win .height → i < win .width
         → getD (now (y .1 .1 .1 .1 .1 .1 .1 .1 .0)) (j * win .width + i) 0 ≡ getD (now (z .1 .1 .0)) ((win .top + j) * w + (win .left + i)) 0)
     drawn-as-enhanced κ′ c e z enhanced wide₃ high₃ pixels₃ like room scratch =
         let over : overing e (now (z .1 .1 .0)) (now (z .1 .1 .1 .1 .0)) (now (z .1 .1 .1 .1 .1 .0)) ≡ enhanceOf w h pic s (now (c .1 .1 .1 .1 .0)) (now (c .1 .1 .1 .1 .1 .0)) =
-        enhanced ∙ rw (wide₃, high₃, pixels₃) (enhance-like w h pic s _ _ _ like) in
-        let same = drawn-is-enhanced film w h pic s _ _ done _ _ win _ onward (now (c .1 .1 .1 .1 .0)) (now (c .1 .1 .1 .1 .1 .0)) room scratch in (
-          ap (λ (x : Shows). x .answer) shows ∙ same .0,
-          ap (λ (x : Over). x .answer) over ∙ same .1,
+        enhanced ∙ rw (wide₃, high₃, pixels₃) (enhance-like w h pic s _ _ _ like) in (
+          ap (λ (x : Over). x .answer) over ∙ enhance-agrees film w h pic s _ _ done (now (c .1 .1 .1 .1 .0)) (now (c .1 .1 .1 .1 .1 .0)) room scratch,
           λ j i l k. ap (λ (x : Shows). getD (x .out) (j * win .width + i) 0) shows
-              ∙ same .2 j i l k
+              ∙ accepted-as-enhanced film w h pic s _ _ done _ _ _ _ _ win _ accepts entries (now (c .1 .1 .1 .1 .0)) (now (c .1 .1 .1 .1 .1 .0)) room scratch j i l k
               ∙ sym (ap (λ (x : Over). getD (x .picture) ((win .top + j) * w + (win .left + i)) 0) over),
         )

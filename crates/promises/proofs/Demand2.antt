@@ -175,7 +175,7 @@ module _ (film w h : ℕ) (pic : List ℕ) (s : Settings) (r : MapRecord) (win :
   other-refused : (Held film w h s r → ⊥) → drawOf film w h pic s r win m out .answer ≡ Refused 15
   other-refused d = other-record-refused (record-differs film w h s r d)
 
-  -- a film of another number
+  -- one of another film number
   pub other-film : film ≢ r .film → drawOf film w h pic s r win m out .answer ≡ Refused 15
   other-film d = other-refused (λ held. d (held .number))
 
@@ -220,22 +220,23 @@ module _ (film w h : ℕ) (pic : List ℕ) (s : Settings) (m t : List ℕ) {r : 
       enhance-accepted w h pic s m₂ t₂ (rows-any w h pic s (length m) (length t) (length m₂) (length t₂) (prepare-accepts film w h pic s m t done) room scratch)
       ∙ ap Enhanced.Done (prepared-foot (prepare-hands film w h pic s m t done))
 
-  module _ (s₃ : Settings) (m₃ : List ℕ) (win : Window) (out : List ℕ) (handed : HandedOn w h s (prepareOf film w h pic s m t .map) s₃ m₃ win (length out)) where
+  -- settings s′ that are kept as s are, and a map buffer m′ whose first entries are those that prepare left
+  module _ (s′ : Settings) (m′ : List ℕ) (win : Window) (out : List ℕ) (handed : HandedOn w h s (prepareOf film w h pic s m t .map) s′ m′ win (length out)) where
     -- draw accepts a window inside the film, and an output of its area, with the record and the mappings that prepare left
-    pub draw-agrees : drawOf film w h pic s₃ r win m₃ out
+    pub draw-agrees : drawOf film w h pic s′ r win m′ out
         ≡ showing Done (drawnOf (clipOne (s .clip)) (greysOf pic w (rectOf win)) (renderOf w h s (prepareOf film w h pic s m t .map) win (greysOf pic w (rectOf win))))
     draw-agrees =
-        draw-like film w h pic s s₃ r win m₃ out (handed .like)
-        ∙ draw-room film w h pic s r win m₃ (prepareOf film w h pic s m t .map) out (handed .long) (left-room film w h pic s m t done) (handed .front)
+        draw-like film w h pic s s′ r win m′ out (handed .like)
+        ∙ draw-room film w h pic s r win m′ (prepareOf film w h pic s m t .map) out (handed .long) (left-room film w h pic s m t done) (handed .front)
         ∙ sym (ends-well film w h pic s r win (prepareOf film w h pic s m t .map) out
         (sym (draw-free film w h pic s m t done win (length out) (handed .wide) (handed .high) (handed .across) (handed .down) (handed .area))) refl refl)
 
     -- "With the record and buffer that prepare left for the film, and the film's pixels as they were then, each drawn pixel is the one in enhance's picture."
     pub drawn-is-enhanced : (m₂ t₂ : List ℕ) → entriesOf s ≤ length m₂ → binsOf s ≤ length t₂
-        → (drawOf film w h pic s₃ r win m₃ out .answer ≡ Done)
+        → (drawOf film w h pic s′ r win m′ out .answer ≡ Done)
         × (enhanceOf w h pic s m₂ t₂ .answer ≡ Enhanced.Done foot)
         × ((j i : ℕ) → j < win .height → i < win .width
-        → getD (drawOf film w h pic s₃ r win m₃ out .out) (j * win .width + i) 0
+        → getD (drawOf film w h pic s′ r win m′ out .out) (j * win .width + i) 0
         ≡ getD (enhanceOf w h pic s m₂ t₂ .picture) ((win .top + j) * w + (win .left + i)) 0)
     unfolding enhancedOf
     drawn-is-enhanced m₂ t₂ room scratch = (
@@ -256,7 +257,7 @@ module _ (film w h : ℕ) (pic : List ℕ) (s : Settings) (m t : List ℕ) {r : 
 
     -- "or through a window from the record and mappings prepared for those pixels and unchanged since": each drawn pixel is the one of the integer rule
     pub own-window : clipOne (s .clip) ≡ false → (j i : ℕ) → j < win .height → i < win .width
-        → getD (drawOf film w h pic s₃ r win m₃ out .out) (j * win .width + i) 0 ≡ ruleGrey w h pic s (win .left + i) (win .top + j)
+        → getD (drawOf film w h pic s′ r win m′ out .out) (j * win .width + i) 0 ≡ ruleGrey w h pic s (win .left + i) (win .top + j)
     own-window one j i l k =
         drawn-is-enhanced m t (known .ready .fitting) (known .bins) .2 j i l k
         ∙ own-rendering w h pic s m t (enhance-agrees m t (known .ready .fitting) (known .bins)) one (win .left + i) (win .top + j) (omega (arith, handed .across)) (omega (arith, handed .down))
@@ -266,7 +267,7 @@ module _ (film w h : ℕ) (pic : List ℕ) (s : Settings) (m t : List ℕ) {r : 
 
     -- at the factor 1.0 they are the film's own pixels
     pub drawn-is-film : clipOne (s .clip) ≡ true → (j i : ℕ) → j < win .height → i < win .width
-        → getD (drawOf film w h pic s₃ r win m₃ out .out) (j * win .width + i) 0 ≡ getD pic ((win .top + j) * w + (win .left + i)) 0
+        → getD (drawOf film w h pic s′ r win m′ out .out) (j * win .width + i) 0 ≡ getD pic ((win .top + j) * w + (win .left + i)) 0
     drawn-is-film one j i l k =
         ap (λ (x : Shows). getD (x .out) (j * win .width + i) 0) draw-agrees
         ∙ ap (λ b. getD (drawnOf b (greysOf pic w (rectOf win)) (renderOf w h s (prepareOf film w h pic s m t .map) win (greysOf pic w (rectOf win)))) (j * win .width + i) 0) one

@@ -85,7 +85,7 @@ module _ (film w h : ℕ) (pic : List ℕ) (s : Settings) (r : MapRecord) (win :
   rows-map = ap₂ (λ a b. a ++ (recordRows film w h s r ++ (windowRows w h win (length out) ++ b))) shared-map pixels-map
 
   -- draw answers and leaves the same with both
-  pub draw-map : drawOf film w h pic s r win m out ≡ drawOf film w h pic s r win m′ out
+  draw-map : drawOf film w h pic s r win m out ≡ drawOf film w h pic s r win m′ out
   unfolding drawOf
   draw-map =
       go (first (drawRows film w h pic s r win m (length out))) refl

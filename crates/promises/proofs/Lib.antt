@@ -1,10 +1,11 @@
 pub mod Numbers
 pub mod Accepted
-pub mod Reuse
 pub mod Handed
+pub mod Reuse
 pub mod Outcomes
 pub mod Demand1
 pub mod Demand2
+pub mod Windows
 pub mod Calls
 pub mod Demand3
 pub mod Files
