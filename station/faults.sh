@@ -2,8 +2,8 @@
 # station/faults.sh: tries what can go wrong around the command line program, and prints what it saw.
 #
 # In every trial OUT holds a text beforehand. A trial is as expected where the exit status is the one named, OUT is as it
-# was (or, after status 0, a whole film), and no file is left beside it. The last line counts the trials. What cannot be
-# tried on this machine or as this user is named and not counted.
+# was (or, after status 0, a whole film), and no file is left beside it; a kill that comes too late finds the whole film
+# there. The last line counts the trials. What cannot be tried on this machine or as this user is named and not counted.
 set -u
 top=$(cd "$(dirname "$0")/.." && pwd -P)
 "$top/station/build" || exit 2
@@ -24,10 +24,17 @@ tz=$room/bin/tzofnadir out=$room/out/film.pgm
 tried=0 good=0
 
 # ---- films
-if [ -f "$top/docs/weld.pgm" ]; then cp "$top/docs/weld.pgm" film.pgm; else python3 "$top/station/weld.py" film.pgm; fi
+cp "$top/docs/weld.pgm" film.pgm || exit 2
 { printf 'P5\n4096 4096\n4095\n'; head -c 33554432 /dev/zero; } >big.pgm
 printf 'this was here before\n' >before
 raster() { tail -c 393216 film.pgm; }
+# The largest film behind a header of COUNT bytes, all but 17 of them spaces.
+largest() { # COUNT
+    printf 'P5'
+    head -c $(($1 - 17)) /dev/zero | tr '\0' ' '
+    printf '4096 4096\n4095\n'
+    head -c 33554432 /dev/zero
+}
 
 # ---- the judge
 report() { # OK WHAT SAW
@@ -46,9 +53,12 @@ no_leftover() { # FOLDER
 whole() { # FILE: 512 by 384 at two bytes
     [ "$(head -c 2 "$1")" = P5 ] && [ "$(wc -c <"$1")" -eq 393232 ]
 }
+told='' # words that the next message has to hold; there always has to be one
 judge() { # WHAT WANTED SAW
     ok=yes
     [ "$3" -eq "$2" ] || ok=no
+    grep -qF -- "$told" said || ok=no
+    told=''
     if [ "$3" -ne 0 ] && ! cmp -s before "$out"; then ok=no; fi
     no_leftover out || ok=no
     report "$ok" "$1" "status $3: $(head -n 1 said | cut -c 1-90)"
@@ -94,6 +104,9 @@ try '--clip 1e99' 10 enhance film.pgm "$out" --clip 1e99
 try '--clip -1' 10 enhance film.pgm "$out" --clip -1
 try 'a pixel above the range' 13 enhance film.pgm "$out" --range 0:1000
 try 'bins that cannot hold a tile' 14 enhance film.pgm "$out" --bins 125 --clip 1.01
+{ printf 'P5\n512 384\n255\n'; raster | head -c 196608; } >shallow.pgm
+told='The rendering has greys above'
+try 'a rendering above maxval, by --range' 26 enhance shallow.pgm "$out" --range 0:4095
 try 'an empty window' 16 window film.pgm "$out" --at 0,0 --size 0x0
 try 'a window across the edge' 16 window film.pgm "$out" --at 511,0 --size 2x2
 try 'a window of 2^64 pixels' 16 window film.pgm "$out" --at 4294967295,4294967295 --size 4294967295x4294967295
@@ -116,8 +129,30 @@ try 'a file cut by one byte' 24 enhance short.pgm "$out"
 { cat film.pgm; printf x; } >long.pgm
 try 'a file with one byte more' 25 enhance long.pgm "$out"
 { printf 'P5\n512 384\n1000\n'; raster; } >above.pgm
+told='A sample is above'
 try 'a sample above maxval' 26 enhance above.pgm "$out"
-try 'an input without end' 20 enhance /dev/zero "$out"
+largest 65536 >white.pgm
+"$tz" enhance big.pgm whole.pgm 2>said
+"$tz" enhance white.pgm "$out" 2>said
+saw=$?
+if [ "$saw" -eq 0 ] && cmp -s whole.pgm "$out" && no_leftover out; then ok=yes; else ok=no; fi
+report "$ok" 'a header of 64 KiB before the largest film: rendered' "status $saw"
+largest 65537 >white.pgm
+told='is longer than 33619968 bytes'
+try 'one byte of white space more' 65 enhance white.pgm "$out"
+largest 99999 >white.pgm
+told='is longer than 33619968 bytes'
+try 'a header of 99,999 bytes, a window' 65 window white.pgm "$out" --at 0,0 --size 8x8
+rm white.pgm
+cp before "$out"
+told='standard input is longer'
+{ printf 'P5'; tr '\0' ' ' </dev/zero; } 2>/dev/null | timeout 120 "$tz" enhance - "$out" >wrote 2>said
+judge 'white space without end, through a pipe' 65 $?
+told='is longer than 33619968 bytes'
+try 'an input without end' 65 enhance /dev/zero "$out"
+cp before "$out"
+{ printf 'P5\n9999 9999\n4095\n'; cat /dev/zero; } 2>/dev/null | timeout 120 "$tz" enhance - "$out" >wrote 2>said
+judge 'too large a film without end, through a pipe' 22 $?
 cp before "$out"
 { printf 'P5\n4096 4096\n4095\n'; cat /dev/zero; } 2>/dev/null | timeout 120 "$tz" enhance - "$out" >wrote 2>said
 judge 'a raster without end, through a pipe' 25 $?
@@ -137,6 +172,16 @@ judge 'standard output closed, a refusal to tell' 22 $?
 judge 'standard output on a full device' 74 $?
 { "$tz" enhance film.pgm - 2>said; echo $? >status; } | head -c 9 >/dev/null
 judge 'standard output a pipe that nobody reads' 74 "$(cat status)"
+# shellcheck disable=SC2016
+bare='mount -t tmpfs tmpfs /dev && [ -x "$0" ]' # a machine without /dev/null
+if [ "$(id -u)" -eq 0 ] && unshare -m --propagation private sh -c "$bare" "$tz" 2>/dev/null; then
+    told='a standard stream is closed'
+    # shellcheck disable=SC2016
+    unshare -m --propagation private sh -c "$bare"' && exec "$0" enhance - "$1" <&-' "$tz" "$out" >wrote 2>said
+    judge 'standard input closed, and no /dev/null' 74 $?
+else
+    skip 'a closed standard stream without /dev/null: /dev cannot be hidden here'
+fi
 : >said
 "$tz" enhance film.pgm "$out" 2>&-
 saw=$?
@@ -172,6 +217,18 @@ saw=$?
 mode=$(ls -l "$out" | cut -c 1-10)
 if [ "$saw" -eq 0 ] && whole "$out" && [ -L out/link.pgm ] && [ "$mode" = -rw-r----- ]; then ok=yes; else ok=no; fi
 report "$ok" 'an output that is a link: the file behind it, its mode kept' "status $saw, mode $mode"
+if [ "$(id -u)" -eq 0 ]; then
+    cp before "$out"
+    chmod 0 "$out"
+    "$tz" enhance film.pgm "$out" 2>said
+    saw=$?
+    # shellcheck disable=SC2012
+    mode=$(ls -l "$out" | cut -c 1-10)
+    if [ "$saw" -eq 0 ] && whole "$out" && [ "$mode" = ---------- ]; then ok=yes; else ok=no; fi
+    report "$ok" 'root, and an output of mode 000: its mode kept' "status $saw, mode $mode"
+else
+    skip 'an output of mode 000: only root may replace it'
+fi
 rm -f out/same.pgm out/link.pgm "$out"
 
 # ---- as a user who may not
@@ -238,31 +295,51 @@ else
     skip 'no memory: this shell sets no limit'
 fi
 
-# ---- kills while the new file is being written
-"$tz" enhance big.pgm whole.pgm 2>said
-kill_in_the_middle() { # SIGNAL
+# ---- kills at the moment the new file appears, until five came before the rename. A shell has what it starts in the
+# background ignore INT, and nohup has it ignore HUP; the program leaves that as it is, so env undoes it.
+undo=''
+! env --default-signal=HUP,INT,TERM true 2>/dev/null || undo='env --default-signal=HUP,INT,TERM'
+kill_in_the_middle() { # SIGNAL STATUS
     cp before "$out"
-    "$tz" enhance big.pgm "$out" >wrote 2>said &
+    $undo "$tz" enhance big.pgm "$out" >wrote 2>said &
     child=$!
     while no_leftover out && kill -0 "$child" 2>/dev/null; do :; done
     kill -s "$1" "$child" 2>/dev/null
     wait "$child" 2>/dev/null
-    if cmp -s before "$out"; then middle=$((middle + 1)); elif ! cmp -s whole.pgm "$out"; then halves=$((halves + 1)); fi
+    saw=$?
+    if cmp -s before "$out" && [ "$saw" -eq "$2" ]; then old=$((old + 1));
+    elif cmp -s whole.pgm "$out"; then new=$((new + 1));
+    else neither=$((neither + 1)); fi
     no_leftover out || left=$((left + 1))
     rm -f out/.tzofnadir-*
 }
-for signal in TERM HUP KILL; do
-    middle=0 halves=0 left=0 round=0
-    while [ "$round" -lt 5 ]; do
-        kill_in_the_middle "$signal"
-        round=$((round + 1))
-    done
+for signal in TERM:143 HUP:129 INT:130 KILL:137; do
+    status=${signal#*:} signal=${signal%:*}
+    if [ -z "$undo" ] && [ "$signal" != TERM ] && [ "$signal" != KILL ]; then
+        skip "a kill by $signal: this env does not set signals back"
+        continue
+    fi
+    old=0 new=0 neither=0 left=0
+    while [ "$old" -lt 5 ] && [ $((new + neither)) -lt 40 ]; do kill_in_the_middle "$signal" "$status"; done
     ok=yes
-    [ "$halves" -eq 0 ] || ok=no
+    [ "$old" -eq 5 ] && [ "$neither" -eq 0 ] || ok=no
     # nothing can tidy up behind KILL; the part then lies beside OUT under its own name
     [ "$signal" = KILL ] || [ "$left" -eq 0 ] || ok=no
-    report "$ok" "killed by $signal, 5 times: OUT is the old text or the whole film" "$middle before the rename, $halves half, $left parts left"
+    report "$ok" "killed by $signal: OUT is the old text or the whole film" "status $status and the old text $old times, the whole film $new times, neither $neither times; $left parts left"
 done
+
+# ---- station/render
+render() { # WHAT WANTED FILM
+    cp before "$out"
+    "$top/station/render" "$3" "$out" >wrote 2>built
+    saw=$?
+    tail -n 1 built >said
+    judge "$1" "$2" "$saw"
+}
+render 'station/render: a refusal keeps its number' 20 "$room/cut.pgm"
+export RATTLE_HOME="$room/nowhere"
+told='the program could not be built'
+render 'station/render where nothing can be built' 69 "$room/film.pgm"
 
 echo "faults: $tried tried, $good as expected"
 [ "$tried" -eq "$good" ]

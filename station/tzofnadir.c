@@ -24,6 +24,7 @@
 /* Exit statuses beside the refusals' own numbers, 1 to 27. */
 enum {
     BAD_WORDS = 64,     /* the command line */
+    TOO_LONG = 65,      /* IN goes on behind what is read of it */
     NO_INPUT = 66,      /* IN cannot be opened, or is a folder */
     NO_MEMORY = 71,
     CANNOT_CREATE = 73, /* OUT, or the new file beside it */
@@ -78,10 +79,19 @@ static int no_memory(void)
     return NO_MEMORY;
 }
 
-static int refuse(uint32_t refusal)
+static int refuse_saying(uint32_t refusal, const char *sentence)
 {
-    fprintf(stderr, "tzofnadir: refused, %u: %s\n", (unsigned)refusal, tz_refusal_text(refusal));
+    fprintf(stderr, "tzofnadir: refused, %u: %s\n", (unsigned)refusal, sentence);
     return (int)refusal;
+}
+
+static int refuse(uint32_t refusal) { return refuse_saying(refusal, tz_refusal_text(refusal)); }
+
+static int too_long(const char *name)
+{
+    fprintf(stderr, "tzofnadir: %s is longer than %zu bytes, the largest film and 64 KiB of header: not read further\n",
+            name, MOST_BYTES);
+    return TOO_LONG;
 }
 
 static void say_footer(const tz_footer *footer)
@@ -96,12 +106,12 @@ static const char usage[] =
     "       tzofnadir listing IN.pgm\n"
     "\n"
     "SETTINGS: --grid 8x8         tiles across and down, 2 to 16 each\n"
-    "          --bins 128         grey bins, 2 to 4096\n"
+    "          --bins 128         grey bins, 2 to 4096; 0 means 128\n"
     "          --range MIN:MAX    grey range, 0 to the file's maxval unless given\n"
     "          --clip 3.0|off     clip factor, 1.0 to 1024.0\n"
     "'-' stands for standard input or standard output. Films are raw PGM (P5) of up to 4096 by 4096 pixels.\n"
-    "Exit status: 0 done; 1 to 27 a refusal, told on standard error; 64 bad words; 66 no input; 71 no memory;\n"
-    "73 the output cannot be created; 74 reading or writing failed.\n";
+    "Exit status: 0 done; 1 to 27 a refusal, told on standard error; 64 bad words; 65 the input is too long;\n"
+    "66 no input; 71 no memory; 73 the output cannot be created; 74 reading or writing failed.\n";
 
 static int bad_words(const char *why, const char *word)
 {
@@ -252,6 +262,8 @@ static int words(int argc, char **argv, struct job *job)
 
 static int is_dash(const char *name) { return strcmp(name, "-") == 0; }
 
+static const char *input_name(const char *name) { return is_dash(name) ? "standard input" : name; }
+
 /* Doubles the room, up to one byte above the bound: that byte tells that there is more. */
 static int grow(struct work *w, size_t *room)
 {
@@ -288,13 +300,19 @@ static int read_to_end(int from, const char *name, struct work *w)
 static int read_input(const char *name, struct work *w)
 {
     if (is_dash(name))
-        return read_to_end(STDIN_FILENO, "standard input", w);
+        return read_to_end(STDIN_FILENO, input_name(name), w);
     int from = open(name, O_RDONLY | O_CLOEXEC);
     if (from < 0)
         return fault(NO_INPUT, "cannot open", name);
     int code = read_to_end(from, name, w);
     close(from);
     return code;
+}
+
+/* What the front of a file settles, whatever stands behind it. The other answers about a file hang on where it ends. */
+static int settled(uint32_t refusal)
+{
+    return refusal == TZ_COMMENT || refusal == TZ_FILE_SIZE || refusal == TZ_MAXVAL || refusal == TZ_RASTER_LONG;
 }
 
 static int read_film(const char *name, struct work *w)
@@ -304,10 +322,10 @@ static int read_film(const char *name, struct work *w)
     if (code != 0)
         return code;
     uint32_t refusal = tzofnadir_read_sizes(w->bytes, w->len, &w->sizes);
+    if (w->cut && !settled(refusal))
+        return too_long(input_name(name));
     if (refusal == TZ_DONE)
         refusal = tzofnadir_read_raster(w->bytes, w->len, &part);
-    if (refusal == TZ_DONE && w->cut)
-        refusal = TZ_RASTER_LONG; /* the part that was read makes a film, and there is more */
     if (refusal != TZ_DONE)
         return refuse(refusal);
     w->pixels = (size_t)w->sizes.width * w->sizes.height;
@@ -435,17 +453,17 @@ static void forget_beside(int unwanted)
     free(name);
 }
 
-/* Writes a new file beside `path`, flushes it and gives it that name. `mode` is that of the file it replaces, 0 for
+/* Writes a new file beside `path`, flushes it and gives it that name. `mode` is that of the file it replaces, null for
    none: until all is written nobody may read more than they could before. */
-static int put_beside(const char *path, mode_t mode, const uint8_t *bytes, size_t count)
+static int put_beside(const char *path, const mode_t *mode, const uint8_t *bytes, size_t count)
 {
     int to = -1;
-    int code = open_beside(path, mode != 0 ? 0600 : 0666, &to);
+    int code = open_beside(path, mode != NULL ? 0600 : 0666, &to);
     if (code != 0)
         return code;
     int ok = write_all(to, bytes, count) && fsync(to) == 0;
-    if (ok && mode != 0)
-        (void)fchmod(to, mode); /* some file systems keep no modes: the film counts more */
+    if (ok && mode != NULL)
+        (void)fchmod(to, *mode); /* some file systems keep no modes: the film counts more */
     int why = errno;
     if (close(to) != 0 && ok) {
         ok = 0;
@@ -468,7 +486,7 @@ static int put_over(const char *name, mode_t mode, const uint8_t *bytes, size_t 
     char *path = realpath(name, NULL);
     if (path == NULL)
         return fault(CANNOT_CREATE, "cannot find", name);
-    int code = put_beside(path, mode, bytes, count);
+    int code = put_beside(path, &mode, bytes, count);
     free(path);
     return code;
 }
@@ -481,7 +499,7 @@ static int put_output(const char *name, const uint8_t *bytes, size_t count)
     if (stat(name, &there) != 0) {
         if (errno != ENOENT || lstat(name, &there) == 0)
             return fault(CANNOT_CREATE, "cannot create", name);
-        return put_beside(name, 0, bytes, count);
+        return put_beside(name, NULL, bytes, count);
     }
     if (S_ISREG(there.st_mode))
         return put_over(name, there.st_mode & 0777, bytes, count);
@@ -502,6 +520,8 @@ static int write_film(const char *name, const uint16_t *picture, const tz_sizes 
     if (w->file == NULL)
         return no_memory();
     uint32_t refusal = tzofnadir_write(picture, pixels, sizes, w->file, room, &count);
+    if (refusal == TZ_SAMPLE) /* the film's own samples were in order, or it would not have been read */
+        return refuse_saying(refusal, "The rendering has greys above the file's maxval: the top of --range is above it.");
     if (refusal != TZ_DONE)
         return refuse(refusal);
     int code = put_output(name, w->file, count);
@@ -596,7 +616,7 @@ static int hold_streams(void)
 {
     for (int file = 0; file <= STDERR_FILENO; file++)
         if (fcntl(file, F_GETFD) < 0 && open("/dev/null", file == STDIN_FILENO ? O_WRONLY : O_RDONLY) != file)
-            return IO_FAULT;
+            return fault(IO_FAULT, "a standard stream is closed, and its place cannot be taken by", "/dev/null");
     return 0;
 }
 
