@@ -241,10 +241,9 @@ if $drop "$tz" --help >wrote 2>said; then
     cp before "$out"
     $drop "$tz" enhance locked.pgm "$out" >wrote 2>said
     judge 'an unreadable file' 66 $?
-    if [ -n "$drop" ]; then
-        $drop "$tz" enhance film.pgm "$room/out/new.pgm" >wrote 2>said
-        judge 'a folder that may not be written to' 73 $?
-    fi
+    mkdir -m 555 shut
+    $drop "$tz" enhance film.pgm shut/new.pgm >wrote 2>said
+    judge 'a folder that may not be written to' 73 $?
     mkdir -m 777 open
     cp before open/film.pgm
     chmod 444 open/film.pgm
@@ -253,7 +252,7 @@ if $drop "$tz" --help >wrote 2>said; then
     if [ "$saw" -eq 73 ] && cmp -s before open/film.pgm && no_leftover open; then ok=yes; else ok=no; fi
     report "$ok" 'a write-protected output' "status $saw: $(head -n 1 said)"
 else
-    skip 'an unreadable file, a write-protected output: nobody cannot run the program here'
+    skip 'an unreadable file, a folder that may not be written to, a write-protected output: nobody cannot run the program here'
 fi
 
 # ---- a full disk
