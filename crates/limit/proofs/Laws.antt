@@ -1,12 +1,12 @@
 -- Laws of the factor and of the limit, for the crates above. Assumes nothing.
 use Prim.Native.Nat.{ℕ, zero, suc, _*_, _/_, _≤_, _<_, max}
-use native.Mathlib.Nat.{le-trans, le-of-eq, le-max-left, le-max-right, max-le, mul-comm, mul-assoc, mul-right-comm, mul-le-mul, mul-le-mul-left, mul-le-mul-right, le-of-mul-le-mul-right, div-mul-le-self, le-div-iff-mul-le}
+use native.Mathlib.Nat.{le-trans, le-of-eq, le-max-left, le-max-right, max-le, mul-comm, mul-assoc, mul-right-comm, mul-le-mul, mul-le-mul-left, mul-le-mul-right, le-of-mul-le-mul-right, eq-of-mul-eq-mul-right, div-mul-le-self, le-div-iff-mul-le}
 use native.Mathlib.Omega.{arith}
 use mathlib.Core.Bool.{Bool, true, false, _&&_, true≢false}
 use mathlib.Core.Path.{_≡_, refl, sym, ap, ap₂, _∙_, subst}
-use lib.Dec.{leb, ltb, lit≤}
+use lib.Dec.{leb, ltb, eqb, lit≤}
 use lib.IntN.{ℤ}
-use lib.Ieee.{Float, nan, inf, fin, up, down}
+use lib.Ieee.{Float, nan, inf, fin, up, down, eq}
 use lib.Ieee.Fits.{down-pos}
 use borrow.Author.Tests.{leb-true, le-leb, eqb-true, eqb-false}
 use Rattle.limit.specs.declared.Clip.the-variants.{Off, Factor}
@@ -56,6 +56,38 @@ above-one false m e h k = strict (m * up e) (down e) (accepted-told m e h .least
   where
     strict : (a d : ℕ) → d ≤ a → (a ≡ d → ⊥) → d < a
     strict a d p q = omega (arith, q)
+
+-- a / c and b / d are the same fraction: the one is 1 where the other is
+one-alike : (a b c d : ℕ) → 0 < c → 0 < d → a * d ≡ b * c → eqb a c ≡ eqb b d
+one-alike a b c d p q e = go (eqb a c) refl (eqb b d) refl
+  where
+    there : a ≡ c → b ≡ d
+    there z = eq-of-mul-eq-mul-right c p b d (sym e ∙ ap (λ x. x * d) z ∙ mul-comm c d)
+
+    back : b ≡ d → a ≡ c
+    back z = eq-of-mul-eq-mul-right d q a c (e ∙ ap (λ x. x * c) z ∙ mul-comm d c)
+
+    go : (x : Bool) → eqb a c ≡ x → (y : Bool) → eqb b d ≡ y → eqb a c ≡ eqb b d
+    go true f true g = f ∙ sym g
+    go true f false g = absurd (eqb-false b d g (there (eqb-true a c f)))
+    go false f true g = absurd (eqb-false a c f (back (eqb-true b d g)))
+    go false f false g = f ∙ sym g
+
+-- two factors that are equal as numbers are both 1.0, or neither
+pub same-one : (f g : Float) → accepted f ≡ true → accepted g ≡ true → eq f g ≡ true → isOne f ≡ isOne g
+unfolding isOne accepted eq
+same-one nan g p q e = absurd (true≢false (sym p))
+same-one (inf s) g p q e = absurd (true≢false (sym p))
+same-one (fin true m k) g p q e = absurd (true≢false (sym p))
+same-one (fin false m k) nan p q e = absurd (true≢false (sym q))
+same-one (fin false m k) (inf s) p q e = absurd (true≢false (sym q))
+same-one (fin false m k) (fin true n l) p q e = absurd (true≢false (sym q))
+same-one (fin false m k) (fin false n l) p q e =
+    one-alike (m * up k) (n * up l) (down k) (down l) (down-pos k) (down-pos l) (eqb-true (m * up k * down l) (n * up l * down k) (front _ e))
+  where
+    front : (x : Bool) → (x && true) ≡ true → x ≡ true
+    front true z = refl
+    front false z = z
 
 -- ---- the limit
 

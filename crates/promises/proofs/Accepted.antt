@@ -182,6 +182,15 @@ module _ (film w h : ℕ) (pic : List ℕ) (s : Settings) (r : MapRecord) (win :
       go zero pixels q = absurd (let z : _≡_ {A = ℕ} 0 1 = cc in omega arith)
       go (suc k) pixels q = ap (λ x. showing x out) q
 
+  -- an accepted window meets none of draw's rows
+  pub draw-accepts : drawOf film w h pic s r win m out .answer ≡ Drawn.Done → first (drawRows film w h pic s r win m (length out)) ≡ 0
+  unfolding drawOf
+  draw-accepts e = go (first (drawRows film w h pic s r win m (length out))) _ e
+    where
+      go : (k : ℕ) (pixels : List ℕ) → shown k out pixels .answer ≡ Drawn.Done → k ≡ 0
+      go zero pixels q = refl
+      go (suc k) pixels q = absurd (let z : _≡_ {A = ℕ} 0 1 = cc in omega arith)
+
   -- the answer says the number of the first row that applies, and where none does no value
   pub drawn-says : drawnSays (drawOf film w h pic s r win m out .answer) ≡ says (first (drawRows film w h pic s r win m (length out))) tt
   unfolding drawOf drawnSays

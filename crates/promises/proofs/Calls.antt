@@ -28,8 +28,8 @@ use Rattle.draw.specs.declared.Drawn.the-variants as Drawn
 use Rattle.draw.specs.Draw.{Shows, showing, drawOf, Held}
 use Rattle.draw.proofs.draw.Kinds as draw
 use Rattle.draw.proofs.draw.Reads as draw-reads
-use Rattle.promises.specs.Films.{clippedCounts, ruleGrey}
-use Rattle.promises.proofs.Handed.{enhance-like, HandedOn}
+use Rattle.promises.specs.Films.{clippedCounts, ruleGrey, HandedOn}
+use Rattle.promises.proofs.Handed.{enhance-like}
 use Rattle.promises.proofs.Reuse.{left-record, left-settings}
 use Rattle.promises.proofs.Demand2.{own-mapping, differing-refused, own-rendering, own-pixels, enhance-agrees, draw-agrees}
 use Rattle.promises.proofs.Windows.{accepted-by-rule, accepted-as-film, accepted-as-enhanced}

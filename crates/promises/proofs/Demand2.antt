@@ -37,9 +37,9 @@ use Rattle.draw.specs.Draw.{recordRows, drawRows, drawnOf, Shows, showing, draw
 use Rattle.draw.proofs.Laws.{other-record, record-differs}
 use Rattle.draw.proofs.Tables.{draw-ready}
 use Rattle.draw.proofs.Works.{ends-refused, ends-well}
-use Rattle.promises.specs.Films.{clippedCounts, tileValue, ruleGrey}
+use Rattle.promises.specs.Films.{clippedCounts, tileValue, ruleGrey, HandedOn}
 use Rattle.promises.proofs.Accepted.{prepare-accepts, prepare-done, prepare-work, prepare-hands, enhance-accepted, enhance-done, enhance-work}
-use Rattle.promises.proofs.Handed.{draw-like, draw-room, HandedOn}
+use Rattle.promises.proofs.Handed.{draw-like, draw-room}
 use Rattle.promises.proofs.Reuse.{prepared-foot, rows-any, left-room, left-laid, left-asks, draw-free}
 
 -- ---- each tile's own mapping

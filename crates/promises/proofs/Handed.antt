@@ -1,6 +1,6 @@
 -- What the calls look at of the settings and the map buffer that are handed to them: bins 0 are 128, and draw reads the mappings' entries alone.
 -- Assumes nothing.
-use Prim.Native.Nat.{ℕ, zero, suc, _+_, _*_, _≤_, _<_}
+use Prim.Native.Nat.{ℕ, zero, suc, _+_, _≤_, _<_}
 use mathlib.Core.Bool.{Bool, true, false, not, cond, _&&_}
 use mathlib.Core.List.{List, [], _∷_, _++_}
 use mathlib.Core.Path.{_≡_, refl, sym, ap, ap₂, _∙_}
@@ -132,21 +132,3 @@ module _ (film w h : ℕ) (pic : List ℕ) (s : Settings) (r : MapRecord) (win :
   pub draw-room : entriesOf s ≤ length m → entriesOf s ≤ length m′ → (clipOne (s .clip) ≡ false → take (entriesOf s) m ≡ take (entriesOf s) m′)
       → drawOf film w h pic s r win m out ≡ drawOf film w h pic s r win m′ out
   draw-room l l′ e = draw-map film w h pic s r win m m′ out (le-ltb (length m) (entriesOf s) l ∙ sym (le-ltb (length m′) (entriesOf s) l′)) e
-
--- ---- what a station hands on to draw
-
--- beside the record and the pixels: settings s′ and a map buffer m′ that stand for the settings s and the map buffer m of the film, a window, and the output's length
-pub record HandedOn (w h : ℕ) (s : Settings) (m : List ℕ) (s′ : Settings) (m′ : List ℕ) (win : Window) (room : ℕ) : Type 0 where
-  -- the same settings, with "bins 0 kept as 128" or as they were asked
-  pub like : keptOf s′ ≡ keptOf s
-  -- a map buffer that is long enough
-  pub long : entriesOf s ≤ length m′
-  -- and holds the same mappings; at the factor 1.0 they are not looked at
-  pub front : clipOne (s .clip) ≡ false → take (entriesOf s) m′ ≡ take (entriesOf s) m
-  -- a window of a pixel at least, inside the film
-  pub wide : 0 < win .width
-  pub high : 0 < win .height
-  pub across : win .left + win .width ≤ w
-  pub down : win .top + win .height ≤ h
-  -- and an output of its area
-  pub area : room ≡ win .height * win .width

@@ -1,100 +1,41 @@
 -- A window that draw accepts with the record that prepare made is a window of that film, drawn as with that film's own settings.
 -- Assumes nothing.
 use Prim.Native.Nat.{ℕ, _+_, _*_, _≤_, _<_}
-use native.Mathlib.Nat.{mul-comm, eq-of-mul-eq-mul-right}
 use native.Mathlib.Omega.{arith}
-use mathlib.Core.Bool.{Bool, true, false, _&&_, true≢false}
+use mathlib.Core.Bool.{true, false}
 use mathlib.Core.List.{List}
 use mathlib.Core.Path.{_≡_, refl, sym, ap, _∙_, subst}
-use lib.Dec.{eqb}
-use lib.Ieee.{Float, nan, inf, fin, up, down, eq}
-use lib.Ieee.Fits.{down-pos}
+use lib.Ieee.{down}
 use lib.ListN.{length, getD, take}
-use borrow.Author.Tests.{eqb-true, eqb-false, not-false}
-use Rattle.limit.specs.declared.Clip.{Clip}
-use Rattle.limit.specs.declared.Clip.the-variants.{Off, Factor}
-use Rattle.limit.specs.Limit.{accepted, isOne}
-use Rattle.refuse.specs.Refuse.{first}
+use Rattle.limit.specs.Limit.{accepted}
 use Rattle.tile.specs.Tile.{greysOf}
 use Rattle.settings.specs.declared.Settings.{Settings}
 use Rattle.settings.specs.declared.MapRecord.{MapRecord}
 use Rattle.settings.specs.declared.Footer.{Footer}
 use Rattle.settings.specs.declared.Window.{Window}
-use Rattle.settings.specs.Settings.{binsOf, entriesOf, recordOf, clipBad, clipOne, sameClip}
-use Rattle.render.specs.Render.{mappedAt, pixelOf, renderedOf, renderOf, rectOf}
+use Rattle.settings.specs.Settings.{binsOf, entriesOf, recordOf, clipOne}
+use Rattle.render.specs.Render.{renderOf, rectOf}
 use Rattle.prepare.specs.declared.Prepared.the-variants as Prepared
 use Rattle.prepare.specs.Prepare.{prepareOf, enhanceOf}
 use Rattle.draw.specs.declared.Drawn.the-variants.{Done}
-use Rattle.draw.specs.Draw.{drawRows, drawnOf, Shows, showing, drawOf, Held, DrawReady}
+use Rattle.draw.specs.Draw.{drawnOf, Shows, showing, drawOf, Held, DrawReady}
+use Rattle.settings.proofs.Clips.{same-clip-one}
+use Rattle.render.proofs.Laws.{render-fields}
 use Rattle.draw.proofs.Laws.{bins-kept}
 use Rattle.draw.proofs.Tables.{draw-ready}
 use Rattle.draw.proofs.Works.{ends-well}
-use Rattle.promises.specs.Films.{drawnNumber, ruleGrey}
-use Rattle.promises.proofs.Accepted.{prepare-work, draw-number}
-use Rattle.promises.proofs.Handed.{HandedOn}
+use Rattle.promises.specs.Films.{ruleGrey, HandedOn}
+use Rattle.promises.proofs.Accepted.{prepare-work, draw-accepts}
 use Rattle.promises.proofs.Reuse.{left-record}
 use Rattle.promises.proofs.Demand2.{draw-agrees, drawn-is-enhanced, own-window, drawn-is-film}
 
--- ---- clip settings that are the same
-
--- a / c and b / d are the same fraction: the one is 1 where the other is
-one-alike : (a b c d : ℕ) → 0 < c → 0 < d → a * d ≡ b * c → eqb a c ≡ eqb b d
-one-alike a b c d p q e = go (eqb a c) refl (eqb b d) refl
-  where
-    there : a ≡ c → b ≡ d
-    there z = eq-of-mul-eq-mul-right c p b d (sym e ∙ ap (λ x. x * d) z ∙ mul-comm c d)
-
-    back : b ≡ d → a ≡ c
-    back z = eq-of-mul-eq-mul-right d q a c (e ∙ ap (λ x. x * c) z ∙ mul-comm d c)
-
-    go : (x : Bool) → eqb a c ≡ x → (y : Bool) → eqb b d ≡ y → eqb a c ≡ eqb b d
-    go true f true g = f ∙ sym g
-    go true f false g = absurd (eqb-false b d g (there (eqb-true a c f)))
-    go false f true g = absurd (eqb-false a c f (back (eqb-true b d g)))
-    go false f false g = f ∙ sym g
-
--- two factors that are equal as numbers are both 1.0, or neither
-factor-one : (f g : Float) → accepted f ≡ true → accepted g ≡ true → eq f g ≡ true → isOne f ≡ isOne g
-unfolding isOne accepted eq
-factor-one nan g p q e = absurd (true≢false (sym p))
-factor-one (inf s) g p q e = absurd (true≢false (sym p))
-factor-one (fin true m k) g p q e = absurd (true≢false (sym p))
-factor-one (fin false m k) nan p q e = absurd (true≢false (sym q))
-factor-one (fin false m k) (inf s) p q e = absurd (true≢false (sym q))
-factor-one (fin false m k) (fin true n l) p q e = absurd (true≢false (sym q))
-factor-one (fin false m k) (fin false n l) p q e =
-    one-alike (m * up k) (n * up l) (down k) (down l) (down-pos k) (down-pos l) (eqb-true (m * up k * down l) (n * up l * down k) (front _ e))
-  where
-    front : (x : Bool) → (x && true) ≡ true → x ≡ true
-    front true z = refl
-    front false z = z
-
--- so are two clip settings
-clip-one : (c c′ : Clip) → clipBad c ≡ false → clipBad c′ ≡ false → sameClip c c′ ≡ true → clipOne c ≡ clipOne c′
-unfolding sameClip
-clip-one Off Off p q e = refl
-clip-one Off (Factor g) p q e = absurd (true≢false (sym e))
-clip-one (Factor f) Off p q e = absurd (true≢false (sym e))
-clip-one (Factor f) (Factor g) p q e = factor-one f g (not-false (accepted f) p) (not-false (accepted g) q) e
-
 -- ---- a window that is accepted
 
--- the clip setting plays no part in rendering
-render-fields : (w h : ℕ) (s s′ : Settings) (m : List ℕ) (win : Window) (vs : List ℕ)
-    → s′ .across ≡ s .across → s′ .down ≡ s .down → binsOf s′ ≡ binsOf s → s′ .min ≡ s .min → s′ .max ≡ s .max → renderOf w h s′ m win vs ≡ renderOf w h s m win vs
-unfolding renderOf renderedOf pixelOf mappedAt
-render-fields w h s s′ m win vs across down bins min max = rw (bins, across, down, min, max) refl
-
 module _ (film w h : ℕ) (pic : List ℕ) (s : Settings) (r : MapRecord) (win : Window) (m out : List ℕ) (drawn : drawOf film w h pic s r win m out .answer ≡ Done) where
-  -- an accepted window meets none of draw's rows
-  draw-accepts : first (drawRows film w h pic s r win m (length out)) ≡ 0
-  unfolding drawnNumber
-  draw-accepts = sym (draw-number film w h pic s r win m out) ∙ ap drawnNumber drawn
-
   -- it ends as the rules say
   draw-done : drawOf film w h pic s r win m out
       ≡ showing Done (drawnOf (clipOne (s .clip)) (greysOf pic w (rectOf win)) (renderOf w h s m win (greysOf pic w (rectOf win))))
-  draw-done = sym (ends-well film w h pic s r win m out (sym draw-accepts) refl refl)
+  draw-done = sym (ends-well film w h pic s r win m out (sym (draw-accepts film w h pic s r win m out drawn)) refl refl)
 
 -- a window that draw accepted, with the record that prepare made, the pixels as they were then, and the mappings that it left
 module _ (film w h : ℕ) (pic : List ℕ) (s : Settings) (m t : List ℕ) {r : MapRecord} {foot : Footer} (done : prepareOf film w h pic s m t .answer ≡ Prepared.Done r foot)
@@ -131,7 +72,7 @@ module _ (film w h : ℕ) (pic : List ℕ) (s : Settings) (m t : List ℕ) {r : 
   pub accepted-same : drawOf film′ w′ h′ pic s′ r win m′ out ≡ drawOf film w h pic s r win m′ out
   accepted-same =
       draw-done film′ w′ h′ pic s′ r win m′ out drawn
-      ∙ rw (held .wide, held .high, clip-one (s′ .clip) (s .clip) (known .shown .ready .clip) (prepare-work film w h pic s m t done .ready .clip) (held .clip))
+      ∙ rw (held .wide, held .high, same-clip-one (s′ .clip) (s .clip) (known .shown .ready .clip) (prepare-work film w h pic s m t done .ready .clip) (held .clip))
       (ap (λ ys. showing Done (drawnOf (clipOne (s .clip)) greys ys)) (render-fields w h s s′ m′ win greys (held .across) (held .down) bins (held .least) (held .most)))
       ∙ sym (draw-done film w h pic s r win m′ out (ap (λ (x : Shows). x .answer) (draw-agrees film w h pic s m t done s m′ win out accepted-handed)))
     where

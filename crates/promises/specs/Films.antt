@@ -9,7 +9,7 @@ use mathlib.Core.Logic.{_⊎_}
 use mathlib.Core.Path.{_≡_}
 use lib.Dec.{ltb}
 use lib.Ieee.{Float}
-use lib.ListN.{length, getD}
+use lib.ListN.{length, getD, take}
 use Rattle.lists.specs.Lists.{total, all}
 use Rattle.refuse.specs.Refuse.{Row, row}
 use Rattle.limit.specs.declared.Clip.{Clip}
@@ -19,7 +19,8 @@ use Rattle.clip.specs.Clip.{share}
 use Rattle.tile.specs.Tile.{within, binOf, greysOf, countsOf, mappedOf, tileCounts}
 use Rattle.settings.specs.declared.Settings.{Settings}
 use Rattle.settings.specs.declared.Footer.{Footer}
-use Rattle.settings.specs.Settings.{binsOf, tileWidth, tileHeight, tilePixels, sharedRows}
+use Rattle.settings.specs.declared.Window.{Window}
+use Rattle.settings.specs.Settings.{binsOf, entriesOf, keptOf, clipOne, tileWidth, tileHeight, tilePixels, sharedRows}
 use Rattle.blend.specs.Blend.{placeOf, greyOf}
 use Rattle.prepare.specs.Prepare.{tileRect, none, one}
 
@@ -60,6 +61,24 @@ pub record FooterShows (clip : Clip) (n b : ℕ) (foot : Footer) : Type 0 where
   pub unchanged : (f : Float) → clip ≡ Factor f → isOne f ≡ true → foot ≡ footer 0 one one
   -- "a footer record with L, the factor asked as f32 and the factor used as f64: L x B and N are each converted exactly and divided once"
   pub above : (f : Float) → clip ≡ Factor f → isOne f ≡ false → foot ≡ footer (limitOf f n b) f (usedOf (limitOf f n b) b n)
+
+-- ---- what a station hands on to draw
+
+-- beside the record and the pixels: settings s′ and a map buffer m′ that stand for the settings s and the map buffer m of the film, a window, and the output's length
+pub record HandedOn (w h : ℕ) (s : Settings) (m : List ℕ) (s′ : Settings) (m′ : List ℕ) (win : Window) (room : ℕ) : Type 0 where
+  -- the same settings, with "bins 0 kept as 128" or as they were asked
+  pub like : keptOf s′ ≡ keptOf s
+  -- a map buffer that is long enough
+  pub long : entriesOf s ≤ length m′
+  -- and holds the same mappings; at the factor 1.0 they are not looked at
+  pub front : clipOne (s .clip) ≡ false → take (entriesOf s) m′ ≡ take (entriesOf s) m
+  -- a window of a pixel at least, inside the film
+  pub wide : 0 < win .width
+  pub high : 0 < win .height
+  pub across : win .left + win .width ≤ w
+  pub down : win .top + win .height ≤ h
+  -- and an output of its area
+  pub area : room ≡ win .height * win .width
 
 -- ---- demand 3
 

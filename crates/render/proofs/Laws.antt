@@ -3,7 +3,7 @@
 use Prim.Native.Nat.{ℕ, zero, suc, _+_, _-_, _*_, _/_, _%_, _≤_, _<_}
 use mathlib.Core.Bool.{true}
 use mathlib.Core.List.{List}
-use mathlib.Core.Path.{_≡_, sym, ap, ap₂, _∙_}
+use mathlib.Core.Path.{_≡_, refl, sym, ap, ap₂, _∙_}
 use lib.ListN.{length, getD, take}
 use lib.Seq.{length-take-le}
 use native.Mathlib.Nat.{zero-add, zero-mul, div-add-mod', div-le-of-le-mul, mul-le-mul-right}
@@ -41,6 +41,12 @@ render-at w h s m win vs {j} {i} l k =
     ap (λ t. getD t (j * win .width + i) 0) (render-strips w h s m win vs)
     ∙ getD-joined (win .width) (win .height) (strip w h s m win vs) (λ t q. length-strip w h s m win vs t) j i 0 l k
     ∙ getD-tab (win .width) (λ i. renderedOf w h s m (win .left + i) (win .top + j) (getD vs (j * win .width + i) 0)) i 0 k
+
+-- the clip setting plays no part in rendering
+pub render-fields : (w h : ℕ) (s s′ : Settings) (m : List ℕ) (win : Window) (vs : List ℕ)
+    → s′ .across ≡ s .across → s′ .down ≡ s .down → binsOf s′ ≡ binsOf s → s′ .min ≡ s .min → s′ .max ≡ s .max → renderOf w h s′ m win vs ≡ renderOf w h s m win vs
+unfolding renderOf renderedOf pixelOf mappedAt
+render-fields w h s s′ m win vs across down bins min max = rw (bins, across, down, min, max) refl
 
 -- a pixel of a window inside the film is the same pixel of the whole film
 pub window-law : (w h : ℕ) (s : Settings) (m : List ℕ) (win : Window) (pic : List ℕ) → win .left + win .width ≤ w → win .top + win .height ≤ h

@@ -1,17 +1,18 @@
 -- What the judgement of a factor tells of a clip setting.
 -- Assumes nothing.
 use Prim.Native.Nat.{ℕ}
-use mathlib.Core.Bool.{Bool, true, false, not}
-use mathlib.Core.Path.{_≡_, refl}
+use mathlib.Core.Bool.{Bool, true, false, not, true≢false}
+use mathlib.Core.Path.{_≡_, refl, sym}
 use native.Mathlib.Omega.{arith}
 use lib.Ieee.{Float}
+use borrow.Author.Tests.{not-false}
 use Rattle.limit.specs.declared.Clip.{Clip}
-use Rattle.limit.specs.declared.Clip.the-variants.{Factor}
+use Rattle.limit.specs.declared.Clip.the-variants.{Off, Factor}
 use Rattle.limit.specs.declared.Judged.{Judged}
 use Rattle.limit.specs.declared.Judged.the-variants.{Refused, One, Above}
 use Rattle.limit.specs.Limit.{accepted, isOne, judgeOf, judgedBy}
-use Rattle.limit.proofs.Laws.{one-accepted}
-use Rattle.settings.specs.Settings.{clipBad, clipOne}
+use Rattle.limit.proofs.Laws.{one-accepted, same-one}
+use Rattle.settings.specs.Settings.{clipBad, clipOne, sameClip}
 
 -- a judgement as the pair of its tests
 data Split (j : Judged) (a o : Bool) : Type 0 where
@@ -78,3 +79,11 @@ module _ (clip : Clip) (f : Float) (e : clip ≡ Factor f) where
 
   pub one-above : judgeOf f ≡ Above → false ≡ clipOne clip
   one-above j = rw (e, above-is f j .1) refl
+
+-- two clip settings that are the same are both 1.0, or neither
+pub same-clip-one : (c c′ : Clip) → clipBad c ≡ false → clipBad c′ ≡ false → sameClip c c′ ≡ true → clipOne c ≡ clipOne c′
+unfolding sameClip
+same-clip-one Off Off p q e = refl
+same-clip-one Off (Factor g) p q e = absurd (true≢false (sym e))
+same-clip-one (Factor f) Off p q e = absurd (true≢false (sym e))
+same-clip-one (Factor f) (Factor g) p q e = same-one f g (not-false (accepted f) p) (not-false (accepted g) q) e
