@@ -14,12 +14,13 @@ use native.Mathlib.Omega.{arith}
 use native.Mathlib.Numerals.{one-add}
 use borrow.Author.Tests.{le-leb, lt-ltb, ne-eqb}
 use Rattle.lists.specs.Lists.{all}
-use Rattle.lists.proofs.Tabs.{and-both, and-left, and-right}
+use Rattle.lists.proofs.Tabs.{and-both}
+use Rattle.lists.proofs.Alls.{all-both}
 use Rattle.header.specs.declared.Number.{Number}
 use Rattle.header.specs.declared.Number.the-variants.{Read, Misfit}
 use Rattle.header.specs.declared.Head.{Head}
 use Rattle.header.specs.declared.Head.the-variants.{Found, Refused}
-use Rattle.header.specs.Header.{isWhite, isDigit, misfitOf, whiteOf, digitsOf, firstDigit, numberOf, pickNumber, pickHead, behind, endOf, headerOf, decimalOf, headerBytes}
+use Rattle.header.specs.Header.{isWhite, isDigit, misfitOf, whiteOf, digitsOf, firstDigit, numberOf, behind, endOf, headerOf, decimalOf, headerBytes}
 use Rattle.header.proofs.Reading.{lt-or-ge, white-within, white-cons, digit-low, digit-high, digit-cons, digit-other, first-digits, number-behind, end-found, behind-read, header-magic, tens, tens-five, digits-small, digits-room}
 use Rattle.header.proofs.Writing.{decimal-one, decimal-more, count-most, length-header}
 
@@ -34,7 +35,7 @@ end-inside : (s : List ℕ) (w h m i : ℕ) {w′ h′ m′ at : ℕ} → endOf 
 unfolding endOf
 end-inside s w h m i {w′} {h′} {m′} {at} q = go (isWhite (getD s i 0)) refl q
   where
-    go : (t : Bool) → isWhite (getD s i 0) ≡ t → pickHead t (Found w h m (i + 1)) (Refused (misfitOf (getD s i 0))) ≡ Found w′ h′ m′ at
+    go : (t : Bool) → isWhite (getD s i 0) ≡ t → cond t (Found w h m (i + 1)) (Refused (misfitOf (getD s i 0))) ≡ Found w′ h′ m′ at
         → (0 < at) × (at ≤ length s)
     go true p q = let e : i + 1 ≡ at = cc in (omega arith, omega (arith, white-within s i p))
     go false p q = absurd (let z : _≡_ {A = ℕ} 0 1 = cc in omega arith)
@@ -45,7 +46,7 @@ unfolding headerOf
 found-inside s {w} {h} {m} {at} q = go (eqb (getD s 0 0) 80 && eqb (getD s 1 0) 53) q
   where
     go : (t : Bool)
-        → pickHead t
+        → cond t
         (behind (numberOf s 2) (λ w at. behind (numberOf s at) (λ h at. behind (numberOf s at) (λ m at. endOf s w h m at))))
         (Refused 20)
         ≡ Found w h m at
@@ -94,7 +95,7 @@ first-refused : (s : List ℕ) (i : ℕ) {n : ℕ} → firstDigit s i ≡ Misfit
 unfolding firstDigit
 first-refused s i {n} q = go (isDigit (getD s i 0)) q
   where
-    go : (t : Bool) → pickNumber t (digitsOf 5 (drop i s) 0 i) (Misfit (misfitOf (getD s i 0))) ≡ Misfit n → Number20 n
+    go : (t : Bool) → cond t (digitsOf 5 (drop i s) 0 i) (Misfit (misfitOf (getD s i 0))) ≡ Misfit n → Number20 n
     go true q = absurd (digits-never 5 (drop i s) 0 i n q)
     go false q = misfit-same (getD s i 0) q
 
@@ -102,7 +103,7 @@ number-refused : (s : List ℕ) (i : ℕ) {n : ℕ} → numberOf s i ≡ Misfit 
 unfolding numberOf
 number-refused s i {n} q = go (isWhite (getD s i 0)) q
   where
-    go : (t : Bool) → pickNumber t (firstDigit s (whiteOf (drop i s) i)) (Misfit (misfitOf (getD s i 0))) ≡ Misfit n → Number20 n
+    go : (t : Bool) → cond t (firstDigit s (whiteOf (drop i s) i)) (Misfit (misfitOf (getD s i 0))) ≡ Misfit n → Number20 n
     go true q = first-refused s (whiteOf (drop i s) i) q
     go false q = misfit-same (getD s i 0) q
 
@@ -110,7 +111,7 @@ end-refused : (s : List ℕ) (w h m i : ℕ) {n : ℕ} → endOf s w h m i ≡ R
 unfolding endOf
 end-refused s w h m i {n} q = go (isWhite (getD s i 0)) q
   where
-    go : (t : Bool) → pickHead t (Found w h m (i + 1)) (Refused (misfitOf (getD s i 0))) ≡ Refused n → Number20 n
+    go : (t : Bool) → cond t (Found w h m (i + 1)) (Refused (misfitOf (getD s i 0))) ≡ Refused n → Number20 n
     go true q = absurd (let z : _≡_ {A = ℕ} 0 1 = cc in omega arith)
     go false q =
         let e : misfitOf (getD s i 0) ≡ n = cc in
@@ -130,7 +131,7 @@ unfolding headerOf
 refused-number s {n} q = go (eqb (getD s 0 0) 80 && eqb (getD s 1 0) 53) q
   where
     go : (t : Bool)
-        → pickHead t
+        → cond t
         (behind (numberOf s 2) (λ w at. behind (numberOf s at) (λ h at. behind (numberOf s at) (λ m at. endOf s w h m at))))
         (Refused 20)
         ≡ Refused n
@@ -163,7 +164,7 @@ first-below : (s : List ℕ) (i v e : ℕ) → firstDigit s i ≡ Read v e → v
 unfolding firstDigit
 first-below s i v e q = go (isDigit (getD s i 0)) q
   where
-    go : (t : Bool) → pickNumber t (digitsOf 5 (drop i s) 0 i) (Misfit (misfitOf (getD s i 0))) ≡ Read v e → v < 100000
+    go : (t : Bool) → cond t (digitsOf 5 (drop i s) 0 i) (Misfit (misfitOf (getD s i 0))) ≡ Read v e → v < 100000
     go true q = digits-below 5 (drop i s) 0 i v e tens-five q
     go false q = absurd (let z : _≡_ {A = ℕ} 0 1 = cc in omega arith)
 
@@ -171,7 +172,7 @@ number-below : (s : List ℕ) (i v e : ℕ) → numberOf s i ≡ Read v e → v 
 unfolding numberOf
 number-below s i v e q = go (isWhite (getD s i 0)) q
   where
-    go : (t : Bool) → pickNumber t (firstDigit s (whiteOf (drop i s) i)) (Misfit (misfitOf (getD s i 0))) ≡ Read v e → v < 100000
+    go : (t : Bool) → cond t (firstDigit s (whiteOf (drop i s) i)) (Misfit (misfitOf (getD s i 0))) ≡ Read v e → v < 100000
     go true q = first-below s (whiteOf (drop i s) i) v e q
     go false q = absurd (let z : _≡_ {A = ℕ} 0 1 = cc in omega arith)
 
@@ -179,7 +180,7 @@ end-same : (s : List ℕ) (w h m i : ℕ) {w′ h′ m′ at : ℕ} → endOf s 
 unfolding endOf
 end-same s w h m i {w′} {h′} {m′} {at} q = go (isWhite (getD s i 0)) q
   where
-    go : (t : Bool) → pickHead t (Found w h m (i + 1)) (Refused (misfitOf (getD s i 0))) ≡ Found w′ h′ m′ at → (w ≡ w′) × (h ≡ h′) × (m ≡ m′)
+    go : (t : Bool) → cond t (Found w h m (i + 1)) (Refused (misfitOf (getD s i 0))) ≡ Found w′ h′ m′ at → (w ≡ w′) × (h ≡ h′) × (m ≡ m′)
     go true q = (cc, cc, cc)
     go false q = absurd (let z : _≡_ {A = ℕ} 0 1 = cc in omega arith)
 
@@ -195,7 +196,7 @@ found-below s {w} {h} {m} {at} q = go (eqb (getD s 0 0) 80 && eqb (getD s 1 0) 5
         (omega arith, omega arith, omega arith)
 
     go : (t : Bool)
-        → pickHead t
+        → cond t
         (behind (numberOf s 2) (λ w at. behind (numberOf s at) (λ h at. behind (numberOf s at) (λ m at. endOf s w h m at))))
         (Refused 20)
         ≡ Found w h m at
@@ -408,11 +409,6 @@ round-trip w h m rest lw lh lm =
 
 -- ---- a written header is a list of bytes
 
-all-append : (p : ℕ → Bool) (xs ys : List ℕ) → all p xs ≡ true → all p ys ≡ true → all p (xs ++ ys) ≡ true
-unfolding all
-all-append p [] ys a b = b
-all-append p (x ∷ xs) ys a b = and-both (p x) _ (and-left (p x) _ a) (all-append p xs ys (and-right (p x) _ a) b)
-
 digit-byte : (n : ℕ) → n < 10 → all (λ b. ltb b 256) ((48 + n) ∷ []) ≡ true
 unfolding all
 digit-byte n h = rw (lt-ltb (48 + n) 256 (omega arith)) refl
@@ -423,7 +419,7 @@ decimal-bytes zero n = refl
 decimal-bytes (suc k) n =
     ⊎-elim
     (λ h. ap (all (λ b. ltb b 256)) (decimal-one k n h) ∙ digit-byte n h)
-    (λ h. ap (all (λ b. ltb b 256)) (decimal-more k n h) ∙ all-append _ (decimalOf k (n / 10)) _ (decimal-bytes k (n / 10)) (digit-byte (n % 10) (omega arith)))
+    (λ h. ap (all (λ b. ltb b 256)) (decimal-more k n h) ∙ all-both _ (decimalOf k (n / 10)) _ (decimal-bytes k (n / 10)) (digit-byte (n % 10) (omega arith)))
     (lt-or-ge n 10)
 
 magic-bytes : all (λ b. ltb b 256) (80 ∷ 53 ∷ 10 ∷ []) ≡ true
@@ -442,8 +438,8 @@ feed-byte = refl
 pub header-bytes : (w h m : ℕ) → all (λ b. ltb b 256) (headerBytes w h m) ≡ true
 unfolding headerBytes
 header-bytes w h m =
-    all-append _ (80 ∷ 53 ∷ 10 ∷ []) _ magic-bytes
-    (all-append _ (decimalOf 5 w) _ (decimal-bytes 5 w)
-    (all-append _ (32 ∷ []) _ space-byte
-    (all-append _ (decimalOf 5 h) _ (decimal-bytes 5 h)
-    (all-append _ (10 ∷ []) _ feed-byte (all-append _ (decimalOf 5 m) _ (decimal-bytes 5 m) feed-byte)))))
+    all-both _ (80 ∷ 53 ∷ 10 ∷ []) _ magic-bytes
+    (all-both _ (decimalOf 5 w) _ (decimal-bytes 5 w)
+    (all-both _ (32 ∷ []) _ space-byte
+    (all-both _ (decimalOf 5 h) _ (decimal-bytes 5 h)
+    (all-both _ (10 ∷ []) _ feed-byte (all-both _ (decimalOf 5 m) _ (decimal-bytes 5 m) feed-byte)))))

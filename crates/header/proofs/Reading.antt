@@ -1,7 +1,7 @@
 -- Laws of the header's reader: one for each case of its definitions, and where a number ends.
 -- Assumes nothing.
 use Prim.Native.Nat.{ℕ, zero, suc, _+_, _-_, _*_, _≤_, _<_}
-use mathlib.Core.Bool.{Bool, true, false}
+use mathlib.Core.Bool.{Bool, true, false, cond}
 use mathlib.Core.List.{List, [], _∷_}
 use mathlib.Core.Logic.{_⊎_, inl, inr, ⊎-elim}
 use mathlib.Core.Path.{_≡_, refl, sym, ap, _∙_}
@@ -17,7 +17,7 @@ use Rattle.header.specs.declared.Number.{Number}
 use Rattle.header.specs.declared.Number.the-variants.{Read, Misfit}
 use Rattle.header.specs.declared.Head.{Head}
 use Rattle.header.specs.declared.Head.the-variants.{Found, Refused}
-use Rattle.header.specs.Header.{isWhite, isDigit, misfitOf, whiteOf, digitsOf, firstDigit, numberOf, pickNumber, behind, endOf, headerOf}
+use Rattle.header.specs.Header.{isWhite, isDigit, misfitOf, whiteOf, digitsOf, firstDigit, numberOf, behind, endOf, headerOf}
 
 -- two numbers, compared
 pub lt-or-ge : (a b : ℕ) → (a < b) ⊎ (b ≤ a)
@@ -217,7 +217,7 @@ pub first-within : (s : List ℕ) (at v e : ℕ) → at ≤ length s → firstDi
 unfolding firstDigit
 first-within s at v e l h = go (isDigit (getD s at 0)) h
   where
-    go : (t : Bool) → pickNumber t (digitsOf 5 (drop at s) 0 at) (Misfit (misfitOf (getD s at 0))) ≡ Read v e → e ≤ length s
+    go : (t : Bool) → cond t (digitsOf 5 (drop at s) 0 at) (Misfit (misfitOf (getD s at 0))) ≡ Read v e → e ≤ length s
     go true h = omega (arith, digits-upto 5 (drop at s) 0 at v e h, length-drop at s)
     go false h = let z : _≡_ {A = ℕ} 0 1 = cc in omega arith
 
@@ -226,7 +226,7 @@ pub number-within : (s : List ℕ) (at v e : ℕ) → at ≤ length s → number
 unfolding numberOf
 number-within s at v e l h = go (isWhite (getD s at 0)) h
   where
-    go : (t : Bool) → pickNumber t (firstDigit s (whiteOf (drop at s) at)) (Misfit (misfitOf (getD s at 0))) ≡ Read v e → e ≤ length s
+    go : (t : Bool) → cond t (firstDigit s (whiteOf (drop at s) at)) (Misfit (misfitOf (getD s at 0))) ≡ Read v e → e ≤ length s
     go true h = first-within s (whiteOf (drop at s) at) v e (white-le s at l) h
     go false h = let z : _≡_ {A = ℕ} 0 1 = cc in omega arith
 

@@ -15,6 +15,7 @@ use Rattle.header.specs.declared.Head.the-variants.{Found, Refused}
 unfoldable pub isWhite : ℕ → Bool
 isWhite b = eqb b 32 || eqb b 9 || eqb b 13 || eqb b 10
 
+-- a digit, `0` to `9`
 unfoldable pub isDigit : ℕ → Bool
 isDigit b = leb 48 b && leb b 57
 
@@ -34,21 +35,13 @@ digitsOf (suc most) [] v at = Read v at
 digitsOf (suc most) (b ∷ bs) v at =
     elim (isDigit b) [ true ↦ digitsOf most bs (v * 10 + (b - 48)) (at + 1) | false ↦ Read v at ]
 
-abbrev pub pickNumber : Bool → Number → Number → Number
-pickNumber true a b = a
-pickNumber false a b = b
-
-abbrev pub pickHead : Bool → Head → Head → Head
-pickHead true a b = a
-pickHead false a b = b
-
 -- one digit at least, at the place `at`
 unfoldable pub firstDigit : List ℕ → ℕ → Number
-firstDigit s at = pickNumber (isDigit (getD s at 0)) (digitsOf 5 (drop at s) 0 at) (Misfit (misfitOf (getD s at 0)))
+firstDigit s at = cond (isDigit (getD s at 0)) (digitsOf 5 (drop at s) 0 at) (Misfit (misfitOf (getD s at 0)))
 
 -- a number "after one or more white space bytes", at the place `at`
 unfoldable pub numberOf : List ℕ → ℕ → Number
-numberOf s at = pickNumber (isWhite (getD s at 0)) (firstDigit s (whiteOf (drop at s) at)) (Misfit (misfitOf (getD s at 0)))
+numberOf s at = cond (isWhite (getD s at 0)) (firstDigit s (whiteOf (drop at s) at)) (Misfit (misfitOf (getD s at 0)))
 
 -- what stands behind a number
 abbrev pub behind : Number → (ℕ → ℕ → Head) → Head
@@ -57,12 +50,12 @@ behind (Misfit n) k = Refused n
 
 -- "exactly one white space byte at the end"
 unfoldable pub endOf : List ℕ → ℕ → ℕ → ℕ → ℕ → Head
-endOf s w h m at = pickHead (isWhite (getD s at 0)) (Found w h m (at + 1)) (Refused (misfitOf (getD s at 0)))
+endOf s w h m at = cond (isWhite (getD s at 0)) (Found w h m (at + 1)) (Refused (misfitOf (getD s at 0)))
 
 -- "P5", then three numbers, width, height and maxval; what is found ends with the place where the raster starts
 unfoldable pub headerOf : List ℕ → Head
 headerOf s =
-    pickHead (eqb (getD s 0 0) 80 && eqb (getD s 1 0) 53)
+    cond (eqb (getD s 0 0) 80 && eqb (getD s 1 0) 53)
     (behind (numberOf s 2) (λ w at. behind (numberOf s at) (λ h at. behind (numberOf s at) (λ m at. endOf s w h m at))))
     (Refused 20)
 
