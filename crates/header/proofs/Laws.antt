@@ -21,15 +21,10 @@ use Rattle.header.specs.declared.Number.the-variants.{Read, Misfit}
 use Rattle.header.specs.declared.Head.{Head}
 use Rattle.header.specs.declared.Head.the-variants.{Found, Refused}
 use Rattle.header.specs.Header.{isWhite, isDigit, misfitOf, whiteOf, digitsOf, firstDigit, numberOf, behind, endOf, headerOf, decimalOf, headerBytes}
-use Rattle.header.proofs.Reading.{lt-or-ge, white-within, white-cons, digit-low, digit-high, digit-cons, digit-other, first-digits, number-behind, end-found, behind-read, header-magic, tens, tens-five, digits-small, digits-room}
+use Rattle.header.proofs.Reading.{lt-or-ge, white-within, white-cons, digit-low, digit-high, digit-cons, digit-other, digit-not-white, white-head, first-digits, number-behind, end-found, behind-read, behind-found, header-magic, tens, tens-five, digits-small, digits-room}
 use Rattle.header.proofs.Writing.{decimal-one, decimal-more, count-most, length-header}
 
 -- ---- what a header that is found, or refused, tells
-
-behind-found : (x : Number) (k : ℕ → ℕ → Head) {w h m at : ℕ} {P : Type 0}
-    → ((v e : ℕ) → x ≡ Read v e → k v e ≡ Found w h m at → P) → behind x k ≡ Found w h m at → P
-behind-found (Read v e) k f q = f v e refl q
-behind-found (Misfit n) k f q = absurd (let z : _≡_ {A = ℕ} 0 1 = cc in omega arith)
 
 end-inside : (s : List ℕ) (w h m i : ℕ) {w′ h′ m′ at : ℕ} → endOf s w h m i ≡ Found w′ h′ m′ at → (0 < at) × (at ≤ length s)
 unfolding endOf
@@ -274,17 +269,6 @@ first-digit (suc k) n t =
     ⊎-elim (first-one (suc k) n t)
     (λ h. rw (decimal-more (suc k) n h, append-assoc) (first-digit k (n / 10) (((48 + n % 10) ∷ []) ++ t)))
     (lt-or-ge n 10)
-
-digit-not-white : (b : ℕ) → isDigit b ≡ true → isWhite b ≡ false
-unfolding isWhite
-digit-not-white b h =
-    let l : 48 ≤ b = digit-low b h in
-    rw (ne-eqb b 32 (λ q. omega arith), ne-eqb b 9 (λ q. omega arith), ne-eqb b 13 (λ q. omega arith), ne-eqb b 10 (λ q. omega arith)) refl
-
-white-head : (bs : List ℕ) (i : ℕ) → isWhite (getD bs 0 0) ≡ false → whiteOf bs i ≡ i
-unfolding whiteOf
-white-head [] i h = refl
-white-head (b ∷ bs) i h = ap (λ (t : Bool). elim t [ true ↦ whiteOf bs (i + 1) | false ↦ i ]) h
 
 -- a number behind one white space byte, with a byte behind it that is no digit
 number-read : (pre : List ℕ) (b n c : ℕ) (t : List ℕ) → isWhite b ≡ true → n < tens 5 → isDigit c ≡ false

@@ -1,3 +1,4 @@
 pub mod Reading
 pub mod Writing
+pub mod Grammar
 pub mod Laws

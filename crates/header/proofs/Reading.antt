@@ -59,6 +59,13 @@ pub digit-high : (b : ℕ) → isDigit b ≡ true → b ≤ 57
 unfolding isDigit
 digit-high b h = leb-true b 57 (and-right (leb 48 b) (leb b 57) h)
 
+-- a digit is no white space
+pub digit-not-white : (b : ℕ) → isDigit b ≡ true → isWhite b ≡ false
+unfolding isWhite
+digit-not-white b h =
+    let l : 48 ≤ b = digit-low b h in
+    rw (ne-eqb b 32 (λ q. omega arith), ne-eqb b 9 (λ q. omega arith), ne-eqb b 13 (λ q. omega arith), ne-eqb b 10 (λ q. omega arith)) refl
+
 -- ---- white space
 
 -- white space in front is passed over
@@ -70,6 +77,12 @@ white-cons b bs i h = ap (λ (t : Bool). elim t [ true ↦ whiteOf bs (i + 1) | 
 pub white-other : (b : ℕ) (bs : List ℕ) (i : ℕ) → isWhite b ≡ false → whiteOf (b ∷ bs) i ≡ i
 unfolding whiteOf
 white-other b bs i h = ap (λ (t : Bool). elim t [ true ↦ whiteOf bs (i + 1) | false ↦ i ]) h
+
+-- no white space in front, none is passed over
+pub white-head : (bs : List ℕ) (i : ℕ) → isWhite (getD bs 0 0) ≡ false → whiteOf bs i ≡ i
+unfolding whiteOf
+white-head [] i h = refl
+white-head (b ∷ bs) i h = ap (λ (t : Bool). elim t [ true ↦ whiteOf bs (i + 1) | false ↦ i ]) h
 
 -- a turn of the loop over white space
 pub white-step : (s : List ℕ) (i : ℕ) → isWhite (getD s i 0) ≡ true → whiteOf (drop i s) i ≡ whiteOf (drop (i + 1) s) (i + 1)
@@ -249,6 +262,12 @@ behind-read k q = ap (λ n. behind n k) q
 -- a misfit is the refusal
 pub behind-misfit : {x : Number} {n : ℕ} (k : ℕ → ℕ → Head) → x ≡ Misfit n → behind x k ≡ Refused n
 behind-misfit k q = ap (λ n. behind n k) q
+
+-- what is found behind a number was found behind one that was read
+pub behind-found : (x : Number) (k : ℕ → ℕ → Head) {w h m at : ℕ} {P : Type 0}
+    → ((v e : ℕ) → x ≡ Read v e → k v e ≡ Found w h m at → P) → behind x k ≡ Found w h m at → P
+behind-found (Read v e) k f q = f v e refl q
+behind-found (Misfit n) k f q = absurd (let z : _≡_ {A = ℕ} 0 1 = cc in omega arith)
 
 -- the magic's first byte is another, its second is another, or both are right
 pub header-first : (s : List ℕ) → (getD s 0 0 ≡ 80 → ⊥) → headerOf s ≡ Refused 20
