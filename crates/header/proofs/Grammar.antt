@@ -25,25 +25,25 @@ use Rattle.header.proofs.Reading.{white-within, digit-within, digit-not
 -- ---- bytes that stand at a place
 
 -- the byte at a place is the first of those that stand there
-byte-at : (s : List ℕ) (at : ℕ) {t : List ℕ} → drop at s ≡ t → getD s at 0 ≡ getD t 0 0
+pub byte-at : (s : List ℕ) (at : ℕ) {t : List ℕ} → drop at s ≡ t → getD s at 0 ≡ getD t 0 0
 byte-at s at e = ap (λ i. getD s i 0) (sym (add-zero at)) ∙ (sym (getD-drop at s 0 0) ∙ ap (λ u. getD u 0 0) e)
 
 -- behind the bytes xs stands what follows them
-drop-behind : (s : List ℕ) (at : ℕ) (xs : List ℕ) {t : List ℕ} → drop at s ≡ xs ++ t → drop (at + length xs) s ≡ t
+pub drop-behind : (s : List ℕ) (at : ℕ) (xs : List ℕ) {t : List ℕ} → drop at s ≡ xs ++ t → drop (at + length xs) s ≡ t
 drop-behind s at xs {t} e = sym (drop-drop (length xs) at s) ∙ (ap (drop (length xs)) e ∙ drop-append-seam xs t)
 
 -- a byte that is there, and what follows it
-drop-byte : (s : List ℕ) (at : ℕ) → at < length s → drop at s ≡ getD s at 0 ∷ drop (at + 1) s
+pub drop-byte : (s : List ℕ) (at : ℕ) → at < length s → drop at s ≡ getD s at 0 ∷ drop (at + 1) s
 drop-byte s at l = drop-cons s at 0 l ∙ ap (λ i. getD s at 0 ∷ drop i s) (sym (add-one at))
 
 -- the first of some bytes that all pass a test passes it
-all-first : (p : ℕ → Bool) (xs ys : List ℕ) → 0 < length xs → all p xs ≡ true → p (getD (xs ++ ys) 0 0) ≡ true
+pub all-first : (p : ℕ → Bool) (xs ys : List ℕ) → 0 < length xs → all p xs ≡ true → p (getD (xs ++ ys) 0 0) ≡ true
 unfolding all
 all-first p [] ys l h = absurd (not-suc-le-zero l)
 all-first p (x ∷ xs) ys l h = and-left (p x) _ h
 
 -- white space is no digit
-white-not-digit : (b : ℕ) → isWhite b ≡ true → isDigit b ≡ false
+pub white-not-digit : (b : ℕ) → isWhite b ≡ true → isDigit b ≡ false
 white-not-digit b h = go (isDigit b) refl
   where
     go : (t : Bool) → isDigit b ≡ t → isDigit b ≡ false
@@ -53,7 +53,7 @@ white-not-digit b h = go (isDigit b) refl
 -- ---- what the grammar has is read
 
 -- white space in front of another byte is passed over as a whole
-white-run : (ws t : List ℕ) (i : ℕ) → all isWhite ws ≡ true → isWhite (getD t 0 0) ≡ false → whiteOf (ws ++ t) i ≡ i + length ws
+pub white-run : (ws t : List ℕ) (i : ℕ) → all isWhite ws ≡ true → isWhite (getD t 0 0) ≡ false → whiteOf (ws ++ t) i ≡ i + length ws
 unfolding all
 white-run [] t i a h = white-head t i h ∙ sym (add-zero i)
 white-run (b ∷ ws) t i a h =
@@ -75,11 +75,11 @@ digits-run (b ∷ ds) t (suc k) v i a l h =
     ∙ (digits-run ds t k (v * 10 + (b - 48)) (i + 1) (and-right (isDigit b) _ a) (omega arith) h ∙ ap (Read (valueOf v (b ∷ ds))) place)
 
 -- a number of the grammar starts with white space
-numeral-white : {bs : List ℕ} {n : ℕ} → Numeral bs n → (t : List ℕ) → isWhite (getD (bs ++ t) 0 0) ≡ true
+pub numeral-white : {bs : List ℕ} {n : ℕ} → Numeral bs n → (t : List ℕ) → isWhite (getD (bs ++ t) 0 0) ≡ true
 numeral-white x t = rw (x .bytes, append-assoc) (all-first isWhite (x .white) (x .digits ++ t) (x .someWhite) (x .allWhite))
 
 -- a number of the grammar, with a byte behind it that is no digit, is read
-number-reads : (s : List ℕ) (at : ℕ) (rest : List ℕ) {bs : List ℕ} {n : ℕ} → Numeral bs n → drop at s ≡ bs ++ rest → isDigit (getD rest 0 0) ≡ false
+pub number-reads : (s : List ℕ) (at : ℕ) (rest : List ℕ) {bs : List ℕ} {n : ℕ} → Numeral bs n → drop at s ≡ bs ++ rest → isDigit (getD rest 0 0) ≡ false
     → numberOf s at ≡ Read n (at + length bs)
 number-reads s at rest {bs} {n} x e stop =
     number-behind s at (ap isWhite (byte-at s at e) ∙ numeral-white x rest)
@@ -142,9 +142,9 @@ module _ {bs : List ℕ} {w h m : ℕ} {rest : List ℕ} (g : Header bs w h m re
 -- ---- what is read, the grammar has
 
 -- the bytes xs stand from a place i to a place e, and all of them pass a test
-record Run (p : ℕ → Bool) (s : List ℕ) (i : ℕ) (xs : List ℕ) (e : ℕ) : Type 0 where
-  bytes : drop i s ≡ xs ++ drop e s
-  passes : all p xs ≡ true
+pub record Run (p : ℕ → Bool) (s : List ℕ) (i : ℕ) (xs : List ℕ) (e : ℕ) : Type 0 where
+  pub bytes : drop i s ≡ xs ++ drop e s
+  pub passes : all p xs ≡ true
 
 run-none : (p : ℕ → Bool) (s : List ℕ) {i e : ℕ} → i ≡ e → Run p s i [] e
 unfolding all
@@ -171,7 +171,7 @@ white-taken s (b ∷ bs) i q = go (isWhite b) refl (white-taken s bs (i + 1) (dr
     go false h r = ([], run-none isWhite s refl)
 
 -- some white space, where a byte of it stands
-white-some : (s : List ℕ) (i : ℕ) → isWhite (getD s i 0) ≡ true → (ws : List ℕ) × Run isWhite s i ws (whiteOf (drop i s) i) × (0 < length ws)
+pub white-some : (s : List ℕ) (i : ℕ) → isWhite (getD s i 0) ≡ true → (ws : List ℕ) × Run isWhite s i ws (whiteOf (drop i s) i) × (0 < length ws)
 white-some s i h =
     let r = white-taken s (drop (i + 1) s) (i + 1) refl in
     (getD s i 0 ∷ r .0, rw (white-step s i h) (run-more isWhite s i (getD s i 0) (drop-byte s i (white-within s i h)) h (r .1)), omega arith)
@@ -217,13 +217,13 @@ digits-some s i n e h q =
     (getD s i 0 ∷ d .0, digits-more s 4 0 i n (getD s i 0) (drop-byte s i (digit-within s i h)) h (d .1), omega arith)
 
 -- a number of the grammar from a place i to a place e
-record NumberAt (s : List ℕ) (i n e : ℕ) : Type 0 where
-  text : List ℕ
-  numeral : Numeral text n
-  bytes : drop i s ≡ text ++ drop e s
+pub record NumberAt (s : List ℕ) (i n e : ℕ) : Type 0 where
+  pub text : List ℕ
+  pub numeral : Numeral text n
+  pub bytes : drop i s ≡ text ++ drop e s
 
 -- a number that is read is one of the grammar
-number-sound : (s : List ℕ) (i n e : ℕ) → numberOf s i ≡ Read n e → NumberAt s i n e
+pub number-sound : (s : List ℕ) (i n e : ℕ) → numberOf s i ≡ Read n e → NumberAt s i n e
 unfolding numberOf firstDigit
 number-sound s i n e q = white (isWhite (getD s i 0)) refl q
   where
@@ -275,7 +275,7 @@ end-tells s w h m i {w′} {h′} {m′} {at} q = go (isWhite (getD s i 0)) refl
     go true p q = record { width = cc; height = cc; maxval = cc; place = cc; last = p }
     go false p q = absurd (let z : _≡_ {A = ℕ} 0 1 = cc in omega arith)
 
-magic-bytes : (s : List ℕ) → (eqb (getD s 0 0) 80 && eqb (getD s 1 0) 53) ≡ true → s ≡ (80 ∷ 53 ∷ []) ++ drop 2 s
+pub magic-bytes : (s : List ℕ) → (eqb (getD s 0 0) 80 && eqb (getD s 1 0) 53) ≡ true → s ≡ (80 ∷ 53 ∷ []) ++ drop 2 s
 magic-bytes s h =
     let a : getD s 0 0 ≡ 80 = eqb-true (getD s 0 0) 80 (and-left _ _ h) in
     let b : getD s 1 0 ≡ 53 = eqb-true (getD s 1 0) 53 (and-right (eqb (getD s 0 0) 80) _ h) in

@@ -21,7 +21,7 @@ use Rattle.header.specs.declared.Number.the-variants.{Read, Misfit}
 use Rattle.header.specs.declared.Head.{Head}
 use Rattle.header.specs.declared.Head.the-variants.{Found, Refused}
 use Rattle.header.specs.Header.{isWhite, isDigit, misfitOf, whiteOf, digitsOf, firstDigit, numberOf, behind, endOf, headerOf, decimalOf, headerBytes}
-use Rattle.header.proofs.Reading.{lt-or-ge, white-within, white-cons, digit-low, digit-high, digit-cons, digit-other, digit-not-white, white-head, first-digits, number-behind, end-found, behind-read, behind-found, header-magic, tens, tens-five, digits-small, digits-room}
+use Rattle.header.proofs.Reading.{lt-or-ge, white-within, white-cons, digit-low, digit-high, digit-cons, digit-other, digit-not-white, white-head, first-digits, number-behind, end-found, digits-never, behind-read, behind-found, behind-refused, header-magic, tens, tens-five, digits-small, digits-room}
 use Rattle.header.proofs.Writing.{decimal-one, decimal-more, count-most, length-header}
 
 -- ---- what a header that is found, or refused, tells
@@ -72,17 +72,6 @@ misfit-number b = go (eqb b 35)
     go true = inr refl
     go false = inl refl
 
-digits-never : (k : ℕ) (bs : List ℕ) (v i n : ℕ) → digitsOf k bs v i ≡ Misfit n → ⊥
-unfolding digitsOf
-digits-never zero bs v i n q = let z : _≡_ {A = ℕ} 0 1 = cc in omega arith
-digits-never (suc k) [] v i n q = let z : _≡_ {A = ℕ} 0 1 = cc in omega arith
-digits-never (suc k) (b ∷ bs) v i n q = go (isDigit b) (digits-never k bs (v * 10 + (b - 48)) (i + 1) n) q
-  where
-    go : (t : Bool) → (digitsOf k bs (v * 10 + (b - 48)) (i + 1) ≡ Misfit n → ⊥)
-        → elim t [ true ↦ digitsOf k bs (v * 10 + (b - 48)) (i + 1) | false ↦ Read v i ] ≡ Misfit n → ⊥
-    go true f q = f q
-    go false f q = let z : _≡_ {A = ℕ} 0 1 = cc in omega arith
-
 misfit-same : (b : ℕ) {n : ℕ} → Misfit (misfitOf b) ≡ Misfit n → Number20 n
 misfit-same b {n} q = let e : misfitOf b ≡ n = cc in ⊎-elim (λ p. inl (sym e ∙ p)) (λ p. inr (sym e ∙ p)) (misfit-number b)
 
@@ -112,14 +101,6 @@ end-refused s w h m i {n} q = go (isWhite (getD s i 0)) q
         let e : misfitOf (getD s i 0) ≡ n = cc in
         ⊎-elim (λ p. inl (sym e ∙ p)) (λ p. inr (sym e ∙ p)) (misfit-number (getD s i 0))
 
-behind-refused : (s : List ℕ) (i : ℕ) (k : ℕ → ℕ → Head) {n : ℕ}
-    → ((v e : ℕ) → k v e ≡ Refused n → Number20 n) → behind (numberOf s i) k ≡ Refused n → Number20 n
-behind-refused s i k {n} f q = go (numberOf s i) refl q
-  where
-    go : (x : Number) → numberOf s i ≡ x → behind x k ≡ Refused n → Number20 n
-    go (Read v e) p q = f v e q
-    go (Misfit l) p q = let e : l ≡ n = cc in number-refused s i (p ∙ ap Misfit e)
-
 -- "20" and "21" are the only refusals of a header
 pub refused-number : (s : List ℕ) {n : ℕ} → headerOf s ≡ Refused n → (n ≡ 20) ⊎ (n ≡ 21)
 unfolding headerOf
@@ -132,8 +113,11 @@ refused-number s {n} q = go (eqb (getD s 0 0) 80 && eqb (getD s 1 0) 53) q
         ≡ Refused n
         → (n ≡ 20) ⊎ (n ≡ 21)
     go true q =
-        behind-refused s 2 _
-        (λ w e q. behind-refused s e _ (λ h e q. behind-refused s e _ (λ m e q. end-refused s w h m e q) q) q)
+        behind-refused (numberOf s 2) _ (number-refused s 2)
+        (λ w e p q.
+        behind-refused (numberOf s e) _ (number-refused s e)
+        (λ h e p q. behind-refused (numberOf s e) _ (number-refused s e) (λ m e p q. end-refused s w h m e q) q)
+        q)
         q
     go false q = let e : n ≡ 20 = cc in inl e
 

@@ -165,6 +165,18 @@ digits-upto (suc k) (b ∷ bs) v i w e h = go (isDigit b) (λ q. digits-upto k b
     go true f h = omega (arith, f h)
     go false f h = let q : i ≡ e = cc in omega arith
 
+-- digits are no misfit
+pub digits-never : (k : ℕ) (bs : List ℕ) (v i n : ℕ) → digitsOf k bs v i ≡ Misfit n → ⊥
+unfolding digitsOf
+digits-never zero bs v i n q = let z : _≡_ {A = ℕ} 0 1 = cc in omega arith
+digits-never (suc k) [] v i n q = let z : _≡_ {A = ℕ} 0 1 = cc in omega arith
+digits-never (suc k) (b ∷ bs) v i n q = go (isDigit b) (digits-never k bs (v * 10 + (b - 48)) (i + 1) n) q
+  where
+    go : (t : Bool) → (digitsOf k bs (v * 10 + (b - 48)) (i + 1) ≡ Misfit n → ⊥)
+        → elim t [ true ↦ digitsOf k bs (v * 10 + (b - 48)) (i + 1) | false ↦ Read v i ] ≡ Misfit n → ⊥
+    go true f q = f q
+    go false f q = let z : _≡_ {A = ℕ} 0 1 = cc in omega arith
+
 -- a turn of the loop that reads digits, where the byte read is b
 pub digit-next : (s : List ℕ) (i v left b : ℕ) → 0 < left → b ≡ getD s i 0 → isDigit b ≡ true
     → digitsOf left (drop i s) v i ≡ digitsOf (left - 1) (drop (i + 1) s) (v * 10 + (b - 48)) (i + 1)
@@ -268,6 +280,12 @@ pub behind-found : (x : Number) (k : ℕ → ℕ → Head) {w h m at : ℕ} {P :
     → ((v e : ℕ) → x ≡ Read v e → k v e ≡ Found w h m at → P) → behind x k ≡ Found w h m at → P
 behind-found (Read v e) k f q = f v e refl q
 behind-found (Misfit n) k f q = absurd (let z : _≡_ {A = ℕ} 0 1 = cc in omega arith)
+
+-- what is refused behind a number is refused for the number, or behind one that was read
+pub behind-refused : (x : Number) (k : ℕ → ℕ → Head) {n : ℕ} {P : Type 0}
+    → (x ≡ Misfit n → P) → ((v e : ℕ) → x ≡ Read v e → k v e ≡ Refused n → P) → behind x k ≡ Refused n → P
+behind-refused (Read v e) k f g q = g v e refl q
+behind-refused (Misfit l) k {n} f g q = let e : l ≡ n = cc in f (ap Misfit e)
 
 -- the magic's first byte is another, its second is another, or both are right
 pub header-first : (s : List ℕ) → (getD s 0 0 ≡ 80 → ⊥) → headerOf s ≡ Refused 20

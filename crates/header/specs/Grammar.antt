@@ -38,3 +38,15 @@ pub record Header (bs : List ℕ) (w h m : ℕ) (rest : List ℕ) : Type 0 where
   pub heightIs : Numeral height h
   pub maxvalIs : Numeral maxval m
   pub lastWhite : isWhite last ≡ true
+
+-- bytes where, "behind `P5`, a `#`" stands "instead of white space or a digit": with some other byte in its place the bytes before it start a header that ends no sooner
+pub record Hash (bs : List ℕ) : Type 0 where
+  pub before : List ℕ
+  pub behind : List ℕ
+  pub bytes : bs ≡ (80 ∷ 53 ∷ []) ++ (before ++ (35 ∷ behind))
+  pub due : ℕ
+  pub more : List ℕ
+  pub w : ℕ
+  pub h : ℕ
+  pub m : ℕ
+  pub header : Header ((80 ∷ 53 ∷ []) ++ (before ++ (due ∷ more))) w h m []
