@@ -14,9 +14,7 @@ use native.Mathlib.Numerals.{add-one}
 use borrow.Author.Tests.{eqb-true}
 use Rattle.lists.specs.Lists.{all}
 use Rattle.lists.proofs.Tabs.{and-left, and-right, and-both}
-use Rattle.header.specs.declared.Number.{Number}
 use Rattle.header.specs.declared.Number.the-variants.{Read, Misfit}
-use Rattle.header.specs.declared.Head.{Head}
 use Rattle.header.specs.declared.Head.the-variants.{Found, Refused}
 use Rattle.header.specs.Header.{isWhite, isDigit, misfitOf, whiteOf, digitsOf, firstDigit, numberOf, behind, endOf, headerOf}
 use Rattle.header.specs.Grammar.{valueOf, Numeral, Header}
@@ -134,6 +132,10 @@ module _ {bs : List ℕ} {w h m : ℕ} {rest : List ℕ} (g : Header bs w h m re
       ∙ (behind-read _ (number-reads bs _ _ (g .heightIs) from-height (white-not-digit _ (numeral-white (g .maxvalIs) _)))
       ∙ (behind-read _ (number-reads bs _ _ (g .maxvalIs) from-maxval (white-not-digit _ (g .lastWhite)))
       ∙ (end-found bs w h m _ (ap isWhite (byte-at bs _ from-last) ∙ g .lastWhite) ∙ ap (Found w h m) place))))
+
+  -- it takes some of the bytes
+  pub header-longer : length rest < length bs
+  header-longer = omega (arith, place)
 
   -- and what is left stands behind it
   pub header-rest : drop (length bs - length rest) bs ≡ rest

@@ -1,5 +1,5 @@
 -- Laws of the header for the calls that read and write it: where a header that is found ends, which refusals there are,
--- how long a written header is, that its entries are bytes, and that it is read back as it was written.
+-- how long a written header is, that its entries are bytes, that it is one of the grammar, and so is read back as it was written.
 -- Assumes nothing.
 use Prim.Native.Nat.{ℕ, zero, suc, _+_, _-_, _*_, _/_, _%_, _≤_, _<_}
 use mathlib.Core.Bool.{Bool, true, false, _&&_, cond}
@@ -7,59 +7,29 @@ use mathlib.Core.List.{List, [], _∷_, _++_, append-assoc}
 use mathlib.Core.Logic.{_⊎_, inl, inr, ⊎-elim}
 use mathlib.Core.Path.{_≡_, refl, sym, ap, _∙_}
 use lib.Dec.{leb, ltb, eqb}
-use lib.ListN.{length, drop, getD, length-append}
-use lib.Seq.{drop-append-seam, drop-append-add, getD-append-seam, getD-append-add}
-use native.Mathlib.Nat.{zero-add, add-zero}
+use lib.ListN.{length, drop, getD, length-append, length-drop}
 use native.Mathlib.Omega.{arith}
-use native.Mathlib.Numerals.{one-add}
-use borrow.Author.Tests.{le-leb, lt-ltb, ne-eqb}
+use borrow.Author.Tests.{le-leb, lt-ltb}
 use Rattle.lists.specs.Lists.{all}
-use Rattle.lists.proofs.Tabs.{and-both}
-use Rattle.lists.proofs.Alls.{all-both}
-use Rattle.header.specs.declared.Number.{Number}
-use Rattle.header.specs.declared.Number.the-variants.{Read, Misfit}
-use Rattle.header.specs.declared.Head.{Head}
+use Rattle.lists.proofs.Tabs.{and-both, and-left, and-right}
+use Rattle.lists.proofs.Alls.{all-one, all-both, all-weak}
+use Rattle.header.specs.declared.Number.the-variants.{Misfit}
 use Rattle.header.specs.declared.Head.the-variants.{Found, Refused}
 use Rattle.header.specs.Header.{isWhite, isDigit, misfitOf, whiteOf, digitsOf, firstDigit, numberOf, behind, endOf, headerOf, decimalOf, headerBytes}
-use Rattle.header.proofs.Reading.{lt-or-ge, white-within, white-cons, digit-low, digit-high, digit-cons, digit-other, digit-not-white, white-head, first-digits, number-behind, end-found, digits-never, behind-read, behind-found, behind-refused, header-magic, tens, tens-five, digits-small, digits-room}
-use Rattle.header.proofs.Writing.{decimal-one, decimal-more, count-most, length-header}
+use Rattle.header.specs.Grammar.{valueOf, Numeral, Header}
+use Rattle.header.proofs.Reading.{lt-or-ge, digit-high, digits-never, behind-refused, tens, tens-five, digits-small, digits-room}
+use Rattle.header.proofs.Writing.{decimal-one, decimal-more, count-most, count-least, length-header}
+use Rattle.header.proofs.Grammar.{header-complete, header-sound, header-longer}
 
 -- ---- what a header that is found, or refused, tells
 
-end-inside : (s : List ℕ) (w h m i : ℕ) {w′ h′ m′ at : ℕ} → endOf s w h m i ≡ Found w′ h′ m′ at → (0 < at) × (at ≤ length s)
-unfolding endOf
-end-inside s w h m i {w′} {h′} {m′} {at} q = go (isWhite (getD s i 0)) refl q
-  where
-    go : (t : Bool) → isWhite (getD s i 0) ≡ t → cond t (Found w h m (i + 1)) (Refused (misfitOf (getD s i 0))) ≡ Found w′ h′ m′ at
-        → (0 < at) × (at ≤ length s)
-    go true p q = let e : i + 1 ≡ at = cc in (omega arith, omega (arith, white-within s i p))
-    go false p q = absurd (let z : _≡_ {A = ℕ} 0 1 = cc in omega arith)
-
--- the raster of a header that is found starts behind the first byte and within the bytes
-found-inside : (s : List ℕ) {w h m at : ℕ} → headerOf s ≡ Found w h m at → (0 < at) × (at ≤ length s)
-unfolding headerOf
-found-inside s {w} {h} {m} {at} q = go (eqb (getD s 0 0) 80 && eqb (getD s 1 0) 53) q
-  where
-    go : (t : Bool)
-        → cond t
-        (behind (numberOf s 2) (λ w at. behind (numberOf s at) (λ h at. behind (numberOf s at) (λ m at. endOf s w h m at))))
-        (Refused 20)
-        ≡ Found w h m at
-        → (0 < at) × (at ≤ length s)
-    go true q =
-        behind-found (numberOf s 2) _
-        (λ w e p q.
-        behind-found (numberOf s e) _ (λ h e p q. behind-found (numberOf s e) _ (λ m e p q. end-inside s w h m e q) q) q)
-        q
-    go false q = absurd (let z : _≡_ {A = ℕ} 0 1 = cc in omega arith)
-
 -- the place of the raster is within the bytes
 pub found-within : (s : List ℕ) {w h m at : ℕ} → headerOf s ≡ Found w h m at → at ≤ length s
-found-within s q = found-inside s q .1
+found-within s q = header-sound s q .0
 
 -- the raster never starts at 0
 pub found-positive : (s : List ℕ) {w h m at : ℕ} → headerOf s ≡ Found w h m at → 0 < at
-found-positive s q = found-inside s q .0
+found-positive s {at = at} q = omega (arith, header-longer (header-sound s q .1), length-drop at s)
 
 abbrev Number20 : ℕ → Type 0
 Number20 n = (n ≡ 20) ⊎ (n ≡ 21)
@@ -123,74 +93,19 @@ refused-number s {n} q = go (eqb (getD s 0 0) 80 && eqb (getD s 1 0) 53) q
 
 -- ---- a number that is read is below 100000
 
-digits-below : (k : ℕ) (bs : List ℕ) (v i w e : ℕ) → (v + 1) * tens k ≤ 100000 → digitsOf k bs v i ≡ Read w e → w < 100000
-unfolding digitsOf
-digits-below zero bs v i w e l q = let p : v ≡ w = cc in omega (arith, digits-small v 0 l)
-digits-below (suc k) [] v i w e l q = let p : v ≡ w = cc in omega (arith, digits-small v (suc k) l)
-digits-below (suc k) (b ∷ bs) v i w e l q = go (isDigit b) refl (digits-below k bs (v * 10 + (b - 48)) (i + 1) w e) q
-  where
-    go : (t : Bool) → isDigit b ≡ t
-        → ((v * 10 + (b - 48) + 1) * tens k ≤ 100000 → digitsOf k bs (v * 10 + (b - 48)) (i + 1) ≡ Read w e → w < 100000)
-        → elim t [ true ↦ digitsOf k bs (v * 10 + (b - 48)) (i + 1) | false ↦ Read v i ] ≡ Read w e → w < 100000
-    go true d f q =
-        let p : suc k - 1 ≡ k = omega arith in
-        let r : (v * 10 + (b - 48) + 1) * tens (suc k - 1) ≤ 100000 =
-        digits-room v (suc k) (b - 48) (omega arith) (omega (arith, digit-high b d)) l in
-        f (rw p at r) q
-    go false d f q = let p : v ≡ w = cc in omega (arith, digits-small v (suc k) l)
+value-below : (ds : List ℕ) (v k : ℕ) → length ds ≤ k → all isDigit ds ≡ true → (v + 1) * tens k ≤ 100000 → valueOf v ds < 100000
+unfolding all valueOf
+value-below [] v k l a h = digits-small v k h
+value-below (b ∷ ds) v k l a h =
+    value-below ds (v * 10 + (b - 48)) (k - 1) (omega arith) (and-right (isDigit b) _ a)
+    (digits-room v k (b - 48) (omega arith) (omega (arith, digit-high b (and-left (isDigit b) _ a))) h)
 
-first-below : (s : List ℕ) (i v e : ℕ) → firstDigit s i ≡ Read v e → v < 100000
-unfolding firstDigit
-first-below s i v e q = go (isDigit (getD s i 0)) q
-  where
-    go : (t : Bool) → cond t (digitsOf 5 (drop i s) 0 i) (Misfit (misfitOf (getD s i 0))) ≡ Read v e → v < 100000
-    go true q = digits-below 5 (drop i s) 0 i v e tens-five q
-    go false q = absurd (let z : _≡_ {A = ℕ} 0 1 = cc in omega arith)
-
-number-below : (s : List ℕ) (i v e : ℕ) → numberOf s i ≡ Read v e → v < 100000
-unfolding numberOf
-number-below s i v e q = go (isWhite (getD s i 0)) q
-  where
-    go : (t : Bool) → cond t (firstDigit s (whiteOf (drop i s) i)) (Misfit (misfitOf (getD s i 0))) ≡ Read v e → v < 100000
-    go true q = first-below s (whiteOf (drop i s) i) v e q
-    go false q = absurd (let z : _≡_ {A = ℕ} 0 1 = cc in omega arith)
-
-end-same : (s : List ℕ) (w h m i : ℕ) {w′ h′ m′ at : ℕ} → endOf s w h m i ≡ Found w′ h′ m′ at → (w ≡ w′) × (h ≡ h′) × (m ≡ m′)
-unfolding endOf
-end-same s w h m i {w′} {h′} {m′} {at} q = go (isWhite (getD s i 0)) q
-  where
-    go : (t : Bool) → cond t (Found w h m (i + 1)) (Refused (misfitOf (getD s i 0))) ≡ Found w′ h′ m′ at → (w ≡ w′) × (h ≡ h′) × (m ≡ m′)
-    go true q = (cc, cc, cc)
-    go false q = absurd (let z : _≡_ {A = ℕ} 0 1 = cc in omega arith)
+numeral-below : {bs : List ℕ} {n : ℕ} → Numeral bs n → n < 100000
+numeral-below x = omega (arith, x .value, value-below (x .digits) 0 5 (x .fewDigits) (x .allDigits) tens-five)
 
 -- "numbers of 1 to 5 digits": width, height and maxval of a header that is found are below 100000
 pub found-below : (s : List ℕ) {w h m at : ℕ} → headerOf s ≡ Found w h m at → (w < 100000) × (h < 100000) × (m < 100000)
-unfolding headerOf
-found-below s {w} {h} {m} {at} q = go (eqb (getD s 0 0) 80 && eqb (getD s 1 0) 53) q
-  where
-    all-three : {a b c : ℕ} (e : ℕ) → a < 100000 → b < 100000 → c < 100000 → endOf s a b c e ≡ Found w h m at
-        → (w < 100000) × (h < 100000) × (m < 100000)
-    all-three {a} {b} {c} e la lb lc q =
-        let r : (a ≡ w) × (b ≡ h) × (c ≡ m) = end-same s a b c e q in
-        (omega arith, omega arith, omega arith)
-
-    go : (t : Bool)
-        → cond t
-        (behind (numberOf s 2) (λ w at. behind (numberOf s at) (λ h at. behind (numberOf s at) (λ m at. endOf s w h m at))))
-        (Refused 20)
-        ≡ Found w h m at
-        → (w < 100000) × (h < 100000) × (m < 100000)
-    go true q =
-        behind-found (numberOf s 2) _
-        (λ a e p q.
-        behind-found (numberOf s e) _
-        (λ b f r q.
-        behind-found (numberOf s f) _
-        (λ c g u q. all-three g (number-below s 2 a e p) (number-below s e b f r) (number-below s f c g u) q)
-        q)
-        q)
-        q
-    go false q = absurd (let z : _≡_ {A = ℕ} 0 1 = cc in omega arith)
+found-below s q = let g = header-sound s q .1 in (numeral-below (g .widthIs), numeral-below (g .heightIs), numeral-below (g .maxvalIs))
 
 -- ---- how long a written header is
 
@@ -198,197 +113,87 @@ found-below s {w} {h} {m} {at} q = go (eqb (getD s 0 0) 80 && eqb (getD s 1 0) 5
 pub header-bytes-small : (w h m : ℕ) → length (headerBytes w h m) ≤ 21
 header-bytes-small w h m = omega (arith, length-header w h m, count-most 5 w, count-most 5 h, count-most 5 m)
 
--- ---- a written number is read back
+-- ---- a written header is one of the grammar
 
 digit-of : (n : ℕ) → n < 10 → isDigit (48 + n) ≡ true
 unfolding isDigit
 digit-of n h = and-both (leb 48 (48 + n)) (leb (48 + n) 57) (le-leb 48 (48 + n) (omega arith)) (le-leb (48 + n) 57 (omega arith))
 
-read-one : (k j n : ℕ) (t : List ℕ) (at : ℕ) → n < 10
-    → digitsOf (length (decimalOf (suc k) n) + j) (decimalOf (suc k) n ++ t) 0 at ≡ digitsOf j t n (at + length (decimalOf (suc k) n))
-read-one k j n t at h =
-    let e : 0 * 10 + (48 + n - 48) ≡ n = omega arith in
-    rw (decimal-one k n h, one-add j) (digit-cons (48 + n) t j 0 at (digit-of n h) ∙ ap (λ v. digitsOf j t v (at + 1)) e)
-
-read-more : (k j n : ℕ) (t : List ℕ) (at : ℕ) → 10 ≤ n
-    → digitsOf (length (decimalOf k (n / 10)) + suc j) (decimalOf k (n / 10) ++ ((48 + n % 10) ∷ t)) 0 at
-    ≡ digitsOf (suc j) ((48 + n % 10) ∷ t) (n / 10) (at + length (decimalOf k (n / 10)))
-    → digitsOf (length (decimalOf (suc k) n) + j) (decimalOf (suc k) n ++ t) 0 at ≡ digitsOf j t n (at + length (decimalOf (suc k) n))
-read-more k j n t at h q =
-    let l : length (decimalOf k (n / 10)) + 1 + j ≡ length (decimalOf k (n / 10)) + suc j = omega arith in
-    let r : at + (length (decimalOf k (n / 10)) + 1) ≡ at + length (decimalOf k (n / 10)) + 1 = omega arith in
-    let e : n / 10 * 10 + (48 + n % 10 - 48) ≡ n = omega arith in
-    rw (decimal-more k n h, length-append, l, append-assoc, r)
-    (q
-    ∙ (digit-cons (48 + n % 10) t j (n / 10) (at + length (decimalOf k (n / 10))) (digit-of (n % 10) (omega arith))
-    ∙ ap (λ v. digitsOf j t v (at + length (decimalOf k (n / 10)) + 1)) e))
-
-read-none : (j n : ℕ) (t : List ℕ) (at : ℕ) → n < 1
-    → digitsOf (length (decimalOf 0 n) + j) (decimalOf 0 n ++ t) 0 at ≡ digitsOf j t n (at + length (decimalOf 0 n))
-unfolding decimalOf
-read-none j n t at h = let e : n ≡ 0 = omega arith in rw (e, zero-add, add-zero) refl
-
--- the digits of n, read in front of any bytes t, leave the rest of the room to t
-digits-read : (k j n : ℕ) (t : List ℕ) (at : ℕ) → n < tens k
-    → digitsOf (length (decimalOf k n) + j) (decimalOf k n ++ t) 0 at ≡ digitsOf j t n (at + length (decimalOf k n))
-unfolding tens
-digits-read zero j n t at h = read-none j n t at h
-digits-read (suc k) j n t at h =
+-- what the writer lays down for a number is digits
+decimal-digits : (k n : ℕ) → all isDigit (decimalOf k n) ≡ true
+unfolding decimalOf all
+decimal-digits zero n = refl
+decimal-digits (suc k) n =
     ⊎-elim
-    (read-one k j n t at)
-    (λ l. read-more k j n t at l (digits-read k (suc j) (n / 10) ((48 + n % 10) ∷ t) at (omega arith)))
+    (λ h. ap (all isDigit) (decimal-one k n h) ∙ all-one isDigit (digit-of n h))
+    (λ h.
+    ap (all isDigit) (decimal-more k n h)
+    ∙ all-both isDigit (decimalOf k (n / 10)) _ (decimal-digits k (n / 10)) (all-one isDigit (digit-of (n % 10) (omega arith))))
     (lt-or-ge n 10)
 
-first-one : (k n : ℕ) (t : List ℕ) → n < 10 → isDigit (getD (decimalOf (suc k) n ++ t) 0 0) ≡ true
-first-one k n t h = rw (decimal-one k n h) (digit-of n h)
+value-append : (v : ℕ) (xs ys : List ℕ) → valueOf v (xs ++ ys) ≡ valueOf (valueOf v xs) ys
+unfolding valueOf
+value-append v [] ys = refl
+value-append v (x ∷ xs) ys = value-append (v * 10 + (x - 48)) xs ys
 
--- what the writer lays down for a number starts with a digit
-first-digit : (k n : ℕ) (t : List ℕ) → isDigit (getD (decimalOf (suc k) n ++ t) 0 0) ≡ true
-unfolding decimalOf
-first-digit zero n t = ⊎-elim (first-one 0 n t) last (lt-or-ge n 10)
-  where
-    last : 10 ≤ n → isDigit (getD (decimalOf 1 n ++ t) 0 0) ≡ true
-    last h = rw (decimal-more 0 n h) (digit-of (n % 10) (omega arith))
-first-digit (suc k) n t =
-    ⊎-elim (first-one (suc k) n t)
-    (λ h. rw (decimal-more (suc k) n h, append-assoc) (first-digit k (n / 10) (((48 + n % 10) ∷ []) ++ t)))
+value-more : (k n : ℕ) → 10 ≤ n → valueOf 0 (decimalOf k (n / 10)) ≡ n / 10 → valueOf 0 (decimalOf (suc k) n) ≡ n
+unfolding valueOf
+value-more k n h q =
+    ap (valueOf 0) (decimal-more k n h)
+    ∙ (value-append 0 (decimalOf k (n / 10)) ((48 + n % 10) ∷ []) ∙ (ap (λ v. v * 10 + (48 + n % 10 - 48)) q ∙ omega arith))
+
+-- and their value is the number
+decimal-value : (k n : ℕ) → n < tens k → valueOf 0 (decimalOf k n) ≡ n
+unfolding decimalOf valueOf tens
+decimal-value zero n l = omega arith
+decimal-value (suc k) n l =
+    ⊎-elim
+    (λ h. ap (valueOf 0) (decimal-one k n h) ∙ omega arith)
+    (λ h. value-more k n h (decimal-value k (n / 10) (omega arith)))
     (lt-or-ge n 10)
 
--- a number behind one white space byte, with a byte behind it that is no digit
-number-read : (pre : List ℕ) (b n c : ℕ) (t : List ℕ) → isWhite b ≡ true → n < tens 5 → isDigit c ≡ false
-    → numberOf (pre ++ (b ∷ (decimalOf 5 n ++ (c ∷ t)))) (length pre) ≡ Read n (length pre + 1 + length (decimalOf 5 n))
-number-read pre b n c t p l q =
-    number-behind s i (ap isWhite (getD-append-seam pre b body 0) ∙ p)
-    ∙ (ap (firstDigit s) (ap (λ u. whiteOf u i) (drop-append-seam pre (b ∷ body)) ∙ (white-cons b body i p ∙ white-head body (i + 1) (digit-not-white _ first)))
-    ∙ (first-digits s (i + 1) (ap isDigit (getD-append-add pre (b ∷ body) 1 0) ∙ first)
-    ∙ (ap (λ u. digitsOf 5 u 0 (i + 1)) (drop-append-add pre (b ∷ body) 1)
-    ∙ (ap (λ k. digitsOf k body 0 (i + 1)) room
-    ∙ (digits-read 5 (5 - length (decimalOf 5 n)) n (c ∷ t) (i + 1) l ∙ digit-other c t (5 - length (decimalOf 5 n)) n (i + 1 + length (decimalOf 5 n)) q)))))
-  where
-    i : ℕ
-    i = length pre
-
-    body : List ℕ
-    body = decimalOf 5 n ++ (c ∷ t)
-
-    s : List ℕ
-    s = pre ++ (b ∷ body)
-
-    first : isDigit (getD body 0 0) ≡ true
-    first = first-digit 4 n (c ∷ t)
-
-    room : 5 ≡ length (decimalOf 5 n) + (5 - length (decimalOf 5 n))
-    room = omega (arith, count-most 5 n)
-
-number-at : {s : List ℕ} {at : ℕ} (pre : List ℕ) (b n c : ℕ) (t : List ℕ) → s ≡ pre ++ (b ∷ (decimalOf 5 n ++ (c ∷ t))) → at ≡ length pre
-    → isWhite b ≡ true → n < 100000 → isDigit c ≡ false → numberOf s at ≡ Read n (at + 1 + length (decimalOf 5 n))
+numeral-written : (b n : ℕ) → isWhite b ≡ true → n < 100000 → Numeral (b ∷ decimalOf 5 n) n
 unfolding tens
-number-at pre b n c t e q p l r = rw (e, q) (number-read pre b n c t p l r)
+numeral-written b n h l =
+    record {
+      white = b ∷ [];
+      digits = decimalOf 5 n;
+      bytes = refl;
+      someWhite = omega arith;
+      allWhite = all-one isWhite h;
+      someDigits = count-least 4 n;
+      fewDigits = count-most 5 n;
+      allDigits = decimal-digits 5 n;
+      value = decimal-value 5 n l;
+    }
 
--- ---- the round trip
+-- what the writer lays down is a header, whatever stands behind it
+pub header-written : (w h m : ℕ) (rest : List ℕ) → w < 100000 → h < 100000 → m < 100000 → Header (headerBytes w h m ++ rest) w h m rest
+unfolding headerBytes isWhite
+header-written w h m rest lw lh lm =
+    record {
+      width = 10 ∷ decimalOf 5 w;
+      height = 32 ∷ decimalOf 5 h;
+      maxval = 10 ∷ decimalOf 5 m;
+      last = 10;
+      bytes = simp append-assoc;
+      widthIs = numeral-written 10 w refl lw;
+      heightIs = numeral-written 32 h refl lh;
+      maxvalIs = numeral-written 10 m refl lm;
+      lastWhite = refl;
+    }
 
--- what stands before the height, before maxval and before the last byte
-before-height : ℕ → List ℕ
-before-height w = (80 ∷ 53 ∷ 10 ∷ []) ++ decimalOf 5 w
-
-before-maxval : ℕ → ℕ → List ℕ
-before-maxval w h = before-height w ++ ((32 ∷ []) ++ decimalOf 5 h)
-
-before-end : ℕ → ℕ → ℕ → List ℕ
-before-end w h m = before-maxval w h ++ ((10 ∷ []) ++ decimalOf 5 m)
-
-module _ (w h m : ℕ) (rest : List ℕ) where
-  from-width : headerBytes w h m ++ rest
-      ≡ (80 ∷ 53 ∷ []) ++ (10 ∷ (decimalOf 5 w ++ (32 ∷ (decimalOf 5 h ++ (10 ∷ (decimalOf 5 m ++ (10 ∷ rest)))))))
-  unfolding headerBytes
-  from-width = simp append-assoc
-
-  from-height : headerBytes w h m ++ rest ≡ before-height w ++ (32 ∷ (decimalOf 5 h ++ (10 ∷ (decimalOf 5 m ++ (10 ∷ rest)))))
-  unfolding headerBytes before-height
-  from-height = simp append-assoc
-
-  from-maxval : headerBytes w h m ++ rest ≡ before-maxval w h ++ (10 ∷ (decimalOf 5 m ++ (10 ∷ rest)))
-  unfolding headerBytes before-height before-maxval
-  from-maxval = simp append-assoc
-
-  from-end : headerBytes w h m ++ rest ≡ before-end w h m ++ (10 ∷ rest)
-  unfolding before-end
-  from-end = from-maxval ∙ sym (append-assoc (before-maxval w h) ((10 ∷ []) ++ decimalOf 5 m) (10 ∷ rest))
-
-length-before-height : (w : ℕ) → 2 + 1 + length (decimalOf 5 w) ≡ length (before-height w)
-unfolding before-height
-length-before-height w = simp length-append (omega arith)
-
-length-before-maxval : (w h : ℕ) → 2 + 1 + length (decimalOf 5 w) + 1 + length (decimalOf 5 h) ≡ length (before-maxval w h)
-unfolding before-height before-maxval
-length-before-maxval w h = simp length-append (omega arith)
-
-length-before-end : (w h m : ℕ)
-    → 2 + 1 + length (decimalOf 5 w) + 1 + length (decimalOf 5 h) + 1 + length (decimalOf 5 m) ≡ length (before-end w h m)
-unfolding before-height before-maxval before-end
-length-before-end w h m = simp length-append (omega arith)
-
-white-space : isWhite 32 ≡ true
-unfolding isWhite
-white-space = refl
-
-white-feed : isWhite 10 ≡ true
-unfolding isWhite
-white-feed = refl
-
-no-digit-space : isDigit 32 ≡ false
-unfolding isDigit
-no-digit-space = refl
-
-no-digit-feed : isDigit 10 ≡ false
-unfolding isDigit
-no-digit-feed = refl
-
--- a header that was written is read back as it was written, whatever stands behind it
+-- so it is read back as it was written
 pub round-trip : (w h m : ℕ) (rest : List ℕ) → w < 100000 → h < 100000 → m < 100000
     → headerOf (headerBytes w h m ++ rest) ≡ Found w h m (length (headerBytes w h m))
 round-trip w h m rest lw lh lm =
-    header-magic s (ap (λ u. getD u 0 0) (from-width w h m rest)) (ap (λ u. getD u 1 0) (from-width w h m rest))
-    ∙ (behind-read _ width ∙ (behind-read _ height ∙ (behind-read _ maxval ∙ (end-found s w h m _ (ap isWhite at-end ∙ white-feed) ∙ ap (Found w h m) place))))
-  where
-    s : List ℕ
-    s = headerBytes w h m ++ rest
-
-    width : numberOf s 2 ≡ Read w (2 + 1 + length (decimalOf 5 w))
-    width =
-        number-at (80 ∷ 53 ∷ []) 10 w 32 (decimalOf 5 h ++ (10 ∷ (decimalOf 5 m ++ (10 ∷ rest))))
-        (from-width w h m rest) refl white-feed lw no-digit-space
-
-    height : numberOf s (2 + 1 + length (decimalOf 5 w)) ≡ Read h (2 + 1 + length (decimalOf 5 w) + 1 + length (decimalOf 5 h))
-    height =
-        number-at (before-height w) 32 h 10 (decimalOf 5 m ++ (10 ∷ rest))
-        (from-height w h m rest) (length-before-height w) white-space lh no-digit-feed
-
-    maxval : numberOf s (2 + 1 + length (decimalOf 5 w) + 1 + length (decimalOf 5 h))
-        ≡ Read m (2 + 1 + length (decimalOf 5 w) + 1 + length (decimalOf 5 h) + 1 + length (decimalOf 5 m))
-    maxval =
-        number-at (before-maxval w h) 10 m 10 rest (from-maxval w h m rest) (length-before-maxval w h) white-feed lm no-digit-feed
-
-    at-end : getD s (2 + 1 + length (decimalOf 5 w) + 1 + length (decimalOf 5 h) + 1 + length (decimalOf 5 m)) 0 ≡ 10
-    at-end = rw (from-end w h m rest, length-before-end w h m) (getD-append-seam (before-end w h m) 10 rest 0)
-
-    place : 2 + 1 + length (decimalOf 5 w) + 1 + length (decimalOf 5 h) + 1 + length (decimalOf 5 m) + 1 ≡ length (headerBytes w h m)
-    place = omega (arith, length-header w h m)
+    let e : length (headerBytes w h m ++ rest) - length rest ≡ length (headerBytes w h m) = omega (arith, length-append (headerBytes w h m) rest) in
+    header-complete (header-written w h m rest lw lh lm) ∙ ap (Found w h m) e
 
 -- ---- a written header is a list of bytes
 
-digit-byte : (n : ℕ) → n < 10 → all (λ b. ltb b 256) ((48 + n) ∷ []) ≡ true
-unfolding all
-digit-byte n h = rw (lt-ltb (48 + n) 256 (omega arith)) refl
-
-decimal-bytes : (k n : ℕ) → all (λ b. ltb b 256) (decimalOf k n) ≡ true
-unfolding decimalOf all
-decimal-bytes zero n = refl
-decimal-bytes (suc k) n =
-    ⊎-elim
-    (λ h. ap (all (λ b. ltb b 256)) (decimal-one k n h) ∙ digit-byte n h)
-    (λ h. ap (all (λ b. ltb b 256)) (decimal-more k n h) ∙ all-both _ (decimalOf k (n / 10)) _ (decimal-bytes k (n / 10)) (digit-byte (n % 10) (omega arith)))
-    (lt-or-ge n 10)
+digits-bytes : (n : ℕ) → all (λ b. ltb b 256) (decimalOf 5 n) ≡ true
+digits-bytes n = all-weak (λ b h. lt-ltb b 256 (omega (arith, digit-high b h))) (decimalOf 5 n) (decimal-digits 5 n)
 
 magic-bytes : all (λ b. ltb b 256) (80 ∷ 53 ∷ 10 ∷ []) ≡ true
 unfolding all
@@ -407,7 +212,7 @@ pub header-bytes : (w h m : ℕ) → all (λ b. ltb b 256) (headerBytes w h m) �
 unfolding headerBytes
 header-bytes w h m =
     all-both _ (80 ∷ 53 ∷ 10 ∷ []) _ magic-bytes
-    (all-both _ (decimalOf 5 w) _ (decimal-bytes 5 w)
+    (all-both _ (decimalOf 5 w) _ (digits-bytes w)
     (all-both _ (32 ∷ []) _ space-byte
-    (all-both _ (decimalOf 5 h) _ (decimal-bytes 5 h)
-    (all-both _ (10 ∷ []) _ feed-byte (all-both _ (decimalOf 5 m) _ (decimal-bytes 5 m) feed-byte)))))
+    (all-both _ (decimalOf 5 h) _ (digits-bytes h)
+    (all-both _ (10 ∷ []) _ feed-byte (all-both _ (decimalOf 5 m) _ (digits-bytes m) feed-byte)))))

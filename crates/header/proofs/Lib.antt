@@ -1,5 +1,5 @@
 pub mod Reading
 pub mod Writing
 pub mod Grammar
-pub mod Refusals
 pub mod Laws
+pub mod Refusals

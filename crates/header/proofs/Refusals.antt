@@ -1,26 +1,25 @@
 -- A header is refused with 21 exactly where a `#` stands instead of a byte that the grammar has there, and with 20 in all other cases.
 -- Assumes nothing.
-use Prim.Native.Nat.{ℕ, zero, suc, _+_, _≤_, _<_}
+use Prim.Native.Nat.{ℕ, _+_, _≤_, _<_}
 use mathlib.Core.Bool.{Bool, true, false, _&&_, cond}
 use mathlib.Core.List.{List, [], _∷_, _++_, append-assoc, append-nil}
 use mathlib.Core.Logic.{_⊎_, inl, inr, ⊎-elim, _↔_}
 use mathlib.Core.Path.{_≡_, refl, sym, ap, _∙_}
 use lib.Dec.{eqb}
 use lib.ListN.{length, drop, getD, length-append}
-use native.Mathlib.Nat.{not-suc-le-zero}
 use native.Mathlib.Omega.{arith}
 use borrow.Author.Tests.{eq-eqb, eqb-true}
 use Rattle.lists.specs.Lists.{all}
-use Rattle.lists.proofs.Tabs.{and-left, and-right}
+use Rattle.lists.proofs.Tabs.{and-left}
 use Rattle.lists.proofs.Alls.{all-append}
-use Rattle.header.specs.declared.Number.{Number}
 use Rattle.header.specs.declared.Number.the-variants.{Read, Misfit}
 use Rattle.header.specs.declared.Head.{Head}
 use Rattle.header.specs.declared.Head.the-variants.{Found, Refused}
 use Rattle.header.specs.Header.{isWhite, isDigit, misfitOf, whiteOf, digitsOf, firstDigit, numberOf, behind, endOf, headerOf}
 use Rattle.header.specs.Grammar.{valueOf, Numeral, Header, Hash}
-use Rattle.header.proofs.Reading.{within, white-head, first-misfit, number-behind, number-misfit, end-misfit, digits-never, behind-read, behind-misfit, behind-refused, header-magic}
-use Rattle.header.proofs.Grammar.{byte-at, drop-behind, drop-byte, all-first, numeral-white, number-reads, white-some, Run, NumberAt, number-sound, magic-bytes, white-run, white-not-digit}
+use Rattle.header.proofs.Reading.{within, first-misfit, number-behind, number-misfit, end-misfit, digits-never, behind-read, behind-misfit, behind-refused, header-magic}
+use Rattle.header.proofs.Grammar.{byte-at, drop-behind, drop-byte, all-first, numeral-white, number-reads, white-some, Run, NumberAt, number-sound, magic-bytes, white-run, white-not-digit, header-complete, header-sound}
+use Rattle.header.proofs.Laws.{refused-number}
 
 -- ---- the byte `#`
 
@@ -342,3 +341,17 @@ hash-complete s x =
 -- a header is refused with 21 exactly where a `#` stands in it
 pub hash-exactly : (s : List ℕ) → (headerOf s ≡ Refused 21) ↔ Hash s
 hash-exactly s = (hash-sound s, hash-complete s)
+
+-- and with 20 exactly where there is neither a header nor such a `#`: "any other misfit, or the end of input"
+pub other-exactly : (s : List ℕ) → (headerOf s ≡ Refused 20) ↔ (((w h m : ℕ) (rest : List ℕ) → Header s w h m rest → ⊥) × (Hash s → ⊥))
+other-exactly s = (neither, (λ none. left none (headerOf s) refl))
+  where
+    neither : headerOf s ≡ Refused 20 → ((w h m : ℕ) (rest : List ℕ) → Header s w h m rest → ⊥) × (Hash s → ⊥)
+    neither q = (
+      (λ w h m rest g. let e = sym q ∙ header-complete g in let z : _≡_ {A = ℕ} 0 1 = cc in omega arith),
+      (λ g. let e = sym q ∙ hash-complete s g in let z : _≡_ {A = ℕ} 20 21 = cc in omega arith),
+    )
+
+    left : ((w h m : ℕ) (rest : List ℕ) → Header s w h m rest → ⊥) × (Hash s → ⊥) → (x : Head) → headerOf s ≡ x → headerOf s ≡ Refused 20
+    left none (Found w h m at) q = absurd (none .0 w h m (drop at s) (header-sound s q .1))
+    left none (Refused n) q = ⊎-elim (λ e. q ∙ ap Refused e) (λ e. absurd (none .1 (hash-sound s (q ∙ ap Refused e)))) (refused-number s q)

@@ -39,7 +39,7 @@ pub record Header (bs : List ℕ) (w h m : ℕ) (rest : List ℕ) : Type 0 where
   pub maxvalIs : Numeral maxval m
   pub lastWhite : isWhite last ≡ true
 
--- bytes where, "behind `P5`, a `#`" stands "instead of white space or a digit": with some other byte in its place the bytes before it start a header that ends no sooner
+-- bytes where, "behind `P5`, a `#`" stands "instead of white space or a digit": what is before it, with another byte in its place and more behind that, is a whole header
 pub record Hash (bs : List ℕ) : Type 0 where
   pub before : List ℕ
   pub behind : List ℕ

@@ -1,5 +1,5 @@
 -- What is left equals the whole; the number so far has room for the digits left below 100000. Assumes nothing.
-use Prim.Native.Nat.{_≤_, _<_, _+_, _*_, _-_}
+use Prim.Native.Nat.{_≤_, _<_, _+_, _*_}
 use mathlib.Core.Path.{_≡_, refl, sym, ap, _∙_}
 use mathlib.Core.Bool.{true}
 use lib.ListN.{length, drop}
