@@ -1,4 +1,5 @@
 -- Document 01, "Raw PGM" and refusals 20 and 21: the header of a raw PGM file, as its reader takes it and as its writer lays it down.
+-- Which bytes are a header, with no reader, is in Grammar.
 -- A file is a list of bytes; the end of input reads as 0, which is no white space, no digit and no `#`.
 -- Assumes nothing.
 use Prim.Native.Nat.{ℕ, zero, suc, _+_, _-_, _*_, _/_, _%_}
