@@ -15,10 +15,10 @@ use Rattle.prepare.specs.declared.Prepared.{Prepared}
 use Rattle.prepare.specs.declared.Prepared.the-variants as Prepared
 use Rattle.prepare.specs.declared.Enhanced.{Enhanced}
 use Rattle.prepare.specs.declared.Enhanced.the-variants as Enhanced
-use Rattle.prepare.specs.Prepare.{Ended, Over, ending, overing}
+use Rattle.prepare.specs.Prepare.{preparedSays, enhancedSays, Ended, Over, ending, overing}
 use Rattle.draw.specs.declared.Drawn.{Drawn}
 use Rattle.draw.specs.declared.Drawn.the-variants as Drawn
-use Rattle.draw.specs.Draw.{Shows, showing}
+use Rattle.draw.specs.Draw.{drawnSays, Shows, showing}
 use Rattle.header.specs.declared.Head.{Head}
 use Rattle.header.specs.declared.Head.the-variants as Head
 use Rattle.pgm.specs.declared.Sizes.{Sizes}
@@ -27,7 +27,7 @@ use Rattle.pgm.specs.declared.Turned.{Turned}
 use Rattle.pgm.specs.declared.Turned.the-variants as Turned
 use Rattle.pgm.specs.declared.Written.{Written}
 use Rattle.pgm.specs.declared.Written.the-variants as Written
-use Rattle.pgm.specs.Pgm.{readOf, sizesOf, rasterOf, Greyed, greyedAs, Wrote, wroteAs}
+use Rattle.pgm.specs.Pgm.{readOf, sizesOf, rasterOf, sizesSays, turnedSays, Greyed, greyedAs, writtenSays, Wrote, wroteAs}
 use Rattle.pgm.proofs.Tables.{read-within}
 use Rattle.abi.specs.Flat.{clipFrom, clipFactor, recordNumbers}
 use Rattle.abi.specs.Films.{Foot, footAfter, preparedAs, flatPrepared, enhancedAs, flatEnhanced, drawnAs, flatDrawn}
@@ -43,44 +43,42 @@ clip-some (suc n) f h = refl
 pub prepared-done : {a : Prepared} {m t : List ℕ} (e : Ended) (numbers : List ℕ) (factor : Float) (foot : Foot) {r : MapRecord} {f : Footer} {ns : List ℕ} {x : Float}
     → ending a m t ≡ e → a ≡ Prepared.Done r f → ns ≡ recordNumbers r → x ≡ clipFactor (r .settings .clip)
     → preparedAs 0 m t ns x (footAfter f) ≡ flatPrepared e numbers factor foot
-unfolding flatPrepared
+unfolding flatPrepared preparedSays
 prepared-done e numbers factor foot p q n x = rw (← p, q, n, x) refl
 
 pub prepared-refused : {a : Prepared} {m t : List ℕ} (e : Ended) (numbers : List ℕ) (factor : Float) (foot : Foot) {n : ℕ}
     → ending a m t ≡ e → a ≡ Prepared.Refused n → preparedAs n m t numbers factor foot ≡ flatPrepared e numbers factor foot
-unfolding flatPrepared
+unfolding flatPrepared preparedSays
 prepared-refused e numbers factor foot p q = rw (← p, q) refl
 
 pub enhanced-done : {a : Enhanced} {pic m t : List ℕ} (o : Over) (foot : Foot) {f : Footer}
     → overing a pic m t ≡ o → a ≡ Enhanced.Done f → enhancedAs 0 pic m t (footAfter f) ≡ flatEnhanced o foot
-unfolding flatEnhanced
+unfolding flatEnhanced enhancedSays
 enhanced-done o foot p q = rw (← p, q) refl
 
 pub enhanced-refused : {a : Enhanced} {pic m t : List ℕ} (o : Over) (foot : Foot) {n : ℕ}
     → overing a pic m t ≡ o → a ≡ Enhanced.Refused n → enhancedAs n pic m t foot ≡ flatEnhanced o foot
-unfolding flatEnhanced
+unfolding flatEnhanced enhancedSays
 enhanced-refused o foot p q = rw (← p, q) refl
 
 pub drawn-done : {a : Drawn} {out : List ℕ} (s : Shows) → showing a out ≡ s → a ≡ Drawn.Done → drawnAs 0 out ≡ flatDrawn s
-unfolding flatDrawn
+unfolding flatDrawn drawnSays
 drawn-done s p q = rw (← p, q) refl
 
 pub drawn-refused : {a : Drawn} {out : List ℕ} (s : Shows) {n : ℕ} → showing a out ≡ s → a ≡ Drawn.Refused n → drawnAs n out ≡ flatDrawn s
-unfolding flatDrawn
+unfolding flatDrawn drawnSays
 drawn-refused s p q = rw (← p, q) refl
 
 -- ---- files
 
-pub sizes-found : (hd : Head) (old : List ℕ) {a : Sizes} {w h m : ℕ} → a ≡ sizesOf hd → a ≡ Sizes.Found w h m
-    → answered 0 (w ∷ h ∷ m ∷ []) ≡ flatSizes hd old
-unfolding flatSizes
-sizes-found (Head.Found x y z at) old p q = cc
-sizes-found (Head.Refused n) old {a} {w} {h} {m} p q = let z : _≡_ {A = ℕ} 0 1 = cc in absurd (omega arith)
+pub sizes-found : {a : Sizes} (z : Sizes) (old : List ℕ) {w h m : ℕ} → a ≡ z → a ≡ Sizes.Found w h m
+    → answered 0 (w ∷ h ∷ m ∷ []) ≡ flatSizes (sizesSays z) old
+unfolding flatSizes sizesSays
+sizes-found z old p q = rw (← p, q) refl
 
-pub sizes-refused : (hd : Head) (old : List ℕ) {a : Sizes} {n : ℕ} → a ≡ sizesOf hd → a ≡ Sizes.Refused n → answered n old ≡ flatSizes hd old
-unfolding flatSizes
-sizes-refused (Head.Found x y z at) old {a} {n} p q = let v : _≡_ {A = ℕ} 0 1 = cc in absurd (omega arith)
-sizes-refused (Head.Refused k) old p q = cc
+pub sizes-refused : {a : Sizes} (z : Sizes) (old : List ℕ) {n : ℕ} → a ≡ z → a ≡ Sizes.Refused n → answered n old ≡ flatSizes (sizesSays z) old
+unfolding flatSizes sizesSays
+sizes-refused z old p q = rw (← p, q) refl
 
 -- the raster's length is what stands behind its start
 pub raster-size : (hd : Head) (s : List ℕ) {a : Sizes} {w h m : ℕ} {part : List ℕ} → a ≡ sizesOf hd → a ≡ Sizes.Found w h m
@@ -104,19 +102,19 @@ raster-refused (Head.Found x y z at) size old {a} {n} p q = let v : _≡_ {A = �
 raster-refused (Head.Refused k) size old p q = cc
 
 pub greys-done : {a : Turned} {t : List ℕ} (g : Greyed) → greyedAs a t ≡ g → a ≡ Turned.Done → answered 0 t ≡ flatGreys g
-unfolding flatGreys
+unfolding flatGreys turnedSays
 greys-done g p q = rw (← p, q) refl
 
 pub greys-refused : {a : Turned} {t : List ℕ} (g : Greyed) {n : ℕ} → greyedAs a t ≡ g → a ≡ Turned.Refused n → answered n t ≡ flatGreys g
-unfolding flatGreys
+unfolding flatGreys turnedSays
 greys-refused g p q = rw (← p, q) refl
 
 pub written-bytes : {a : Written} {out : List ℕ} (w : Wrote) (old : ℕ) {n : ℕ} → wroteAs a out ≡ w → a ≡ Written.Bytes n → writtenAs 0 out n ≡ flatWritten w old
-unfolding flatWritten
+unfolding flatWritten writtenSays
 written-bytes w old p q = rw (← p, q) refl
 
 pub written-refused : {a : Written} {out : List ℕ} (w : Wrote) (old : ℕ) {n : ℕ} → wroteAs a out ≡ w → a ≡ Written.Refused n → writtenAs n out old ≡ flatWritten w old
-unfolding flatWritten
+unfolding flatWritten writtenSays
 written-refused w old p q = rw (← p, q) refl
 
 -- ---- the listing

@@ -1,4 +1,5 @@
 -- What the tz_ calls on PGM files leave: 0 or the refusal's number, and all lent memory, as the calls beneath them give it.
+-- The quoted sentences are document 01's, and those of docs/DECISIONS.md, "The C interface and the command line".
 -- Assumes nothing.
 use Prim.Native.Nat.{ℕ, _-_}
 use mathlib.Core.Bool.{Bool, true, false}
@@ -6,61 +7,61 @@ use mathlib.Core.List.{List, [], _∷_}
 use lib.Dec.{ltb}
 use lib.ListN.{length}
 use Rattle.lists.specs.Lists.{onto}
+use Rattle.refuse.specs.Refuse.{Says, accepted, refused}
 use Rattle.header.specs.declared.Head.{Head}
 use Rattle.header.specs.declared.Head.the-variants as Head
-use Rattle.pgm.specs.declared.Turned.{Turned}
-use Rattle.pgm.specs.declared.Turned.the-variants as Turned
-use Rattle.pgm.specs.declared.Written.{Written}
-use Rattle.pgm.specs.declared.Written.the-variants as Written
-use Rattle.pgm.specs.Pgm.{Greyed, Wrote}
+use Rattle.pgm.specs.Pgm.{turnedSays, Greyed, writtenSays, Wrote}
+use Rattle.abi.specs.Flat.{returned}
 
--- a number, and an array of numbers handed out
+-- "one answer can't hold numbers and a part": the number returned, and the numbers or the target that were lent for the rest
 pub record Answer : Type 0 where
   pub number : ℕ
   pub values : List ℕ
 
+-- a number and lent numbers as one
 abbrev pub answered : ℕ → List ℕ → Answer
 answered n values = record { number = n; values = values }
 
--- width, height and maxval; a refusal leaves what stood there
-unfoldable pub flatSizes : Head → List ℕ → Answer
-flatSizes (Head.Found w h m at) old = answered 0 (w ∷ h ∷ m ∷ [])
-flatSizes (Head.Refused n) old = answered n old
+-- "for the sizes and maxval": width, height and maxval; a refusal leaves what stood there
+unfoldable pub flatSizes : Says (ℕ × ℕ × ℕ) → List ℕ → Answer
+flatSizes (accepted v) old = answered 0 (v .0 ∷ v .1 ∷ v .2 ∷ [])
+flatSizes (refused n) old = answered n old
 
--- where the raster starts and how long it is, in a file of `size` bytes
+-- "`tz_read_raster` hands out where the raster starts and how long it is", in a file of `size` bytes; a refusal leaves what stood there
 unfoldable pub flatRaster : Head → ℕ → List ℕ → Answer
 flatRaster (Head.Found w h m at) size old = answered 0 (at ∷ (size - at) ∷ [])
 flatRaster (Head.Refused n) size old = answered n old
 
-abbrev pub turnedNumber : Turned → ℕ
-turnedNumber Turned.Done = 0
-turnedNumber (Turned.Refused n) = n
-
+-- "a second call turns it into greys": from what that call leaves
 unfoldable pub flatGreys : Greyed → Answer
-flatGreys g = answered (turnedNumber (g .answer)) (g .target)
+flatGreys g = answered (returned (turnedSays (g .answer))) (g .target)
 
--- a number, the output and the byte count handed out
+-- "returns the byte count": what tz_write and tz_listing leave, the count in a cell of its own
 pub record FlatWritten : Type 0 where
   pub number : ℕ
   pub out : List ℕ
   pub count : ℕ
 
+-- a number, an output and a count as one
 abbrev pub writtenAs : ℕ → List ℕ → ℕ → FlatWritten
 writtenAs n out count = record { number = n; out = out; count = count }
 
-abbrev pub writtenBy : Written → List ℕ → ℕ → FlatWritten
-writtenBy (Written.Bytes k) out count = writtenAs 0 out k
-writtenBy (Written.Refused n) out count = writtenAs n out count
+-- an accepted film's byte count in its cell; a refusal leaves what stood there
+abbrev pub writtenBy : Says ℕ → List ℕ → ℕ → FlatWritten
+writtenBy (accepted k) out count = writtenAs 0 out k
+writtenBy (refused n) out count = writtenAs n out count
 
+-- from what write leaves, and what the count's cell held before
 unfoldable pub flatWritten : Wrote → ℕ → FlatWritten
-flatWritten w count = writtenBy (w .answer) (w .out) count
+flatWritten w count = writtenBy (writtenSays (w .answer)) (w .out) count
 
 -- ---- the listing
 
+-- the one where it holds, else the other
 abbrev pub pickWritten : Bool → FlatWritten → FlatWritten → FlatWritten
 pickWritten true a b = a
 pickWritten false a b = b
 
--- the listing's text at the front of the output, and its length; 27 where the output has no 512 bytes, which are always enough
+-- "A film's refusal is part of its text; 27 is given where fewer than 512 bytes are lent": the text at the output's front, and its length
 unfoldable pub flatListing : List ℕ → List ℕ → ℕ → FlatWritten
 flatListing text out count = pickWritten (ltb (length out) 512) (writtenAs 27 out count) (writtenAs 0 (onto out text) (length text))

@@ -1,4 +1,5 @@
--- Settings and records as the C interface passes them: flat numbers, and arrays where a record goes in or out.
+-- Settings, records and answers as the C interface passes them: flat numbers, and arrays where a record goes in or out.
+-- The quoted sentences are document 01's, and those of docs/DECISIONS.md, "The C interface and the command line".
 -- Assumes nothing.
 use Prim.Native.Nat.{ℕ, zero, suc}
 use mathlib.Core.Bool.{false}
@@ -6,31 +7,39 @@ use mathlib.Core.List.{List, [], _∷_}
 use lib.IntN.{pos}
 use lib.Ieee.{Float, fin}
 use lib.ListN.{getD}
+use Rattle.refuse.specs.Refuse.{Says, accepted, refused}
 use Rattle.limit.specs.declared.Clip.{Clip}
 use Rattle.limit.specs.declared.Clip.the-variants.{Off, Factor}
 use Rattle.settings.specs.declared.Settings.{Settings}
 use Rattle.settings.specs.declared.MapRecord.{MapRecord}
 use Rattle.settings.specs.declared.Window.{Window}
 
--- a clip setting from its number and its factor: 0 is off
+-- "A refusal returns its number alone": the number that a call returns, and 0 where it is accepted
+abbrev pub returned : {A : Type 0} → Says A → ℕ
+returned (accepted v) = 0
+returned (refused n) = n
+
+-- "A clip of 0 is off, any other number is the factor."
 abbrev pub clipFrom : ℕ → Float → Clip
 clipFrom zero f = Off
 clipFrom (suc n) f = Factor f
 
--- its number and its factor back again
+-- its number back again: "one of two: off, or a factor carried as f32"
 abbrev pub clipNumber : Clip → ℕ
 clipNumber Off = 0
 clipNumber (Factor f) = 1
 
+-- and its factor, 0.0 where it is off
 abbrev pub clipFactor : Clip → Float
 clipFactor Off = fin false 0 (pos 0)
 clipFactor (Factor f) = f
 
+-- "It sits inside the settings record": grid across and down, bins, Min, Max and the clip setting, from seven arguments
 abbrev pub settingsFrom : ℕ → ℕ → ℕ → ℕ → ℕ → ℕ → Float → Settings
 settingsFrom across down bins min max clip factor =
     record { across = across; down = down; bins = bins; min = min; max = max; clip = clipFrom clip factor }
 
--- the nine numbers of a record: film, width, height, across, down, bins, min, max, clip
+-- "A record is nine numbers and its factor apart.": film, width, height, across, down, bins, min, max, clip
 abbrev pub recordNumbers : MapRecord → List ℕ
 recordNumbers r =
     r .film
@@ -44,7 +53,7 @@ recordNumbers r =
     ∷ clipNumber (r .settings .clip)
     ∷ []
 
--- a record from its nine numbers and its factor
+-- "A map record holds the film's number (any 32-bit number), sizes and settings": from its nine numbers and its factor
 abbrev pub recordFrom : List ℕ → Float → MapRecord
 recordFrom l factor =
     record {
@@ -54,5 +63,6 @@ recordFrom l factor =
       settings = settingsFrom (getD l 3 0) (getD l 4 0) (getD l 5 0) (getD l 6 0) (getD l 7 0) (getD l 8 0) factor;
     }
 
+-- draw's window, from its four numbers
 abbrev pub windowFrom : ℕ → ℕ → ℕ → ℕ → Window
 windowFrom left top width height = record { left = left; top = top; width = width; height = height }

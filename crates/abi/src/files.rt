@@ -1,7 +1,7 @@
 // The calls on PGM files.
 ghost use mathlib.Core.Path.{_≡_};
 ghost use lib.ListN.{length};
-ghost use Rattle.pgm.specs.Pgm.{readOf, greysOf, writeOf};
+ghost use Rattle.pgm.specs.Pgm.{readOf, sizesOf, sizesSays, greysOf, writeOf};
 ghost use Rattle.lister.specs.Lister.{listingOf};
 ghost use Rattle.abi.specs.Files.{answered, flatSizes, flatRaster, flatGreys, writtenAs, flatWritten, flatListing};
 use pgm::Sizes;
@@ -10,7 +10,7 @@ use pgm::Written;
 
 #[no_mangle]
 pub extern "C" fn tz_read_sizes(bytes: &[u8], sizes: &mut [u32; 3]) -> u32
-    ensures { λ r. ⌜ answered r (now (sizes .exit)) ≡ flatSizes (readOf (now (bytes .entry))) (now (sizes .entry)) ⌝ }
+    ensures { λ r. ⌜ answered r (now (sizes .exit)) ≡ flatSizes (sizesSays (sizesOf (readOf (now (bytes .entry))))) (now (sizes .entry)) ⌝ }
 {
     let answer = pgm::read_sizes(bytes);
     match answer {

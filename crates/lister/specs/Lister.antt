@@ -21,10 +21,11 @@ use Rattle.samples.specs.Samples.{isWide, unpacked, noneAbove}
 use Rattle.pgm.specs.Pgm.{readOf}
 use Rattle.prepare.specs.Prepare.{tileRect, tileMap, prepareRows}
 
--- "uses grid 2 by 2, 4 bins, range 0 to maxval, factor 2"
+-- "factor 2", as a float
 abbrev pub two : Float
 two = fin false 1 (pos 1)
 
+-- "uses grid 2 by 2, 4 bins, range 0 to maxval, factor 2"
 abbrev pub settingsOf : ℕ → Settings
 settingsOf maxval = record { across = 2; down = 2; bins = 4; min = 0; max = maxval; clip = Factor two }
 
@@ -42,7 +43,7 @@ line (n ∷ k ∷ rest) = decimalOf 5 n ++ ((9 ∷ []) ++ line (k ∷ rest))
 unfoldable pub firstLine : ℕ → ℕ → ℕ → List ℕ
 firstLine w h maxval = line (w ∷ h ∷ 2 ∷ 2 ∷ 4 ∷ 0 ∷ maxval ∷ limitFor w h maxval ∷ [])
 
--- the excess E of tile k
+-- "Excess E is the sum over bins of what stands above L": that of tile k
 unfoldable pub excessFor : ℕ → ℕ → ℕ → List ℕ → ℕ → ℕ
 excessFor w h maxval pic k =
     excess (limitFor w h maxval) (countsOf 0 maxval 4 (greysOf pic w (tileRect w h (settingsOf maxval) k)))
@@ -51,6 +52,7 @@ excessFor w h maxval pic k =
 unfoldable pub tileLine : ℕ → ℕ → ℕ → List ℕ → ℕ → List ℕ
 tileLine w h maxval pic k = line (k / 2 ∷ k % 2 ∷ excessFor w h maxval pic k ∷ tileMap w h pic (settingsOf maxval) k)
 
+-- the first line, "Then a line per tile": the four of them row by row
 unfoldable pub filmText : ℕ → ℕ → ℕ → List ℕ → List ℕ
 filmText w h maxval pic =
     firstLine w h maxval
@@ -60,11 +62,12 @@ filmText w h maxval pic =
 unfoldable pub refusedText : ℕ → List ℕ
 refusedText n = (114 ∷ 101 ∷ 102 ∷ 117 ∷ 115 ∷ 101 ∷ 100 ∷ 9 ∷ []) ++ line (n ∷ [])
 
--- what is printed, by a refusal's number
+-- "A refusal prints ..": what is printed by a refusal's number, the text where there is none
 abbrev pub unless : ℕ → List ℕ → List ℕ
 unless zero text = text
 unless (suc n) text = refusedText (suc n)
 
+-- the one text where it holds, else the other
 abbrev pub pick : Bool → List ℕ → List ℕ → List ℕ
 pick true a b = a
 pick false a b = b
@@ -81,6 +84,7 @@ pictureText w h maxval pic =
     (unless (first (prepareRows w h pic (settingsOf maxval) 16 4)) (filmText w h maxval pic))
     (refusedText 26)
 
+-- "reads a PGM": of a file that read accepts its film's text, else read's own refusal
 abbrev pub readText : Head → List ℕ → List ℕ
 readText (Found w h m at) s = pictureText w h m (unpacked (isWide m) (drop at s) (w * h))
 readText (Refused n) s = refusedText n
