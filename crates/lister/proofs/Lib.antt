@@ -3,3 +3,4 @@ pub mod Tiles
 pub mod Films
 pub mod Refusals
 pub mod Calls
+pub mod Outcomes
