@@ -34,7 +34,7 @@ pub extern "C" fn tz_read_raster(bytes: &[u8], part: &mut [usize; 2]) -> u32
             *part = [bytes.len() - size, size];
             0
         }
-        Sizes::Refused(n) => n,
+        Sizes::Refused(number) => number,
     }
 }
 
@@ -85,7 +85,7 @@ pub extern "C" fn tz_listing(bytes: &[u8], out: &mut [u8], count: &mut usize) ->
     if out.len() < 512 {
         return 27;
     }
-    let n = lister::list(bytes, out);
-    *count = n;
+    let laid = lister::list(bytes, out);
+    *count = laid;
     0
 }

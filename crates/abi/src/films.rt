@@ -73,10 +73,10 @@ pub extern "C" fn tz_enhance(
     let s = flat::settings_from(across, down, bins, min, max, clip, factor);
     let answer = prepare::enhance(width, height, picture, s, map, scratch);
     match answer {
-        Enhanced::Done(foot) => {
-            *limit = foot.limit;
-            *asked = foot.asked;
-            *used = foot.used;
+        Enhanced::Done(footer) => {
+            *limit = footer.limit;
+            *asked = footer.asked;
+            *used = footer.used;
             0
         }
         Enhanced::Refused(n) => n,
