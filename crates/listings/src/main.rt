@@ -71,7 +71,7 @@ fn lengths() {
     show(30, &longer);
 }
 
-// Films of 8,192 pixels, of one byte a sample and of two.
+// Films of 8,192 pixels, of one byte a sample and of two, and the next size above.
 fn largest() {
     let dark = [0u16; 8192];
     let mut narrow = [0u8; 8205];
@@ -81,6 +81,7 @@ fn largest() {
     let mut wide = [0u8; 16398];
     pgm::write(&bright, 64, 128, 300, &mut wide);
     show(32, &wide);
+    show(33, b"P5 3 2731 15 ");
 }
 
 fn main() {

@@ -54,10 +54,14 @@ tile-inside {w} {h} {size} {s} {room} {k} ready l =
       few = tile-pixels-most ready;
     }
 
--- it has the tile's width times its height pixels
-pub length-tile-greys : (w h : ℕ) (pic : List ℕ) (s : Settings) (k : ℕ) → length (greysOf pic w (tileRect w h s k)) ≡ tilePixels w h s
+-- its area is a tile's pixels
+pub tile-area : (w h : ℕ) (s : Settings) (k : ℕ) → tileRect w h s k .width * tileRect w h s k .height ≡ tilePixels w h s
 unfolding tileRect
-length-tile-greys w h pic s k = length-greys pic w (tileRect w h s k)
+tile-area w h s k = refl
+
+-- and it has as many greys
+pub length-tile-greys : (w h : ℕ) (pic : List ℕ) (s : Settings) (k : ℕ) → length (greysOf pic w (tileRect w h s k)) ≡ tilePixels w h s
+length-tile-greys w h pic s k = length-greys pic w (tileRect w h s k) ∙ tile-area w h s k
 
 -- ---- the limit has room for a tile's pixels
 
@@ -79,8 +83,7 @@ module _ {w h : ℕ} {pic : List ℕ} {s : Settings} {room scratch : ℕ} (asks 
 
   -- the same of the tile's rectangle
   pub rect-holds : (k : ℕ) → Holds (s .clip) (tileRect w h s k .width * tileRect w h s k .height) (binsOf s)
-  unfolding tileRect
-  rect-holds k = tile-holds
+  rect-holds k = rw (tile-area w h s k) tile-holds
 
 -- ---- the mappings
 

@@ -35,7 +35,7 @@ use Rattle.prepare.specs.declared.Enhanced.the-variants as Enhanced
 use Rattle.prepare.specs.Prepare.{tileRect, prepareRows, footerOf, prepareOf, enhanceOf, TightAsks, Work, TilesAsk}
 use Rattle.prepare.proofs.Table.{tight-asks}
 use Rattle.prepare.proofs.Tight.{footer-off, footer-one, footer-above, not-refused}
-use Rattle.prepare.proofs.Films.{length-tile-greys, tile-greys, tile-holds, tile-inside}
+use Rattle.prepare.proofs.Films.{tile-area, length-tile-greys, tile-greys, tile-holds, tile-inside}
 use Rattle.promises.specs.Films.{rawCounts, clippedCounts, FooterShows, TileSound, earlierRows, Filling}
 use Rattle.promises.proofs.Accepted.{prepare-work, prepare-hands, prepare-refused, prepare-refuses, enhance-work, enhance-hands, enhance-refused, enhance-refuses}
 use Rattle.promises.proofs.Reuse.{prepared-foot}
@@ -75,8 +75,7 @@ module _ {w h : ℕ} {pic : List ℕ} {s : Settings} {room scratch : ℕ} (work 
 
   -- a tile has a pixel
   some-pixels : (k : ℕ) → k < s .across * s .down → 0 < tilePixels w h s
-  unfolding tileRect
-  some-pixels k l = tile-inside (work .ready) l .some
+  some-pixels k l = omega (arith, tile-area w h s k, tile-inside (work .ready) l .some)
 
   -- a tile is sound, where the map entries are the mapped values of its clipped counts
   tile-sound : (k : ℕ) → k < s .across * s .down → (entry : ℕ → ℕ)
