@@ -131,6 +131,7 @@ pub record Held (film w h : ℕ) (s : Settings) (r : MapRecord) : Type 0 where
   pub most : s .max ≡ r .settings .max
   pub clip : sameClip (s .clip) (r .settings .clip) ≡ true
 
+-- what all of draw's rows tell where none applies
 pub record DrawReady (film w h : ℕ) (pic : List ℕ) (s : Settings) (r : MapRecord) (win : Window) (m : List ℕ) (room : ℕ) : Type 0 where
   pub held : Held film w h s r
   pub shown : WindowReady w h pic s win m room

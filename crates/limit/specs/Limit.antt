@@ -30,6 +30,7 @@ judgedBy false one = Refused
 judgedBy true true = One
 judgedBy true false = Above
 
+-- a factor, judged: "refused", exactly 1.0, or above
 unfoldable pub judgeOf : Float → Judged
 judgeOf f = judgedBy (accepted f) (isOne f)
 

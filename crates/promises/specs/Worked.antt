@@ -50,6 +50,7 @@ holds (mapping lo hi n cs vs) = same (mappingOf lo hi n cs) vs
 holds (bin lo hi b v k) = eqb (binOf lo hi b v) k
 holds (grey x y v) = eqb (greyAt x y) v
 
+-- all rows of a table hold: "rows of a single table under a single claim"
 unfoldable pub allHold : List Row → Bool
 allHold [] = true
 allHold (r ∷ rs) = holds r && allHold rs

@@ -56,7 +56,7 @@ rectOf win = record { left = win .left; top = win .top; width = win .width; heig
 
 -- ---- what the functions ask
 
--- settings and mappings from which pixels can be rendered: grid, range and bins as document 01 has them, tiles of a pixel at least,
+-- settings and mappings from which pixels can be rendered: grid, range and bins within document 01's bounds, tiles of a pixel at least,
 -- and mapped values from Min to Max
 pub record Mapped (w h : ℕ) (s : Settings) (m : List ℕ) : Type 0 where
   pub acrossmost : s .across ≤ 16

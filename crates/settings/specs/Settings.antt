@@ -25,13 +25,15 @@ keptOf s = record { across = s .across; down = s .down; bins = binsOf s; min = s
 abbrev pub recordOf : ℕ → ℕ → ℕ → Settings → MapRecord
 recordOf film w h s = record { film = film; width = w; height = h; settings = keptOf s }
 
--- "tw and th are tile width and height, N = tw x th"
+-- "tw and th are tile width and height"
 abbrev pub tileWidth : ℕ → Settings → ℕ
 tileWidth w s = w / s .across
 
+-- the height
 abbrev pub tileHeight : ℕ → Settings → ℕ
 tileHeight h s = h / s .down
 
+-- "N = tw x th"
 abbrev pub tilePixels : ℕ → ℕ → Settings → ℕ
 tilePixels w h s = tileWidth w s * tileHeight h s
 

@@ -52,13 +52,15 @@ clippedBy (Factor f) n cs = clipped (limitOf f n (length cs)) cs
 unfoldable pub mappedOf : ℕ → ℕ → ℕ → List ℕ → ℕ → ℕ
 mappedOf lo hi n cs k = lo + total (take (k + 1) cs) * (hi - lo) / n
 
+-- the mapping of all bins, "bins upward"
 unfoldable pub mappingOf : ℕ → ℕ → ℕ → List ℕ → List ℕ
 mappingOf lo hi n cs = tab (length cs) (mappedOf lo hi n cs)
 
--- the clipped (or raw) counts of a tile with these greys, and their mapping
+-- the clipped (or raw) counts of a tile with these greys
 unfoldable pub tileCounts : ℕ → ℕ → ℕ → Clip → List ℕ → List ℕ
 tileCounts lo hi b clip vs = clippedBy clip (length vs) (countsOf lo hi b vs)
 
+-- and the mapping of these same counts
 unfoldable pub tileMapping : ℕ → ℕ → ℕ → Clip → List ℕ → List ℕ
 tileMapping lo hi b clip vs = mappingOf lo hi (length vs) (tileCounts lo hi b clip vs)
 
@@ -69,7 +71,7 @@ pub data Holds : Clip → ℕ → ℕ → Type 0 where
   off : {n b : ℕ} → Holds Off n b
   factor : {f : lib.Ieee.Float} {n b : ℕ} → accepted f ≡ true → n ≤ limitOf f n b * b → Holds (Factor f) n b
 
--- Min to Max, and bins, as document 01 has them
+-- what is asked of Min, Max and the bins; document 01's refusals 7 to 9 leave no more than this
 pub record Scale (lo hi b : ℕ) : Type 0 where
   pub order : lo ≤ hi
   pub most : hi ≤ 4095
