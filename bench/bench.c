@@ -1,6 +1,6 @@
 /*
  * bench films FOLDER          writes the films as raw PGM, for what else is to be measured on them
- * bench run [OPENCV.txt]      measures, and prints a table; the file has OpenCV's times, "SIDE BITS NS" a line
+ * bench run [OPENCV.txt]      measures, and prints tables; the file has OpenCV's times, "SIDE BITS FILM NS" a line
  *
  * The calls take turns, in several rounds, so that a slow spell of the machine meets all of them. In each turn a call is
  * run twice and the second run is measured: its memory is there, and the caches are as warm as they get. Nothing is
@@ -14,149 +14,46 @@
 #include <string.h>
 #include <time.h>
 
-#include "clahe1994.h"
-#include "tzofnadir.h"
+#include "calls.h"
+#include "film.h"
 
-#define FILM 7u
-#define WINDOW_SIDE 1024u
-
-struct bench {
-    uint32_t side, bits;
-    size_t pixels;
-    tz_sizes sizes;
-    tz_settings settings;
-    tz_window window;
-    uint16_t *film;    /* as made */
-    uint16_t *picture; /* what is rendered in place */
-    uint16_t *drawn;   /* what is drawn or copied */
-    size_t area;       /* the window's pixels */
-    uint16_t *map;
-    uint32_t *scratch;
-    uint8_t *file; /* the film as raw PGM */
-    size_t file_len;
-    tz_record record;
-    tz_footer footer;
-};
+#define GRID 8u
+#define BINS 128u
+#define WINDOW 1024u      /* the side of the window that is drawn, */
+#define SMALL_WINDOW 256u /* and of that which shows how drawing grows */
+#define MANY(list) (sizeof(list) / sizeof(list)[0])
 
 static const uint32_t sides[] = {512, 2048, 4096};
-static const uint32_t depths[] = {8, 12};
 
-static void end(const char *why, long number)
-{
-    fprintf(stderr, "bench: %s (%ld)\n", why, number);
-    exit(1);
-}
-
-static void *room(size_t bytes)
-{
-    void *at = malloc(bytes);
-    if (at == NULL)
-        end("no memory for so many bytes", (long)bytes);
-    memset(at, 0, bytes);
-    return at;
-}
-
-/* ---- films ---- */
-
-/* A plate whose grey rises to one side, a lighter band across the middle, and noise from a fixed generator. */
-static void draw_film(struct bench *b)
-{
-    uint64_t state = 20 * b->side + b->bits;
-    uint32_t side = b->side, middle = side / 2, half = side / 6;
-    for (uint32_t y = 0; y < side; y++)
-        for (uint32_t x = 0; x < side; x++) {
-            state = state * 6364136223846793005u + 1442695040888963407u;
-            uint32_t away = y > middle ? y - middle : middle - y;
-            uint32_t band = away < half ? (half - away) * 900u / half : 0;
-            uint32_t noise = (uint32_t)(state >> 60) + (uint32_t)(state >> 52 & 63) + (uint32_t)(state >> 44 & 63);
-            uint32_t grey = 500u + x * 1800u / side + y * 500u / side + band + noise;
-            b->film[(size_t)y * side + x] = (uint16_t)(b->bits == 8 ? grey >> 4 : grey);
-        }
-}
-
-static void open_bench(struct bench *b, uint32_t side, uint32_t bits)
-{
-    uint32_t window = side < WINDOW_SIDE ? side : WINDOW_SIDE;
-    memset(b, 0, sizeof *b);
-    b->side = side;
-    b->bits = bits;
-    b->pixels = (size_t)side * side;
-    b->sizes = (tz_sizes){side, side, bits == 8 ? 255 : 4095};
-    b->settings = (tz_settings){8, 8, 128, 0, b->sizes.maxval, 1, 3.0f};
-    b->window = (tz_window){(side - window) / 2, (side - window) / 2, window, window};
-    b->area = (size_t)window * window;
-    b->film = room(2 * b->pixels);
-    b->picture = room(2 * b->pixels);
-    b->drawn = room(2 * b->pixels);
-    b->map = room(2 * tz_map_entries(&b->settings));
-    b->scratch = room(4 * tz_scratch_entries(&b->settings));
-    b->file = room(tz_write_bytes(side, side));
-    draw_film(b);
-}
-
-static void close_bench(struct bench *b)
-{
-    free(b->film);
-    free(b->picture);
-    free(b->drawn);
-    free(b->map);
-    free(b->scratch);
-    free(b->file);
-}
-
-/* ---- the calls ---- */
-
-static void lay_out(struct bench *b) { memcpy(b->picture, b->film, 2 * b->pixels); }
-
-static long enhance(struct bench *b)
-{
-    return tzofnadir_enhance(b->side, b->side, b->picture, b->pixels, &b->settings, b->map,
-                             tz_map_entries(&b->settings), b->scratch, tz_scratch_entries(&b->settings), &b->footer);
-}
-
-static long prepare(struct bench *b)
-{
-    return tzofnadir_prepare(FILM, b->side, b->side, b->film, b->pixels, &b->settings, b->map,
-                             tz_map_entries(&b->settings), b->scratch, tz_scratch_entries(&b->settings), &b->record,
-                             &b->footer);
-}
-
-static long draw(struct bench *b)
-{
-    return tzofnadir_draw(FILM, b->side, b->side, b->film, b->pixels, &b->settings, &b->record, &b->window, b->map,
-                          tz_map_entries(&b->settings), b->drawn, b->area);
-}
-
-static long write_file(struct bench *b)
-{
-    return tzofnadir_write(b->film, b->pixels, &b->sizes, b->file, tz_write_bytes(b->side, b->side), &b->file_len);
-}
-
-static long read_file(struct bench *b)
-{
-    tz_sizes sizes;
-    tz_part part;
-    uint32_t refusal = tzofnadir_read_sizes(b->file, b->file_len, &sizes);
-    if (refusal == TZ_DONE)
-        refusal = tzofnadir_read_raster(b->file, b->file_len, &part);
-    if (refusal == TZ_DONE)
-        refusal = tzofnadir_read_greys(b->file, b->file_len, part.start, &sizes, b->picture, b->pixels);
-    return refusal;
-}
-
-static long listing_1994(struct bench *b)
-{
-    const tz_settings *s = &b->settings;
-    return clahe1994(b->picture, b->side, b->side, s->min, s->max, s->across, s->down, s->bins, s->factor);
-}
-
-static long copy(struct bench *b)
-{
-    memcpy(b->drawn, b->film, 2 * b->pixels);
-    return 0;
-}
+/* At 8 bits and 128 bins a bin is the same part of the range as at 12: a calm film of 8 bits would tell nothing new. */
+static const struct reel {
+    enum kind kind;
+    uint32_t bits;
+} reels[] = {{NOISY, 8}, {NOISY, 12}, {CALM, 12}};
 
 /* ---- measuring ---- */
+
+/* In the order in which they take turns: draw comes behind prepare, with whose mappings it draws. */
+enum call { ENHANCE, BY_1994, COPY, SCAN, UNCLIPPED, PREPARE, DRAW, WRITE, READ, CALLS };
+
+#define ONE(call) (1u << (call))
+#define ALL (ONE(CALLS) - 1)
+
+static const struct {
+    void (*before)(struct bench *);
+    long (*call)(struct bench *);
+} calls[CALLS] = {
+    [ENHANCE] = {lay_out, call_enhance}, [BY_1994] = {lay_out, call_1994},     [COPY] = {NULL, call_copy},
+    [SCAN] = {NULL, call_scan},          [UNCLIPPED] = {NULL, call_unclipped}, [PREPARE] = {NULL, call_prepare},
+    [DRAW] = {NULL, call_draw},          [WRITE] = {NULL, call_write},         [READ] = {NULL, call_read},
+};
+
+/* What was measured of a film: the best turn of each call, in nanoseconds. */
+struct result {
+    double pixels, area;
+    double share; /* of the pixels, in their left neighbour's bin */
+    double best[CALLS];
+};
 
 static double now(void)
 {
@@ -165,82 +62,100 @@ static double now(void)
     return (double)t.tv_sec * 1e9 + (double)t.tv_nsec;
 }
 
-/* A call to be measured, and its best time so far, in nanoseconds a pixel. */
-struct turn {
-    const char *name;
-    void (*before)(struct bench *);
-    long (*call)(struct bench *);
-    size_t pixels;
-    double best;
-};
-
-static void take_turn(struct bench *b, struct turn *t)
+static double run_once(struct bench *b, enum call c)
 {
-    for (int i = 0; i < 2; i++) {
-        if (t->before != NULL)
-            t->before(b);
-        double began = now();
-        long answer = t->call(b);
-        double took = (now() - began) / (double)t->pixels;
-        if (answer != 0)
-            end("a call did not end well", answer);
-        if (i == 1 && (t->best == 0 || took < t->best))
-            t->best = took;
+    if (calls[c].before != NULL)
+        calls[c].before(b);
+    double began = now();
+    long answer = calls[c].call(b);
+    double took = now() - began;
+    if (answer != 0)
+        end("a call did not end well", answer);
+    return took;
+}
+
+static void take_turn(struct bench *b, enum call c, double *best)
+{
+    run_once(b, c);
+    double took = run_once(b, c);
+    if (*best == 0 || took < *best)
+        *best = took;
+}
+
+static int rounds(uint32_t side) { return side >= 4096 ? 15 : side >= 2048 ? 30 : side >= 1024 ? 60 : 100; }
+
+static double share_of(const struct bench *b)
+{
+    return film_share(b->film, b->of.side, 1 + (b->settings.max - b->settings.min) / b->settings.bins);
+}
+
+/* Measures the calls of the set `which` on a film, when its check is passed. */
+static struct result measure(const struct subject *of, unsigned which)
+{
+    struct bench b;
+    open_bench(&b, of);
+    check(&b);
+    struct result r = {.pixels = (double)b.pixels, .area = (double)b.area, .share = share_of(&b)};
+    for (int i = rounds(of->side); i > 0; i--)
+        for (int c = 0; c < CALLS; c++)
+            if ((which & ONE(c)) != 0)
+                take_turn(&b, (enum call)c, &r.best[c]);
+    close_bench(&b);
+    return r;
+}
+
+static struct subject usual(enum kind kind, uint32_t side, uint32_t bits)
+{
+    return (struct subject){kind, side, bits, GRID, BINS, WINDOW};
+}
+
+/* ---- the films ---- */
+
+static void film_row(const struct reel *reel)
+{
+    static const uint32_t all[] = {256, 512, 1024, 2048, 4096};
+    printf("| %-5s | %2u |", film_name(reel->kind), (unsigned)reel->bits);
+    for (size_t i = 0; i < MANY(all); i++) {
+        struct bench b;
+        struct subject of = usual(reel->kind, all[i], reel->bits);
+        open_bench(&b, &of);
+        printf(" %4.1f |", 100 * share_of(&b));
+        close_bench(&b);
     }
+    printf("\n");
 }
 
-/* What is measured is worth nothing if it is wrong. Leaves enhance's picture in `picture`. */
-static void check(struct bench *b)
+static void films_table(void)
 {
-    write_file(b);
-    if (read_file(b) != 0 || memcmp(b->picture, b->film, 2 * b->pixels) != 0)
-        end("a film written and read back is another", b->side);
-    prepare(b);
-    draw(b);
-    enhance(b);
-    for (uint32_t y = 0; y < b->window.height; y++)
-        if (memcmp(b->drawn + (size_t)y * b->window.width,
-                   b->picture + (size_t)(b->window.top + y) * b->side + b->window.left, 2 * b->window.width) != 0)
-            end("a drawn row is not enhance's", y);
+    printf("### Films\n\n"
+           "Percent of the pixels that lie in their left neighbour's bin, at %u bins, by the side.\n\n", BINS);
+    printf("| film | bits | 256 | 512 | 1024 | 2048 | 4096 |\n|---|---|---|---|---|---|---|\n");
+    for (size_t i = 0; i < MANY(reels); i++)
+        film_row(&reels[i]);
 }
 
-/* How far the rendering of 1994 is from ours: it rounds otherwise and hands out the excess otherwise. */
-static void compare(struct bench *b)
-{
-    size_t differ = 0;
-    int most = 0;
-    memcpy(b->drawn, b->picture, 2 * b->pixels);
-    lay_out(b);
-    listing_1994(b);
-    for (size_t i = 0; i < b->pixels; i++) {
-        int by = (int)b->picture[i] - (int)b->drawn[i];
-        by = by < 0 ? -by : by;
-        differ += by != 0;
-        most = by > most ? by : most;
-    }
-    printf("\n%u square, %u bits: the 1994 rendering differs from ours in %.1f%% of the pixels, by at most %d greys.\n",
-           (unsigned)b->side, (unsigned)b->bits, 100.0 * (double)differ / (double)b->pixels, most);
-}
+/* ---- the calls ---- */
 
-/* ---- the table ---- */
-
-static double opencv_time(const char *path, uint32_t side, uint32_t bits)
+/* OpenCV's time for a film, in nanoseconds a pixel; 0 where there is none. */
+static double opencv_time(const char *path, const struct subject *of)
 {
-    char line[128];
-    unsigned s, d;
+    char line[128], name[16];
+    unsigned side, bits;
     double ns, found = 0;
     FILE *from = path == NULL ? NULL : fopen(path, "r");
     if (from == NULL)
         return 0;
     while (fgets(line, sizeof line, from) != NULL)
-        if (sscanf(line, "%u %u %lf", &s, &d, &ns) == 3 && s == side && d == bits)
+        if (sscanf(line, "%u %u %15s %lf", &side, &bits, name, &ns) == 4 && side == of->side && bits == of->bits &&
+            strcmp(name, film_name(of->kind)) == 0)
             found = ns;
     fclose(from);
     return found;
 }
 
+/* What a call is held against, in nanoseconds a pixel. */
 struct against {
-    double listing, opencv, copy;
+    double by_1994, opencv, copy;
 };
 
 static void ratio(double ours, double theirs)
@@ -251,70 +166,178 @@ static void ratio(double ours, double theirs)
         printf("        - |");
 }
 
-static void row(const struct bench *b, const char *call, double ns, const struct against *a)
+static void call_row(const struct subject *of, const char *call, double ns, const struct against *a)
 {
-    if (ns <= 0)
-        return;
-    printf("| %4u | %2u | %-7s | %8.3f |", (unsigned)b->side, (unsigned)b->bits, call, ns);
-    ratio(ns, a->listing);
+    printf("| %4u | %2u | %-5s |", (unsigned)of->side, (unsigned)of->bits, film_name(of->kind));
+    printf(" %-9s | %8.3f |", call, ns);
+    ratio(ns, a->by_1994);
     ratio(ns, a->opencv);
     ratio(ns, a->copy);
     printf("\n");
+}
+
+static void call_rows(const struct subject *of, const char *opencv)
+{
+    struct result r = measure(of, ALL);
+    const double *best = r.best;
+    struct against a = {best[BY_1994] / r.pixels, opencv_time(opencv, of), best[COPY] / r.pixels};
+    call_row(of, "enhance", best[ENHANCE] / r.pixels, &a);
+    call_row(of, "prepare", best[PREPARE] / r.pixels, &a);
+    call_row(of, "scan", best[SCAN] / r.pixels, &a);
+    call_row(of, "counting", (best[UNCLIPPED] - best[SCAN]) / r.pixels, &a);
+    call_row(of, "rendering", (best[ENHANCE] - best[PREPARE]) / r.pixels, &a);
+    call_row(of, "draw", best[DRAW] / r.area, &a);
+    call_row(of, "write", best[WRITE] / r.pixels, &a);
+    call_row(of, "read", best[READ] / r.pixels, &a);
+    call_row(of, "1994", a.by_1994, &a);
+    if (a.opencv > 0)
+        call_row(of, "OpenCV", a.opencv, &a);
+    call_row(of, "copy", a.copy, &a);
     fflush(stdout);
 }
 
-static void measure(struct bench *b, const char *opencv)
+/* On a film of 2 by 2 pixels a tile nearly all time goes to what a tile costs however many pixels it has. */
+static void tiles_alone(void)
 {
-    int rounds = b->side >= 4096 ? 7 : b->side >= 2048 ? 15 : 60;
-    struct turn turns[] = {
-        {"enhance", lay_out, enhance, b->pixels, 0},   {"1994", lay_out, listing_1994, b->pixels, 0},
-        {"copy", NULL, copy, b->pixels, 0},            {"prepare", NULL, prepare, b->pixels, 0},
-        {"draw", NULL, draw, b->area, 0},              {"write", NULL, write_file, b->pixels, 0},
-        {"read", NULL, read_file, b->pixels, 0},
-    };
-    int many = sizeof turns / sizeof turns[0];
-    for (int r = 0; r < rounds; r++)
-        for (int i = 0; i < many; i++)
-            take_turn(b, &turns[i]);
-    struct against a = {turns[1].best, opencv_time(opencv, b->side, b->bits), turns[2].best};
-    for (int i = 0; i < many; i++)
-        row(b, turns[i].name, turns[i].best, &a);
-    row(b, "OpenCV", a.opencv, &a);
+    struct subject of = usual(NOISY, 2 * GRID, 12);
+    struct result r = measure(&of, ONE(UNCLIPPED));
+    printf("\nIn counting, %u tiles of %u bins take %.1f µs whatever their pixels (measured on a film %u square).\n",
+           GRID * GRID, BINS, r.best[UNCLIPPED] / 1e3, 2 * GRID);
 }
 
-static void run(const char *opencv)
+static void calls_table(const char *opencv)
 {
-    struct bench b;
-    printf("| side | bits | call | ns a pixel | of 1994 | of OpenCV | of copy |\n|---|---|---|---|---|---|---|\n");
-    for (int i = 0; i < 3; i++)
-        for (int j = 0; j < 2; j++) {
-            open_bench(&b, sides[i], depths[j]);
-            check(&b);
-            measure(&b, opencv);
-            close_bench(&b);
+    printf("\n### Calls\n\nA ratio below 1 is faster than what it is held against.\n\n");
+    printf("| side | bits | film | call | ns a pixel | of 1994 | of OpenCV | of copy |\n"
+           "|---|---|---|---|---|---|---|---|\n");
+    for (size_t i = 0; i < MANY(sides); i++)
+        for (size_t j = 0; j < MANY(reels); j++) {
+            struct subject of = usual(reels[j].kind, sides[i], reels[j].bits);
+            call_rows(&of, opencv);
         }
-    for (int j = 0; j < 2; j++) {
-        open_bench(&b, sides[0], depths[j]);
+    tiles_alone();
+}
+
+/* ---- the rendering of 1994 ---- */
+
+/* How far the rendering of 1994 is from ours, which stands in `picture`. */
+static void compare(struct bench *b)
+{
+    size_t differ = 0;
+    int most = 0;
+    memcpy(b->drawn, b->picture, 2 * b->pixels);
+    run_once(b, BY_1994);
+    for (size_t i = 0; i < b->pixels; i++) {
+        int by = (int)b->picture[i] - (int)b->drawn[i];
+        by = by < 0 ? -by : by;
+        differ += by != 0;
+        most = by > most ? by : most;
+    }
+    printf("\n%u square, %u bits, %s: ", (unsigned)b->of.side, (unsigned)b->of.bits, film_name(b->of.kind));
+    printf("the 1994 rendering differs from ours in %.1f%% of the pixels, by at most %d greys.\n",
+           100.0 * (double)differ / (double)b->pixels, most);
+}
+
+static void comparison(void)
+{
+    for (size_t j = 0; j < MANY(reels); j++) {
+        struct bench b;
+        struct subject of = usual(reels[j].kind, sides[0], reels[j].bits);
+        open_bench(&b, &of);
         check(&b);
         compare(&b);
         close_bench(&b);
     }
 }
 
-static void films(const char *folder)
+/* ---- the bins ---- */
+
+static void bins_row(enum kind kind, uint32_t side, uint32_t bins)
+{
+    struct subject of = usual(kind, side, 12);
+    of.bins = bins;
+    struct result r = measure(&of, ONE(ENHANCE) | ONE(PREPARE) | ONE(BY_1994));
+    const double *best = r.best;
+    printf("| %4u | %-5s | %4u | %4.1f |", (unsigned)side, film_name(kind), (unsigned)bins, 100 * r.share);
+    printf(" %8.3f | %8.3f | %8.3f | %8.3f |", best[ENHANCE] / r.pixels, best[PREPARE] / r.pixels,
+           (best[ENHANCE] - best[PREPARE]) / r.pixels, best[BY_1994] / r.pixels);
+    ratio(best[ENHANCE], best[BY_1994]);
+    printf("\n");
+    fflush(stdout);
+}
+
+static void bins_table(void)
+{
+    static const uint32_t ends[] = {512, 4096}, bins[] = {128, 256, 1024, 4096};
+    printf("\n### Bins\n\n"
+           "Nanoseconds a pixel, 12 bits. Share: percent of the pixels that lie in their left neighbour's bin.\n\n");
+    printf("| side | film | bins | share | enhance | prepare | rendering | 1994 | enhance of 1994 |\n"
+           "|---|---|---|---|---|---|---|---|---|\n");
+    for (size_t i = 0; i < MANY(ends); i++)
+        for (int kind = 0; kind < KINDS; kind++)
+            for (size_t k = 0; k < MANY(bins); k++)
+                bins_row((enum kind)kind, ends[i], bins[k]);
+}
+
+/* ---- how time grows ---- */
+
+static void growth_row(const char *grows, uint32_t side, uint32_t grid, uint32_t bins)
+{
+    struct subject of = {NOISY, side, 12, grid, bins, SMALL_WINDOW};
+    struct result r = measure(&of, ONE(PREPARE) | ONE(ENHANCE) | ONE(DRAW));
+    printf("| %-6s | %4u | %2u by %-2u | %4u | %8.3f | %8.3f | %8.1f |\n", grows, (unsigned)side, (unsigned)grid,
+           (unsigned)grid, (unsigned)bins, r.best[PREPARE] / r.pixels, r.best[ENHANCE] / r.pixels, r.best[DRAW] / 1e3);
+    fflush(stdout);
+}
+
+static void growth_table(void)
+{
+    static const uint32_t lengths[] = {256, 512, 1024, 2048, 4096};
+    static const uint32_t bins[] = {16, 64, 128, 256, 512, 1024, 2048, 4096};
+    static const uint32_t grids[] = {2, 4, 8, 16};
+    printf("\n### How time grows\n\n"
+           "Noisy film of 12 bits. The window drawn is %u by %u.\n\n", SMALL_WINDOW, SMALL_WINDOW);
+    printf("| grows | side | grid | bins | prepare, ns a pixel | enhance, ns a pixel | draw, µs a window |\n"
+           "|---|---|---|---|---|---|---|\n");
+    for (size_t i = 0; i < MANY(lengths); i++)
+        growth_row("pixels", lengths[i], GRID, BINS);
+    for (size_t i = 0; i < MANY(bins); i++)
+        growth_row("bins", 2048, GRID, bins[i]);
+    for (size_t i = 0; i < MANY(grids); i++)
+        growth_row("tiles", 2048, grids[i], BINS);
+}
+
+/* ---- what is asked ---- */
+
+static void write_film(const char *folder, const struct subject *of)
 {
     struct bench b;
     char path[4096];
-    for (int i = 0; i < 3; i++)
-        for (int j = 0; j < 2; j++) {
-            open_bench(&b, sides[i], depths[j]);
-            write_file(&b);
-            snprintf(path, sizeof path, "%s/%u-%u.pgm", folder, (unsigned)b.side, (unsigned)b.bits);
-            FILE *to = fopen(path, "wb");
-            if (to == NULL || fwrite(b.file, 1, b.file_len, to) != b.file_len || fclose(to) != 0)
-                end("a film cannot be written", b.side);
-            close_bench(&b);
+    open_bench(&b, of);
+    snprintf(path, sizeof path, "%s/%u-%u-%s.pgm", folder, (unsigned)of->side, (unsigned)of->bits,
+             film_name(of->kind));
+    FILE *to = fopen(path, "wb");
+    if (call_write(&b) != 0 || to == NULL || fwrite(b.file, 1, b.file_len, to) != b.file_len || fclose(to) != 0)
+        end("a film cannot be written", of->side);
+    close_bench(&b);
+}
+
+static void films(const char *folder)
+{
+    for (size_t i = 0; i < MANY(sides); i++)
+        for (size_t j = 0; j < MANY(reels); j++) {
+            struct subject of = usual(reels[j].kind, sides[i], reels[j].bits);
+            write_film(folder, &of);
         }
+}
+
+static void run(const char *opencv)
+{
+    films_table();
+    calls_table(opencv);
+    comparison();
+    bins_table();
+    growth_table();
 }
 
 int main(int argc, char **argv)

@@ -1,14 +1,15 @@
--- What a call beneath gave is handed on: one law for each answer of each call.
+-- What a call beneath gave is handed on: one law for each answer of each call; and a record that was handed out and is handed back is the same.
 -- Assumes nothing.
 use Prim.Native.Nat.{ℕ, zero, suc, _-_, _≤_, _<_}
 use mathlib.Core.List.{List, [], _∷_}
-use mathlib.Core.Path.{_≡_, refl, sym}
+use mathlib.Core.Path.{_≡_, refl, sym, ap}
 use native.Mathlib.Omega.{arith}
 use borrow.Author.Tests.{lt-ltb, le-ltb}
 use lib.Ieee.{Float}
 use lib.ListN.{length, length-drop}
 use Rattle.lists.specs.Lists.{onto}
-use Rattle.limit.specs.declared.Clip.the-variants.{Factor}
+use Rattle.limit.specs.declared.Clip.{Clip}
+use Rattle.limit.specs.declared.Clip.the-variants.{Off, Factor}
 use Rattle.settings.specs.declared.MapRecord.{MapRecord}
 use Rattle.settings.specs.declared.Footer.{Footer}
 use Rattle.prepare.specs.declared.Prepared.{Prepared}
@@ -29,9 +30,9 @@ use Rattle.pgm.specs.declared.Written.{Written}
 use Rattle.pgm.specs.declared.Written.the-variants as Written
 use Rattle.pgm.specs.Pgm.{readOf, sizesOf, rasterOf, sizesSays, turnedSays, Greyed, greyedAs, writtenSays, Wrote, wroteAs}
 use Rattle.pgm.proofs.Tables.{read-within}
-use Rattle.abi.specs.Flat.{clipFrom, clipFactor, recordNumbers}
+use Rattle.abi.specs.Flat.{clipFrom, clipNumber, clipFactor, recordNumbers, recordFrom}
 use Rattle.abi.specs.Films.{Foot, footAfter, preparedAs, flatPrepared, enhancedAs, flatEnhanced, drawnAs, flatDrawn}
-use Rattle.abi.specs.Files.{answered, flatSizes, flatRaster, flatGreys, writtenAs, flatWritten, flatListing}
+use Rattle.abi.specs.Files.{answered, flatSizes, flatRaster, flatGreys, writtenAs, flatWritten}
 
 -- a number that is not 0 carries the factor
 pub clip-some : (n : ℕ) (f : Float) → (n ≡ 0 → ⊥) → Factor f ≡ clipFrom n f
@@ -117,13 +118,27 @@ pub written-refused : {a : Written} {out : List ℕ} (w : Wrote) (old : ℕ) {n 
 unfolding flatWritten writtenSays
 written-refused w old p q = rw (← p, q) refl
 
--- ---- the listing
+-- ---- a record handed out and handed back
 
-pub listing-short : (text out : List ℕ) (count : ℕ) → length out < 512 → writtenAs 27 out count ≡ flatListing text out count
-unfolding flatListing
-listing-short text out count h = rw (lt-ltb (length out) 512 h) refl
+-- the clip setting's number and factor give it back
+clip-back : (clip : Clip) → clipFrom (clipNumber clip) (clipFactor clip) ≡ clip
+clip-back Off = refl
+clip-back (Factor f) = refl
 
-pub listing-laid : (text out : List ℕ) (count : ℕ) {n : ℕ} {left : List ℕ} → 512 ≤ length out → left ≡ onto out text → n ≡ length text
-    → writtenAs 0 left n ≡ flatListing text out count
-unfolding flatListing
-listing-laid text out count h p q = rw (p, q, le-ltb (length out) 512 h) refl
+-- "A record is nine numbers and its factor apart.": those that tz_prepare hands out are read by tz_draw as the same record
+pub record-back : (r : MapRecord) → recordFrom (recordNumbers r) (clipFactor (r .settings .clip)) ≡ r
+record-back r =
+    ap (λ c. record {
+      film = r .film;
+      width = r .width;
+      height = r .height;
+      settings =
+          record {
+            across = r .settings .across;
+            down = r .settings .down;
+            bins = r .settings .bins;
+            min = r .settings .min;
+            max = r .settings .max;
+            clip = c;
+          };
+    }) (clip-back (r .settings .clip))

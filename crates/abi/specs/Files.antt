@@ -2,9 +2,7 @@
 -- The quoted sentences are document 01's, and those of docs/DECISIONS.md, "The C interface and the command line".
 -- Assumes nothing.
 use Prim.Native.Nat.{ℕ, _-_}
-use mathlib.Core.Bool.{Bool, true, false}
 use mathlib.Core.List.{List, [], _∷_}
-use lib.Dec.{ltb}
 use lib.ListN.{length}
 use Rattle.lists.specs.Lists.{onto}
 use Rattle.refuse.specs.Refuse.{Says, accepted, refused}
@@ -54,14 +52,3 @@ writtenBy (refused n) out count = writtenAs n out count
 -- from what write leaves, and what the count's cell held before
 unfoldable pub flatWritten : Wrote → ℕ → FlatWritten
 flatWritten w count = writtenBy (writtenSays (w .answer)) (w .out) count
-
--- ---- the listing
-
--- the one where it holds, else the other
-abbrev pub pickWritten : Bool → FlatWritten → FlatWritten → FlatWritten
-pickWritten true a b = a
-pickWritten false a b = b
-
--- "A film's refusal is part of its text; 27 is given where fewer than 512 bytes are lent": the text at the output's front, and its length
-unfoldable pub flatListing : List ℕ → List ℕ → ℕ → FlatWritten
-flatListing text out count = pickWritten (ltb (length out) 512) (writtenAs 27 out count) (writtenAs 0 (onto out text) (length text))

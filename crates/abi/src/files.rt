@@ -1,9 +1,9 @@
 // The calls on PGM files.
 ghost use mathlib.Core.Path.{_≡_};
 ghost use lib.ListN.{length};
-ghost use Rattle.pgm.specs.Pgm.{readOf, sizesOf, sizesSays, greysOf, writeOf};
-ghost use Rattle.lister.specs.Lister.{listingOf};
-ghost use Rattle.abi.specs.Files.{answered, flatSizes, flatRaster, flatGreys, writtenAs, flatWritten, flatListing};
+ghost use Rattle.pgm.specs.Pgm.{readOf, sizesOf, sizesSays, turnedOf, writeOf};
+ghost use Rattle.lister.specs.Lister.{listOf};
+ghost use Rattle.abi.specs.Files.{answered, flatSizes, flatRaster, flatGreys, writtenAs, flatWritten};
 use pgm::Sizes;
 use pgm::Turned;
 use pgm::Written;
@@ -47,7 +47,7 @@ pub extern "C" fn tz_read_greys(
     maxval: u32,
     target: &mut [u16],
 ) -> u32
-    ensures { λ r. ⌜ answered r (now (target .exit)) ≡ flatGreys (greysOf (now (bytes .entry)) start width height maxval (now (target .entry))) ⌝ }
+    ensures { λ r. ⌜ answered r (now (target .exit)) ≡ flatGreys (turnedOf (now (bytes .entry)) start width height maxval (now (target .entry))) ⌝ }
 {
     let answer = pgm::read_greys(bytes, start, width, height, maxval, target);
     match answer {
@@ -80,12 +80,14 @@ pub extern "C" fn tz_write(
 // The listing of a PGM file: a refusal is part of its text. 27 where the output has no 512 bytes.
 #[no_mangle]
 pub extern "C" fn tz_listing(bytes: &[u8], out: &mut [u8], count: &mut usize) -> u32
-    ensures { λ r. ⌜ writtenAs r (now (out .exit)) (now (count .exit)) ≡ flatListing (listingOf (now (bytes .entry))) (now (out .entry)) (now (count .entry)) ⌝ }
+    ensures { λ r. ⌜ writtenAs r (now (out .exit)) (now (count .exit)) ≡ flatWritten (listOf (now (bytes .entry)) (now (out .entry))) (now (count .entry)) ⌝ }
 {
-    if out.len() < 512 {
-        return 27;
+    let answer = lister::list(bytes, out);
+    match answer {
+        Written::Bytes(laid) => {
+            *count = laid;
+            0
+        }
+        Written::Refused(number) => number,
     }
-    let laid = lister::list(bytes, out);
-    *count = laid;
-    0
 }

@@ -7,10 +7,10 @@ use mathlib.Core.Path.{_≡_, refl, sym, ap, ap₂, _∙_}
 use lib.Arith.{digits-div, digits-mod}
 use lib.Dec.{ltb, eqb}
 use borrow.Author.Tests.{lt-ltb, le-ltb, eq-eqb, ne-eqb, eqb-true, eqb-false, ltb-true, ltb-false}
-use native.Mathlib.Nat.{mul-comm, mul-assoc, add-mul, zero-mul, mul-le-mul-left, mul-le-mul-right, mod-lt, div-lt-iff-lt-mul, le-div-iff-mul-le, mul-div-cancel-left, mul-pos, div-le-of-le-mul, le-refl, div-mul-le-self, one-mul, mul-le-mul, div-add-mod', div-le-self, mul-one, mul-add}
+use native.Mathlib.Nat.{mul-comm, mul-assoc, add-mul, zero-mul, mul-le-mul-left, mul-le-mul-right, mod-lt, div-lt-iff-lt-mul, le-div-iff-mul-le, mul-div-cancel-left, mul-pos, div-le-of-le-mul, le-refl, div-mul-le-self, one-mul, mul-le-mul, div-add-mod', div-le-self, mul-one, mul-add, mul-left-comm}
 use native.Mathlib.Omega.{arith}
 use Rattle.blend.specs.declared.Place.{Place}
-use Rattle.blend.specs.Blend.{half, alone, between, pickPlace, placeOf, weighedOf, greyOf, Sound, Factor, moved, Run}
+use Rattle.blend.specs.Blend.{half, alone, between, placeOf, weighedOf, greyOf, pairOf, sidesOf, Sound, inverseOf, Inverse, moved, Run, lengthOf}
 use Rattle.lists.proofs.Inverses.{by-inverse}
 
 -- ---- places
@@ -147,24 +147,59 @@ weighed-most {column = column} {row = row} {hi = hi} {a = a} {b = b} {c = c} {d 
     (mean-most (column .lowerweight) (column .upperweight) (column .span) c d hi (i .weights) hc hd))
 
 -- the weighed sum times the factor stays in 64 bits
-pub factor-room : (n d f : ℕ) → n ≤ d * 4095 → 0 < f → Factor d f → n * f ≤ 4095 * 281474976972800
+pub factor-room : (n d f : ℕ) → n ≤ d * 4095 → 0 < f → Inverse d f → n * f ≤ 4095 * 4503599628419072
 factor-room n d f h k i =
-    let e : f ≡ 281474976710656 / d + 1 = i .inverse k in
-    let s : d ≤ 262144 = i .small k in
-    let u : (281474976710656 / d + 1) * d ≤ 281474976972800 = rw (add-mul (281474976710656 / d) 1 d) (omega (arith, div-mul-le-self 281474976710656 d, one-mul d)) in
+    let e : f ≡ 4503599627370496 / d + 1 = i .inverse k in
+    let s : d ≤ 1048576 = i .small k in
+    let u : (4503599627370496 / d + 1) * d ≤ 4503599628419072 = rw (add-mul (4503599627370496 / d) 1 d) (omega (arith, div-mul-le-self 4503599627370496 d, one-mul d)) in
     let v : n * f ≤ d * 4095 * f = mul-le-mul-right f h in
     let w : d * 4095 * f ≡ 4095 * (f * d) = ap (λ t. t * f) (mul-comm d 4095) ∙ mul-assoc 4095 d f ∙ ap (λ t. 4095 * t) (mul-comm d f) in
-    let y : f * d ≤ 281474976972800 = rw e u in
+    let y : f * d ≤ 4503599628419072 = rw e u in
     omega arith
 
 -- and gives the quotient
-pub factor-divides : (n d f : ℕ) → n ≤ d * 4095 → 0 < d → 0 < f → Factor d f → n * f / 281474976710656 ≡ n / d
+pub factor-divides : (n d f : ℕ) → n ≤ d * 4095 → 0 < d → 0 < f → Inverse d f → n * f / 4503599627370496 ≡ n / d
 factor-divides n d f h l k i =
-    let s : d ≤ 262144 = i .small k in
+    let s : d ≤ 1048576 = i .small k in
     let v : n * d ≤ d * 4095 * d = mul-le-mul-right d h in
     let w : d * 4095 * d ≡ 4095 * (d * d) = ap (λ t. t * d) (mul-comm d 4095) ∙ mul-assoc 4095 d d in
-    let y : d * d ≤ 262144 * 262144 = mul-le-mul s s in
-    ap (λ t. n * t / 281474976710656) (i .inverse k) ∙ by-inverse 281474976710656 n d l (omega arith)
+    let y : d * d ≤ 1048576 * 1048576 = mul-le-mul s s in
+    ap (λ t. n * t / 4503599627370496) (i .inverse k) ∙ by-inverse 4503599627370496 n d l (omega arith)
+
+-- ---- by columns first
+
+-- a pair of values of at most `hi`
+pub pair-most : {grid most : ℕ} {p : Place} {a b hi : ℕ} → Sound grid most p → a ≤ hi → b ≤ hi → pairOf p a b ≤ p .span * hi
+pair-most {p = p} {a = a} {b = b} {hi = hi} i h k = mean-most (p .lowerweight) (p .upperweight) (p .span) a b hi (i .weights) h k
+
+module _ {grid most grid′ most′ : ℕ} {column row : Place} (i : Sound grid most column) (j : Sound grid′ most′ row) {l r : ℕ} (h : l ≤ row .span * 4095) (k : r ≤ row .span * 4095) where
+  -- what is divided, against what it is divided by
+  pub sides-weighed : pairOf column l r ≤ column .span * row .span * 4095
+  sides-weighed = rw (mul-assoc (column .span) (row .span) 4095) (pair-most i h k)
+
+  -- the grey is at most 4095
+  pub sides-most : sidesOf column row l r ≤ 4095
+  unfolding sidesOf
+  sides-most = div-le-of-le-mul (column .span * row .span) sides-weighed
+
+-- the four mapped values by columns first: the grey is the same
+pub sides-grey : (column row : Place) (a b c d : ℕ) → sidesOf column row (pairOf row a c) (pairOf row b d) ≡ greyOf column row a b c d
+unfolding sidesOf greyOf
+sides-grey p row a b c d = ap (λ n. n / (p .span * row .span)) same
+  where
+    same : pairOf p (pairOf row a c) (pairOf row b d) ≡ weighedOf p row a b c d
+    same =
+        omega (
+          arith,
+          mul-add (row .lowerweight) (p .lowerweight * a) (p .upperweight * b),
+          mul-add (row .upperweight) (p .lowerweight * c) (p .upperweight * d),
+          mul-add (p .lowerweight) (row .lowerweight * a) (row .upperweight * c),
+          mul-add (p .upperweight) (row .lowerweight * b) (row .upperweight * d),
+          mul-left-comm (row .lowerweight) (p .lowerweight) a,
+          mul-left-comm (row .lowerweight) (p .upperweight) b,
+          mul-left-comm (row .upperweight) (p .lowerweight) c,
+          mul-left-comm (row .upperweight) (p .upperweight) d,
+        )
 
 -- ---- columns between the same tiles
 
@@ -293,28 +328,65 @@ run-first side grid x {p} e l g =
 pub column-small : {side grid x : ℕ} → side ≤ 2048 → grid ≤ 16 → x < side * grid → side * grid ≤ 32768
 column-small s g h = omega (arith, mul-le-mul s g)
 
--- a place's span is the side
-pub place-span : (side grid x : ℕ) → placeOf side grid x .span ≡ side
-unfolding placeOf
-place-span side grid x =
-    picked (ltb x (half side)) _ _ refl
-    (picked (eqb ((x - half side) / side + 1) grid) _ _ refl refl)
-  where
-    picked : (b : Bool) (p q : Place) → p .span ≡ side → q .span ≡ side → pickPlace b p q .span ≡ side
-    picked true p q e f = e
-    picked false p q e f = f
-
 -- a sound place moved along is sound
 pub moved-sound : {grid most : ℕ} {p : Place} (j : ℕ) → Sound grid most p → j ≤ p .lowerweight → Sound grid most (moved p j)
 moved-sound j i l = record { weights = omega (arith, i .weights); some = i .some; bound = i .bound; lower = i .lower; upper = i .upper }
 
--- where both sides have the same values the weights may move: the grey stays
+-- where both sides have the same value the weights may move
+pub pair-moved : (p : Place) (j v : ℕ) → j ≤ p .lowerweight → pairOf (moved p j) v v ≡ pairOf p v v
+pair-moved p j v l =
+    let sums : p .lowerweight - j + (p .upperweight + j) ≡ p .lowerweight + p .upperweight = omega arith in
+    sym (add-mul (p .lowerweight - j) (p .upperweight + j) v) ∙ ap (λ z. z * v) sums ∙ add-mul (p .lowerweight) (p .upperweight) v
+
+-- so the grey stays
 pub grey-moved : (p row : Place) (j a c : ℕ) → j ≤ p .lowerweight → greyOf (moved p j) row a a c c ≡ greyOf p row a a c c
 unfolding greyOf
-grey-moved p row j a c l = ap₂ (λ u v. (row .lowerweight * u + row .upperweight * v) / (p .span * row .span)) (same a) (same c)
-  where
-    sums : p .lowerweight - j + (p .upperweight + j) ≡ p .lowerweight + p .upperweight
-    sums = omega arith
+grey-moved p row j a c l = ap₂ (λ u v. (row .lowerweight * u + row .upperweight * v) / (p .span * row .span)) (pair-moved p j a l) (pair-moved p j c l)
 
-    same : (v : ℕ) → (p .lowerweight - j) * v + (p .upperweight + j) * v ≡ p .lowerweight * v + p .upperweight * v
-    same v = sym (add-mul (p .lowerweight - j) (p .upperweight + j) v) ∙ ap (λ z. z * v) sums ∙ add-mul (p .lowerweight) (p .upperweight) v
+-- and so does the grey from pairs
+pub sides-moved : (p row : Place) (j l : ℕ) → j ≤ p .lowerweight → sidesOf (moved p j) row l l ≡ sidesOf p row l l
+unfolding sidesOf
+sides-moved p row j l h = ap (λ n. n / (p .span * row .span)) (pair-moved p j l h)
+
+-- a run's first columns are a run
+pub run-shorter : {side grid x n k : ℕ} {p : Place} → Run side grid x p n → 0 < k → k ≤ n → Run side grid x p k
+run-shorter run s l =
+    record {
+      some = s;
+      most = omega (arith, run .most);
+      two = λ h j m. run .two h j (omega arith);
+      one = λ h. (run .one h .0, λ j m. run .one h .1 j (omega arith));
+    }
+
+-- what is worked out of the moved weights of a run is worked out of each column's own place, if one tile alone gives the same wherever its weights are moved to
+pub run-place : {R : Type 0} (f : Place → R) {side grid x n : ℕ} {p : Place} → Run side grid x p n → (j : ℕ) → j < n → (p .upper ≡ p .lower → f (moved p j) ≡ f p)
+    → f (moved p j) ≡ f (placeOf side grid (x + j))
+run-place f {side} {grid} {x} {n} {p} run j l same = tiles (ltb (p .lower) (p .upper)) refl
+  where
+    tiles : (b : Bool) → ltb (p .lower) (p .upper) ≡ b → f (moved p j) ≡ f (placeOf side grid (x + j))
+    tiles true e = ap f (sym (run .two (ltb-true (p .lower) (p .upper) e) j l))
+    tiles false e = let o : p .upper ≤ p .lower = ltb-false (p .lower) (p .upper) e in same (run .one o .0) ∙ ap f (sym (run .one o .1 j l))
+
+-- ---- what `factor` and `run` answer
+
+pub inverse-large : (d : ℕ) → 1048576 < d → 0 ≡ inverseOf d
+unfolding inverseOf
+inverse-large d h = rw (lt-ltb 1048576 d h) refl
+
+pub inverse-small : (d : ℕ) → d ≤ 1048576 → 4503599627370496 / d + 1 ≡ inverseOf d
+unfolding inverseOf
+inverse-small d h = rw (le-ltb 1048576 d h) refl
+
+module _ (side grid x : ℕ) (p : Place) where
+  pub length-two : p .lower < p .upper → p .lowerweight ≡ lengthOf side grid x p
+  unfolding lengthOf
+  length-two h = rw (lt-ltb (p .lower) (p .upper) h) refl
+
+  module _ (one : p .upper ≤ p .lower) where
+    pub length-last : p .lower + 1 ≡ grid → side * grid - x ≡ lengthOf side grid x p
+    unfolding lengthOf
+    length-last e = rw (le-ltb (p .lower) (p .upper) one, eq-eqb (p .lower + 1) grid e) refl
+
+    pub length-first : (p .lower + 1 ≡ grid → ⊥) → half side - x ≡ lengthOf side grid x p
+    unfolding lengthOf
+    length-first n = rw (le-ltb (p .lower) (p .upper) one, ne-eqb (p .lower + 1) grid n) refl

@@ -2,7 +2,7 @@
 -- One definition serves columns and rows: `side` is tw or th, `grid` the tiles across or down, x the column or row.
 -- Assumes nothing.
 use Prim.Native.Nat.{ℕ, _+_, _-_, _*_, _/_, _%_, _≤_, _<_}
-use mathlib.Core.Bool.{Bool, true, false}
+use mathlib.Core.Bool.{Bool, true, false, cond}
 use mathlib.Core.Path.{_≡_}
 use lib.Dec.{ltb, eqb}
 use Rattle.blend.specs.declared.Place.{Place}
@@ -42,6 +42,14 @@ weighedOf column row a b c d =
 unfoldable pub greyOf : Place → Place → ℕ → ℕ → ℕ → ℕ → ℕ
 greyOf column row a b c d = weighedOf column row a b c d / (column .span * row .span)
 
+-- two values, each by its weight
+abbrev pub pairOf : Place → ℕ → ℕ → ℕ
+pairOf p a b = p .lowerweight * a + p .upperweight * b
+
+-- the grey from the two columns of tiles: l is the row's pair of the mapped values on the left, r of those on the right
+unfoldable pub sidesOf : Place → Place → ℕ → ℕ → ℕ
+sidesOf column row l r = pairOf column l r / (column .span * row .span)
+
 -- what callers know of a place: its weights add up to its span, which is above 0, and its tiles are below the grid
 pub record Sound (grid most : ℕ) (p : Place) : Type 0 where
   pub weights : p .lowerweight + p .upperweight ≡ p .span
@@ -50,10 +58,14 @@ pub record Sound (grid most : ℕ) (p : Place) : Type 0 where
   pub lower : p .lower < grid
   pub upper : p .upper < grid
 
--- what stands for a division by d = tw x th: floor(2^48 / d) + 1 where d is at most 2^18, or else 0, for none
-pub record Factor (spans factor : ℕ) : Type 0 where
-  pub small : 0 < factor → spans ≤ 262144
-  pub inverse : 0 < factor → factor ≡ 281474976710656 / spans + 1
+-- what stands for a division by d = tw x th: floor(2^52 / d) + 1 where d is at most 2^20, or else 0, for none
+unfoldable pub inverseOf : ℕ → ℕ
+inverseOf d = cond (ltb 1048576 d) 0 (4503599627370496 / d + 1)
+
+-- what callers know of it
+pub record Inverse (spans factor : ℕ) : Type 0 where
+  pub small : 0 < factor → spans ≤ 1048576
+  pub inverse : 0 < factor → factor ≡ 4503599627370496 / spans + 1
 
 -- the place j columns on between the same tiles: "weights tw - o and o", o being j more
 abbrev pub moved : Place → ℕ → Place
@@ -65,3 +77,7 @@ pub record Run (side grid x : ℕ) (p : Place) (n : ℕ) : Type 0 where
   pub most : n ≤ p .lowerweight
   pub two : p .lower < p .upper → (j : ℕ) → j < n → placeOf side grid (x + j) ≡ moved p j
   pub one : p .upper ≤ p .lower → (p .upper ≡ p .lower) × ((j : ℕ) → j < n → placeOf side grid (x + j) ≡ p)
+
+-- how many columns that is: as far as the lower weight goes, and of a tile used alone to the film's end or to the first centre
+unfoldable pub lengthOf : ℕ → ℕ → ℕ → Place → ℕ
+lengthOf side grid x p = cond (ltb (p .lower) (p .upper)) (p .lowerweight) (cond (eqb (p .lower + 1) grid) (side * grid - x) (half side - x))

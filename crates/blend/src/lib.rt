@@ -1,7 +1,7 @@
 // Where a column or a row stands between two tile centres, and the grey of a pixel from four mapped values.
 ghost use mathlib.Core.Path.{_≡_};
 ghost use Prim.Native.Nat.{_*_, _≤_, _<_};
-ghost use Rattle.blend.specs.Blend.{placeOf, weighedOf, greyOf, Sound, Factor, Run};
+ghost use Rattle.blend.specs.Blend.{placeOf, weighedOf, greyOf, pairOf, sidesOf, Sound, inverseOf, Inverse, Run, lengthOf};
 
 // A column's or a row's place: the tiles below and above it, the weight of each, and the span that the weights add up to.
 pub struct Place {
@@ -50,7 +50,7 @@ pub fn locate(side: u32, grid: u32, x: u32) -> Place
 // How many columns (or rows) from x on lie between the tiles of x, whose place this is: 1 at least, and no more than the lower weight.
 pub fn run(place: Place, side: u32, grid: u32, x: u32) -> u32
     requires { ⌜ (0 < side) × (side ≤ 2048) × (x < side * grid) × (grid ≤ 16) × (place ≡ placeOf side grid x) ⌝ }
-    ensures { λ r. ⌜ Run side grid x place r ⌝ }
+    ensures { λ r. ⌜ (r ≡ lengthOf side grid x place) × Run side grid x place r ⌝ }
 {
     if place.lower < place.upper {
         return place.lowerweight;
@@ -83,22 +83,43 @@ pub fn grey(column: Place, row: Place, a: u32, b: u32, c: u32, d: u32) -> u32
 // The factor that stands for a division by the product of two spans; 0 for spans so large that a product with it could leave 64 bits.
 pub fn factor(spans: u64) -> u64
     requires { ⌜ 0 < spans ⌝ }
-    ensures { λ r. ⌜ Factor spans r ⌝ }
+    ensures { λ r. ⌜ (r ≡ inverseOf spans) × Inverse spans r ⌝ }
 {
-    if 262144 < spans {
+    if 1048576 < spans {
         return 0;
     }
-    281474976710656 / spans + 1
+    4503599627370496 / spans + 1
 }
 
 // The grey of a pixel, by the factor of its spans: a product and a shift in place of the division.
 pub fn grey_by(column: Place, row: Place, factor: u64, a: u32, b: u32, c: u32, d: u32) -> u32
-    requires { ⌜ Sound 16 2048 column × Sound 16 2048 row × Factor (column .span * row .span) factor × (a ≤ 4095) × (b ≤ 4095) × (c ≤ 4095) × (d ≤ 4095) ⌝ }
+    requires { ⌜ Sound 16 2048 column × Sound 16 2048 row × Inverse (column .span * row .span) factor × (a ≤ 4095) × (b ≤ 4095) × (c ≤ 4095) × (d ≤ 4095) ⌝ }
     ensures { λ r. ⌜ r ≡ greyOf column row a b c d ⌝ }
 {
     if factor == 0 {
         return grey(column, row, a, b, c, d);
     }
     let weighed = weigh(column, row, a, b, c, d);
-    (weighed * factor / 281474976710656) as u32
+    (weighed * factor / 4503599627370496) as u32
+}
+
+// Two mapped values, each by its weight.
+pub fn pair(place: Place, a: u32, b: u32) -> u32
+    requires { ⌜ Sound 16 2048 place × (a ≤ 4095) × (b ≤ 4095) ⌝ }
+    ensures { λ r. ⌜ r ≡ pairOf place a b ⌝ }
+{
+    place.lowerweight * a + place.upperweight * b
+}
+
+// The grey of a pixel from the row's pairs of the tiles on its left and on its right: two products, and the factor in place of the division.
+pub fn grey_sides(column: Place, row: Place, factor: u64, left: u32, right: u32) -> u32
+    requires { ⌜ Sound 16 2048 column × Sound 16 2048 row × Inverse (column .span * row .span) factor × (left ≤ row .span * 4095) × (right ≤ row .span * 4095) ⌝ }
+    ensures { λ r. ⌜ r ≡ sidesOf column row left right ⌝ }
+{
+    let sum = (column.lowerweight as u64) * (left as u64)
+        + (column.upperweight as u64) * (right as u64);
+    if factor == 0 {
+        return (sum / ((column.span as u64) * (row.span as u64))) as u32;
+    }
+    (sum * factor / 4503599627370496) as u32
 }

@@ -14,8 +14,8 @@ use Rattle.lists.proofs.Tabs.{every-not}
 use Rattle.lists.proofs.Fills.{joined-suc}
 use Rattle.lists.proofs.Blocks.{blocks-step, blocks-end, block-fits, length-blocks}
 use Rattle.lists.proofs.Alls.{all-both, all-joined-every}
-use Rattle.tile.specs.Tile.{greysOf}
-use Rattle.tile.proofs.Greys.{rowOf, greys-rows, length-row, row-room, part-row}
+use Rattle.tally.specs.Tally.{greysOf}
+use Rattle.tally.proofs.Greys.{rowOf, greys-rows, length-row, row-room, part-row}
 use Rattle.settings.specs.declared.Window.{Window}
 use Rattle.render.specs.Render.{rectOf}
 use Rattle.draw.specs.Draw.{Framed, CopyAsks}

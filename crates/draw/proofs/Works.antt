@@ -1,23 +1,25 @@
 -- The work of draw: what its steps ask, and the outcome of each of its returns.
 -- Assumes nothing.
-use Prim.Native.Nat.{ℕ, zero, suc}
-use mathlib.Core.Bool.{false}
+use Prim.Native.Nat.{ℕ}
+use mathlib.Core.Bool.{false, cond}
 use mathlib.Core.List.{List}
 use mathlib.Core.Path.{_≡_, refl, sym, ap, _∙_}
 use lib.ListN.{length}
 use native.Mathlib.Nat.{mul-comm}
 use Rattle.lists.specs.Lists.{all}
-use Rattle.refuse.specs.Refuse.{first}
-use Rattle.tile.specs.Tile.{within, greysOf}
+use Rattle.refuse.specs.Refuse.{first, unless}
+use Rattle.refuse.proofs.Walk.{unless-refused}
+use Rattle.scan.specs.Scan.{within}
+use Rattle.tally.specs.Tally.{greysOf}
 use Rattle.settings.specs.declared.Settings.{Settings}
 use Rattle.settings.specs.declared.MapRecord.{MapRecord}
 use Rattle.settings.specs.declared.Window.{Window}
 use Rattle.settings.specs.Settings.{clipOne}
 use Rattle.render.specs.Render.{rectOf, renderOf, Mapped, Shown}
-use Rattle.tile.proofs.Greys.{length-greys}
+use Rattle.tally.proofs.Greys.{length-greys}
 use Rattle.render.proofs.Laws.{ready-mapped}
 use Rattle.draw.specs.declared.Drawn.the-variants.{Done, Refused}
-use Rattle.draw.specs.Draw.{drawRows, drawnOf, drawOf, showing, settled, CopyAsks, WindowReady}
+use Rattle.draw.specs.Draw.{drawRows, drawOf, showing, CopyAsks, WindowReady}
 use Rattle.draw.proofs.Tables.{framed}
 
 -- what the copying asks
@@ -40,22 +42,17 @@ render-asks {w} {h} {pic} {s} {win} {m} {out} ready e one = (
 
 -- ---- the returns of draw
 
--- a number above 0 is a refusal, and leaves the output as it was
-settled-refused : (x : ℕ) (out pixels : List ℕ) → (x ≡ 0 → ⊥) → showing (Refused x) out ≡ settled x out pixels
-settled-refused zero out pixels z = absurd (z refl)
-settled-refused (suc n) out pixels z = refl
-
 module _ (film w h : ℕ) (pic : List ℕ) (s : Settings) (r : MapRecord) (win : Window) (m out : List ℕ) where
   -- the pixels that draw leaves where it refuses nothing
   unfoldable pixels : List ℕ
-  pixels = drawnOf (clipOne (s .clip)) (greysOf pic w (rectOf win)) (renderOf w h s m win (greysOf pic w (rectOf win)))
+  pixels = cond (clipOne (s .clip)) (greysOf pic w (rectOf win)) (renderOf w h s m win (greysOf pic w (rectOf win)))
 
   pub ends-refused : {x : ℕ} → x ≡ first (drawRows film w h pic s r win m (length out)) → (x ≡ 0 → ⊥) → showing (Refused x) out ≡ drawOf film w h pic s r win m out
   unfolding drawOf pixels
-  ends-refused {x} e z = settled-refused x out pixels z ∙ ap (λ n. settled n out pixels) e
+  ends-refused {x} e z = unless-refused x (λ n. showing (Refused n) out) (showing Done pixels) z ∙ ap (λ k. unless k (λ n. showing (Refused n) out) (showing Done pixels)) e
 
   pub ends-well : {x : ℕ} {end : List ℕ} → x ≡ first (drawRows film w h pic s r win m (length out)) → x ≡ 0
-      → end ≡ drawnOf (clipOne (s .clip)) (greysOf pic w (rectOf win)) (renderOf w h s m win (greysOf pic w (rectOf win)))
+      → end ≡ cond (clipOne (s .clip)) (greysOf pic w (rectOf win)) (renderOf w h s m win (greysOf pic w (rectOf win)))
       → showing Done end ≡ drawOf film w h pic s r win m out
   unfolding drawOf pixels
-  ends-well e z q = ap (showing Done) q ∙ ap (λ n. settled n out pixels) (sym z ∙ e)
+  ends-well e z q = ap (showing Done) q ∙ ap (λ k. unless k (λ n. showing (Refused n) out) (showing Done pixels)) (sym z ∙ e)

@@ -1,15 +1,16 @@
 -- Document 01, "What each call hands back" for draw: what it answers, and what the output holds at the end.
 -- film, w, h, pic and s come with the call, r is the map record, win the window, m the map buffer and out the output as lent.
 -- Assumes nothing.
-use Prim.Native.Nat.{ℕ, zero, suc, _+_, _*_, _≤_, _<_}
-use mathlib.Core.Bool.{Bool, true, false, not, _&&_}
+use Prim.Native.Nat.{ℕ, _+_, _*_, _≤_, _<_}
+use mathlib.Core.Bool.{true, false, not, _&&_, cond}
 use mathlib.Core.List.{List, [], _∷_, _++_}
 use mathlib.Core.Path.{_≡_}
 use lib.Dec.{ltb, eqb}
 use lib.ListN.{length, take}
 use Rattle.lists.specs.Lists.{all}
-use Rattle.refuse.specs.Refuse.{Row, row, first, Says, accepted, refused}
-use Rattle.tile.specs.Tile.{within, greysOf}
+use Rattle.refuse.specs.Refuse.{Row, row, first, unless, Says, accepted, refused}
+use Rattle.scan.specs.Scan.{within}
+use Rattle.tally.specs.Tally.{greysOf}
 use Rattle.settings.specs.declared.Settings.{Settings}
 use Rattle.settings.specs.declared.MapRecord.{MapRecord}
 use Rattle.settings.specs.declared.Window.{Window}
@@ -59,30 +60,21 @@ unfoldable pub drawnSays : Drawn → Says (Unit {0})
 drawnSays Done = accepted tt
 drawnSays (Refused n) = refused n
 
--- "At factor 1.0 it copies them": the film's own greys there, else the rendered ones
-abbrev pub drawnOf : Bool → List ℕ → List ℕ → List ℕ
-drawnOf true greys rendered = greys
-drawnOf false greys rendered = rendered
-
 -- what draw leaves: its answer and the output
 pub record Shows : Type 0 where
   pub answer : Drawn
   pub out : List ℕ
 
--- a refusal leaves the output as it was
-abbrev pub settled : ℕ → List ℕ → List ℕ → Shows
-settled zero out pixels = record { answer = Done; out = pixels }
-settled (suc n) out pixels = record { answer = Refused (suc n); out = out }
-
--- "the window's pixels row by row in the output, each by the rule above from the map entries as lent, whoever wrote them"; a refusal writes nothing
-unfoldable pub drawOf : ℕ → ℕ → ℕ → List ℕ → Settings → MapRecord → Window → List ℕ → List ℕ → Shows
-drawOf film w h pic s r win m out =
-    settled (first (drawRows film w h pic s r win m (length out))) out
-    (drawnOf (clipOne (s .clip)) (greysOf pic w (rectOf win)) (renderOf w h s m win (greysOf pic w (rectOf win))))
-
 -- the answer and the output at the end, as draw leaves them
 abbrev pub showing : Drawn → List ℕ → Shows
 showing answer out = record { answer = answer; out = out }
+
+-- "the window's pixels row by row in the output, each by the rule above from the map entries as lent, whoever wrote them. At factor 1.0 it copies them";
+-- a refusal leaves the output as it was
+unfoldable pub drawOf : ℕ → ℕ → ℕ → List ℕ → Settings → MapRecord → Window → List ℕ → List ℕ → Shows
+drawOf film w h pic s r win m out =
+    unless (first (drawRows film w h pic s r win m (length out))) (λ n. showing (Refused n) out)
+    (showing Done (cond (clipOne (s .clip)) (greysOf pic w (rectOf win)) (renderOf w h s m win (greysOf pic w (rectOf win)))))
 
 -- ---- what the functions ask
 

@@ -1,12 +1,14 @@
 // The call draw: a window of the rendered film from kept mappings.
+ghost use mathlib.Core.Bool.{cond};
 ghost use mathlib.Core.Path.{_≡_};
 ghost use lib.ListN.{length};
 ghost use Rattle.lists.specs.Lists.{all};
 ghost use Rattle.refuse.specs.Refuse.{first};
-ghost use Rattle.tile.specs.Tile.{within, greysOf};
+ghost use Rattle.scan.specs.Scan.{within};
+ghost use Rattle.tally.specs.Tally.{greysOf};
 ghost use Rattle.settings.specs.Settings.{clipOne};
 ghost use Rattle.render.specs.Render.{rectOf, renderOf};
-ghost use Rattle.draw.specs.Draw.{recordRows, windowRows, pixelRows, drawRows, drawnOf, drawOf, showing, Framed, CopyAsks, LookAsks, WindowReady};
+ghost use Rattle.draw.specs.Draw.{recordRows, windowRows, pixelRows, drawRows, drawOf, showing, Framed, CopyAsks, LookAsks, WindowReady};
 use settings::MapRecord;
 use settings::Settings;
 use settings::Window;
@@ -85,7 +87,7 @@ fn window_within(picture: &[u16], stride: usize, win: Window, min: u32, max: u32
     while y < win.height {
         let a = ((win.top as usize) + (y as usize)) * stride + (win.left as usize);
         let e = a + (win.width as usize);
-        if !render::all_within(&picture[a..e], min, max) {
+        if !scan::all_within(&picture[a..e], min, max) {
             return false;
         }
         y += 1;
@@ -106,7 +108,7 @@ fn pixel_refusal(width: u32, picture: &[u16], s: Settings, win: Window, map: &[u
         return 0;
     }
     let entries = (s.across as usize) * (s.down as usize) * (settings::bins(s) as usize);
-    if !render::all_within(&map[..entries], s.min, s.max) {
+    if !scan::all_within(&map[..entries], s.min, s.max) {
         return 18;
     }
     0
@@ -169,7 +171,7 @@ fn work(
     out: &mut [u16],
 )
     requires { ⌜ WindowReady width height (now picture) s win (now map) (length (now out)) ⌝ }
-    ensures { λ _. ⌜ now (out .exit) ≡ drawnOf (clipOne (s .clip)) (greysOf (now (picture .entry)) width (rectOf win)) (renderOf width height s (now (map .entry)) win (greysOf (now (picture .entry)) width (rectOf win))) ⌝ }
+    ensures { λ _. ⌜ now (out .exit) ≡ cond (clipOne (s .clip)) (greysOf (now (picture .entry)) width (rectOf win)) (renderOf width height s (now (map .entry)) win (greysOf (now (picture .entry)) width (rectOf win))) ⌝ }
 {
     copy_window(picture, width as usize, win, out);
     let clip = s.clip;

@@ -3,14 +3,17 @@ use Prim.Native.Nat.{ℕ, zero, suc, _*_, _/_, _≤_, _<_, max}
 use native.Mathlib.Nat.{le-trans, le-of-eq, le-max-left, le-max-right, max-le, mul-comm, mul-assoc, mul-right-comm, mul-le-mul, mul-le-mul-left, mul-le-mul-right, le-of-mul-le-mul-right, eq-of-mul-eq-mul-right, div-mul-le-self, le-div-iff-mul-le}
 use native.Mathlib.Omega.{arith}
 use mathlib.Core.Bool.{Bool, true, false, _&&_, true≢false}
+use mathlib.Core.Logic.{_↔_}
 use mathlib.Core.Path.{_≡_, refl, sym, ap, ap₂, _∙_, subst}
 use lib.Dec.{leb, ltb, eqb, lit≤}
 use lib.IntN.{ℤ}
 use lib.Ieee.{Float, nan, inf, fin, up, down, eq}
 use lib.Ieee.Fits.{down-pos}
-use borrow.Author.Tests.{leb-true, le-leb, eqb-true, eqb-false}
+use borrow.Author.Tests.{leb-true, le-leb, eqb-true, eqb-false, ne-eqb}
 use Rattle.limit.specs.declared.Clip.the-variants.{Off, Factor}
-use Rattle.limit.specs.Limit.{accepted, isOne, limitOf, tooTight}
+use Rattle.limit.specs.declared.Judged.{Judged}
+use Rattle.limit.specs.declared.Judged.the-variants.{Refused, One, Above}
+use Rattle.limit.specs.Limit.{accepted, isOne, judgedBy, judgeOf, AboveOne, judgedSays, limitOf, tooTight}
 
 and-left : (a b : Bool) → (a && b) ≡ true → a ≡ true
 and-left true b h = refl
@@ -49,13 +52,38 @@ one-accepted (fin false m e) h = within (m * up e) (down e) (eqb-true (m * up e)
     within a d p = ap₂ _&&_ (le-leb d a (omega arith)) (le-leb a (1024 * d) (omega arith))
 
 -- an accepted factor other than 1.0 is above 1.0
-pub above-one : (s : Bool) (m : ℕ) (e : ℤ) → accepted (fin s m e) ≡ true → isOne (fin s m e) ≡ false → down e < m * up e
+pub above-one : (f : Float) → accepted f ≡ true → isOne f ≡ false → AboveOne f
 unfolding isOne accepted
-above-one true m e h k = absurd (true≢false (sym h))
-above-one false m e h k = strict (m * up e) (down e) (accepted-told m e h .least) (eqb-false (m * up e) (down e) k)
+above-one nan h k = absurd (true≢false (sym h))
+above-one (inf s) h k = absurd (true≢false (sym h))
+above-one (fin true m e) h k = absurd (true≢false (sym h))
+above-one (fin false m e) h k = (refl, strict (m * up e) (down e) (accepted-told m e h .least) (eqb-false (m * up e) (down e) k))
   where
     strict : (a d : ℕ) → d ≤ a → (a ≡ d → ⊥) → d < a
     strict a d p q = omega (arith, q)
+
+-- and a factor above 1.0 is not 1.0
+pub above-not-one : (f : Float) → AboveOne f → isOne f ≡ false
+unfolding isOne
+above-not-one nan k = absurd k
+above-not-one (inf s) k = refl
+above-not-one (fin true m e) k = refl
+above-not-one (fin false m e) k = ne-eqb (m * up e) (down e) (λ z. omega (arith, k .1))
+
+-- a factor is judged as document 01 says of it, and in no other way
+pub judged-exactly : (f : Float) (j : Judged) → (judgeOf f ≡ j) ↔ judgedSays j f
+unfolding judgeOf
+judged-exactly f j = ((λ e. subst (λ x. judgedSays x f) e (told (accepted f) refl (isOne f) refl)), back j)
+  where
+    told : (a : Bool) → accepted f ≡ a → (o : Bool) → isOne f ≡ o → judgedSays (judgedBy a o) f
+    told false p o q = p
+    told true p true q = q
+    told true p false q = (p, above-one f p q)
+
+    back : (j : Judged) → judgedSays j f → judgedBy (accepted f) (isOne f) ≡ j
+    back Refused s = rw s refl
+    back One s = rw (one-accepted f s, s) refl
+    back Above s = rw (s .0, above-not-one f (s .1)) refl
 
 -- a / c and b / d are the same fraction: the one is 1 where the other is
 one-alike : (a b c d : ℕ) → 0 < c → 0 < d → a * d ≡ b * c → eqb a c ≡ eqb b d

@@ -34,6 +34,24 @@ judgedBy true false = Above
 unfoldable pub judgeOf : Float → Judged
 judgeOf f = judgedBy (accepted f) (isOne f)
 
+-- "above 1.0": a number above 1, or the positive infinity, which 10 refuses
+abbrev pub AboveOne : Float → Type 0
+AboveOne nan = ⊥
+AboveOne (inf s) = s ≡ false
+AboveOne (fin s m e) = (s ≡ false) × (down e < m * up e)
+
+-- document 01's number of a judgement: 10 where the factor is refused, 0 where it is accepted
+abbrev pub judgedNumber : Judged → ℕ
+judgedNumber Refused = 10
+judgedNumber One = 0
+judgedNumber Above = 0
+
+-- and what it says of the factor f: "factor NaN, infinite, below 1.0 or above 1024.0", "exactly 1.0", or accepted and above 1.0
+abbrev pub judgedSays : Judged → Float → Type 0
+judgedSays Refused f = accepted f ≡ false
+judgedSays One f = isOne f ≡ true
+judgedSays Above f = (accepted f ≡ true) × AboveOne f
+
 -- "the factor's f32 bits are taken as the exact binary fraction they denote. L = floor(factor x N / B) in whole numbers,
 -- and at least 1. Nothing is rounded before the floor." No limit is worked out of a float that is no number.
 unfoldable pub limitOf : Float → ℕ → ℕ → ℕ

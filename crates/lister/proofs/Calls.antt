@@ -1,18 +1,18 @@
 -- Laws of the listing's calls: what prepare, greys and read left, and the text that follows.
 -- Assumes nothing.
 use Prim.Native.Nat.{ℕ, zero, suc, _-_, _*_, _≤_, _<_}
-use mathlib.Core.Bool.{Bool, true, false, not}
+use mathlib.Core.Bool.{Bool, true, false, not, cond}
 use mathlib.Core.List.{List}
 use mathlib.Core.Path.{_≡_, refl, sym, ap, _∙_}
 use lib.Dec.{ltb}
 use lib.ListN.{length, take, drop, length-drop}
 use lib.Seq.{length-take-le}
 use native.Mathlib.Omega.{arith}
-use borrow.Author.Tests.{ltb-false, lt-ltb, le-ltb}
+use borrow.Author.Tests.{ltb-true, ltb-false, lt-ltb, le-ltb}
 use Rattle.lists.specs.Lists.{onto}
 use Rattle.lists.proofs.Fills.{length-filled, take-onto}
 use Rattle.lists.proofs.Maps.{onto-whole}
-use Rattle.refuse.specs.Refuse.{first}
+use Rattle.refuse.specs.Refuse.{first, unless}
 use Rattle.refuse.proofs.Walk.{first-behind}
 use Rattle.limit.specs.Limit.{isOne}
 use Rattle.settings.specs.declared.Settings.{Settings}
@@ -28,15 +28,17 @@ use Rattle.pgm.specs.declared.Sizes.{Sizes}
 use Rattle.pgm.specs.declared.Sizes.the-variants as Sizes
 use Rattle.pgm.specs.declared.Turned.{Turned}
 use Rattle.pgm.specs.declared.Turned.the-variants as Turned
-use Rattle.pgm.specs.Pgm.{limitRows, rasterRows, targetRows, greyRows, RasterAsks, Greyed, greyed, greyedAs, greysOf, readOf, sizesOf, rasterOf}
+use Rattle.pgm.specs.declared.Written.{Written}
+use Rattle.pgm.specs.declared.Written.the-variants as Written
+use Rattle.pgm.specs.Pgm.{Wrote, wroteAs, headRows, rasterRows, targetRows, turnRows, RasterAsks, Greyed, greyedAs, turnedOf, readOf, sizesOf, rasterOf}
 use Rattle.pgm.proofs.Tables.{within-none, exact-none, grey-asks, read-header}
 use Rattle.pgm.proofs.Laws.{read-asks}
 use Rattle.prepare.specs.declared.Prepared.{Prepared}
 use Rattle.prepare.specs.declared.Prepared.the-variants as Prepared
-use Rattle.prepare.specs.Prepare.{prepareRows, footerOf, mappings, Ended, ending, settled, preparedOf, prepareOf, TilesAsk}
+use Rattle.prepare.specs.Prepare.{prepareRows, footerOf, mappings, Ended, ending, preparedOf, prepareOf, TilesAsk}
 use Rattle.prepare.proofs.Table.{work}
 use Rattle.prepare.proofs.Films.{length-mappings}
-use Rattle.lister.specs.Lister.{settingsOf, limitFor, filmText, refusedText, unless, pick, isLarger, pictureText, readText, listingOf}
+use Rattle.lister.specs.Lister.{settingsOf, limitFor, filmText, refusedText, isLarger, pictureText, readText, listingOf, textRows, listOf, laidOf}
 use Rattle.lister.specs.Asks.{Told, ListAsks}
 use Rattle.lister.proofs.Lines.{length-refused}
 use Rattle.lister.proofs.Films.{length-film}
@@ -49,10 +51,10 @@ pub told-as : {d text text′ out : List ℕ} {r : ℕ} → Told d text out r �
 told-as t e = record { bytes = t .bytes ∙ ap (onto _) e; count = t .count ∙ ap length e }
 
 -- the text of a film that is not refused
-pub told-none : {n r : ℕ} {d text out : List ℕ} → n ≡ 0 → Told d text out r → Told d (unless n text) out r
+pub told-none : {n r : ℕ} {d text out : List ℕ} → n ≡ 0 → Told d text out r → Told d (unless n refusedText text) out r
 told-none e t = rw e t
 
--- what `list` leaves
+-- what `lay_text` leaves
 pub told-both : {d text text′ out : List ℕ} {r : ℕ} → Told d text out r → text ≡ text′ → (out ≡ onto d text′) × (r ≡ length text′)
 told-both t e = (t .bytes ∙ ap (onto _) e, t .count ∙ ap length e)
 
@@ -93,7 +95,7 @@ module _ (w h m : ℕ) (pic : List ℕ) where
   prepared-done map₀ scratch₀ {s} {answer} {rec} {foot} {map} {scratch} n k q a e =
       go number refl (rw (q, a, n, k) at e)
     where
-      go : (i : ℕ) → number ≡ i → ending (Prepared.Done rec foot) map scratch ≡ settled i map₀ scratch₀ (preparedOf 0 w h pic (settingsOf m) map₀ scratch₀)
+      go : (i : ℕ) → number ≡ i → ending (Prepared.Done rec foot) map scratch ≡ unless i (λ n. ending (Prepared.Refused n) map₀ scratch₀) (preparedOf 0 w h pic (settingsOf m) map₀ scratch₀)
           → Made (foot .limit) map scratch
       go zero z f = made map₀ scratch₀ n k z f
       go (suc i) z f =
@@ -103,13 +105,13 @@ module _ (w h m : ℕ) (pic : List ℕ) where
   -- the answer is a refusal: it is the rows' number
   pub prepared-refused : (map₀ scratch₀ : List ℕ) {s : Settings} {answer : Prepared} {r : ℕ} {map scratch : List ℕ} → length map₀ ≡ 16 → length scratch₀ ≡ 4
       → s ≡ settingsOf m → answer ≡ Prepared.Refused r → ending answer map scratch ≡ prepareOf 0 w h pic s map₀ scratch₀
-      → (r < 100000) × ((text : List ℕ) → refusedText r ≡ unless number text)
+      → (r < 100000) × ((text : List ℕ) → refusedText r ≡ unless number refusedText text)
   unfolding prepareOf preparedOf
   prepared-refused map₀ scratch₀ {s} {answer} {r} {map} {scratch} n k q a e =
       go number refl (rw (q, a, n, k) at e)
     where
-      go : (i : ℕ) → number ≡ i → ending (Prepared.Refused r) map scratch ≡ settled i map₀ scratch₀ (preparedOf 0 w h pic (settingsOf m) map₀ scratch₀)
-          → (r < 100000) × ((text : List ℕ) → refusedText r ≡ unless number text)
+      go : (i : ℕ) → number ≡ i → ending (Prepared.Refused r) map scratch ≡ unless i (λ n. ending (Prepared.Refused n) map₀ scratch₀) (preparedOf 0 w h pic (settingsOf m) map₀ scratch₀)
+          → (r < 100000) × ((text : List ℕ) → refusedText r ≡ unless number refusedText text)
       go zero z f =
           let a : Prepared.Refused r ≡ preparedOf 0 w h pic (settingsOf m) map₀ scratch₀ .answer = ap (λ (x : Ended). x .answer) f in
           absurd (let o : _≡_ {A = ℕ} 0 1 = cc in omega arith)
@@ -126,20 +128,20 @@ module _ (raster : List ℕ) (w h m room : ℕ) (asks : ListAsks raster w h m ro
   greys = unpacked (isWide m) raster (w * h)
 
   -- of the rows for greys, only 26 can apply
-  rows-target : (target : List ℕ) → length target ≡ 8192 → first (greyRows raster 0 w h m (length target)) ≡ first (targetRows raster 0 w h m 8192)
-  unfolding greyRows
+  rows-target : (target : List ℕ) → length target ≡ 8192 → first (turnRows raster 0 w h m (length target)) ≡ first (targetRows raster 0 w h m 8192)
+  unfolding turnRows
   rows-target target n =
       rw n
-      (first-behind (limitRows w h m) _ (within-none w h m (asks .asks .within))
+      (first-behind (headRows w h m) _ (within-none w h m (asks .asks .within))
       ∙ first-behind (rasterRows w h m (length raster - 0)) _ (exact-none w h m (length raster - 0) (omega (arith, asks .asks .exact))))
 
   -- the answer is done: the greys are none above maxval, and stand at the front of the film
-  pub greys-told : (target : List ℕ) {left : List ℕ} {answer : Turned} → length target ≡ 8192 → answer ≡ Turned.Done → greyedAs answer left ≡ greysOf raster 0 w h m target
+  pub greys-told : (target : List ℕ) {left : List ℕ} {answer : Turned} → length target ≡ 8192 → answer ≡ Turned.Done → greyedAs answer left ≡ turnedOf raster 0 w h m target
       → (noneAbove m greys ≡ true) × (left ≡ onto target greys)
-  unfolding greysOf
-  greys-told target {left} {answer} n a e = go (first (greyRows raster 0 w h m (length target))) refl (rw a at e)
+  unfolding turnedOf
+  greys-told target {left} {answer} n a e = go (first (turnRows raster 0 w h m (length target))) refl (rw a at e)
     where
-      go : (i : ℕ) → first (greyRows raster 0 w h m (length target)) ≡ i → greyedAs Turned.Done left ≡ greyed i target greys
+      go : (i : ℕ) → first (turnRows raster 0 w h m (length target)) ≡ i → greyedAs Turned.Done left ≡ unless i (λ n. greyedAs (Turned.Refused n) target) (greyedAs Turned.Done (onto target greys))
           → (noneAbove m greys ≡ true) × (left ≡ onto target greys)
       go zero z f = (grey-asks raster 0 w h m (length target) z .bounded, ap (λ (x : Greyed). x .target) f)
       go (suc i) z f =
@@ -157,12 +159,12 @@ module _ (raster : List ℕ) (w h m room : ℕ) (asks : ListAsks raster w h m ro
       (sym (rw (few, q) at z), q)
 
   -- the answer is a refusal: it is 26
-  pub greys-refused : (target : List ℕ) {left : List ℕ} {answer : Turned} {r : ℕ} → length target ≡ 8192 → answer ≡ Turned.Refused r → greyedAs answer left ≡ greysOf raster 0 w h m target
+  pub greys-refused : (target : List ℕ) {left : List ℕ} {answer : Turned} {r : ℕ} → length target ≡ 8192 → answer ≡ Turned.Refused r → greyedAs answer left ≡ turnedOf raster 0 w h m target
       → (r ≡ 26) × (noneAbove m greys ≡ false)
-  unfolding greysOf
-  greys-refused target {left} {answer} {r} n a e = go (first (greyRows raster 0 w h m (length target))) refl (rw a at e)
+  unfolding turnedOf
+  greys-refused target {left} {answer} {r} n a e = go (first (turnRows raster 0 w h m (length target))) refl (rw a at e)
     where
-      go : (i : ℕ) → first (greyRows raster 0 w h m (length target)) ≡ i → greyedAs (Turned.Refused r) left ≡ greyed i target greys
+      go : (i : ℕ) → first (turnRows raster 0 w h m (length target)) ≡ i → greyedAs (Turned.Refused r) left ≡ unless i (λ n. greyedAs (Turned.Refused n) target) (greyedAs Turned.Done (onto target greys))
           → (r ≡ 26) × (noneAbove m greys ≡ false)
       go zero z f =
           let a : Turned.Refused r ≡ Turned.Done = ap (λ (x : Greyed). x .answer) f in
@@ -183,7 +185,7 @@ module _ (raster : List ℕ) (w h m room : ℕ) (asks : ListAsks raster w h m ro
 
 -- the text of a film none of whose samples is above maxval
 pub picture-listed : (w h m : ℕ) {pic film d out : List ℕ} {r : ℕ} → film ≡ pic → noneAbove m pic ≡ true
-    → Told d (unless (first (prepareRows w h film (settingsOf m) 16 4)) (filmText w h m film)) out r → Told d (pictureText w h m pic) out r
+    → Told d (unless (first (prepareRows w h film (settingsOf m) 16 4)) refusedText (filmText w h m film)) out r → Told d (pictureText w h m pic) out r
 picture-listed w h m {pic} {film} f e t = rw e (rw f at t)
 
 -- the text of one that has such a sample
@@ -268,11 +270,11 @@ module _ (s : List ℕ) where
 
 -- ---- how long the text is
 
-length-unless : (n : ℕ) (text : List ℕ) → length text ≤ 216 → length (unless n text) ≤ 216
+length-unless : (n : ℕ) (text : List ℕ) → length text ≤ 216 → length (unless n refusedText text) ≤ 216
 length-unless zero text l = l
 length-unless (suc n) text l = omega (arith, length-refused (suc n))
 
-length-pick : (b : Bool) (s t : List ℕ) → length s ≤ 216 → length t ≤ 216 → length (pick b s t) ≤ 216
+length-pick : (b : Bool) (s t : List ℕ) → length s ≤ 216 → length t ≤ 216 → length (cond b s t) ≤ 216
 length-pick true s t l k = l
 length-pick false s t l k = k
 
@@ -289,6 +291,25 @@ length-listing s =
     length-pick (ltb 32768 (length s)) (refusedText 22) _ (omega (arith, length-refused 22))
     (length-pick (isLarger (headerOf s)) (refusedText 22) (readText (readOf s) s) (omega (arith, length-refused 22)) (length-read (readOf s) s))
 
--- the same of a count that is the text's length
-pub listing-short : (s : List ℕ) {r : ℕ} → r ≡ length (listingOf s) → r ≤ 216
-listing-short s e = omega (arith, length-listing s)
+-- ---- the output's room
+
+pub list-short : (s out : List ℕ) → length out < 512 → wroteAs (Written.Refused 27) out ≡ listOf s out
+unfolding first textRows listOf
+list-short s out h = rw (lt-ltb (length out) 512 h) refl
+
+pub list-laid : (s out : List ℕ) {out′ : List ℕ} {n : ℕ} → 512 ≤ length out → out′ ≡ onto out (listingOf s) → n ≡ length (listingOf s) → wroteAs (Written.Bytes n) out′ ≡ listOf s out
+unfolding first textRows listOf
+list-laid s out h e q = rw (le-ltb (length out) 512 h, e, q) refl
+
+-- what was laid down lies in the output
+pub list-fits : (s out : List ℕ) {r : Written} {out′ : List ℕ} → wroteAs r out′ ≡ listOf s out → laidOf r ≤ length out
+list-fits s out {r} e = go (ltb (length out) 512) refl
+  where
+    laid : laidOf r ≡ laidOf (listOf s out .answer)
+    laid = ap (λ (z : Wrote). laidOf (z .answer)) e
+
+    go : (b : Bool) → ltb (length out) 512 ≡ b → laidOf r ≤ length out
+    go true q = omega (arith, laid ∙ ap (λ (z : Wrote). laidOf (z .answer)) (sym (list-short s out (ltb-true (length out) 512 q))))
+    go false q =
+        let room : 512 ≤ length out = ltb-false (length out) 512 q in
+        omega (arith, laid ∙ ap (λ (z : Wrote). laidOf (z .answer)) (sym (list-laid s out room refl refl)), length-listing s, room)

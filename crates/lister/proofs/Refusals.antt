@@ -8,14 +8,14 @@ use mathlib.Core.Path.{_≡_, refl}
 use lib.Dec.{lit<}
 use lib.ListN.{length}
 use native.Mathlib.Omega.{arith}
-use Rattle.refuse.specs.Refuse.{Row, row, first}
+use Rattle.refuse.specs.Refuse.{Row, row, first, unless}
 use Rattle.settings.specs.declared.Settings.{Settings}
 use Rattle.settings.specs.Settings.{sizeRows, gridRows, greyRows, roomRows, sharedRows}
 use Rattle.header.specs.declared.Head.{Head}
 use Rattle.header.specs.declared.Head.the-variants as Head
 use Rattle.header.specs.Header.{headerOf}
 use Rattle.header.proofs.Laws.{refused-number}
-use Rattle.pgm.specs.Pgm.{limitRows, rasterRows, unless, judgedOf, readOf}
+use Rattle.pgm.specs.Pgm.{headRows, rasterRows, judgedOf, readOf}
 use Rattle.prepare.specs.Prepare.{prepareRows}
 
 -- each row's number is below k
@@ -63,8 +63,8 @@ prepare-below w h pic s room scratch =
     first-below 100 _ (lit< tt)
     (below-append 100 (sharedRows w h (length pic) s room) _ (shared-below w h (length pic) s room) (lit< tt, (lit< tt, (lit< tt, tt))))
 
-judged-below : (w h m size : ℕ) → first (limitRows w h m ++ rasterRows w h m size) < 100
-unfolding limitRows rasterRows
+judged-below : (w h m size : ℕ) → first (headRows w h m ++ rasterRows w h m size) < 100
+unfolding headRows rasterRows
 judged-below w h m size =
     first-below 100 _ (lit< tt) (lit< tt, (lit< tt, (lit< tt, (lit< tt, (lit< tt, (lit< tt, (lit< tt, (lit< tt, tt))))))))
 
@@ -73,12 +73,12 @@ pub read-below : (s : List ℕ) {n : ℕ} → readOf s ≡ Head.Refused n → n 
 unfolding readOf judgedOf
 read-below s {n} q = go (headerOf s) refl q
   where
-    pass : (k w h m at : ℕ) → k < 100 → unless k (Head.Found w h m at) ≡ Head.Refused n → n < 100
+    pass : (k w h m at : ℕ) → k < 100 → unless k Head.Refused (Head.Found w h m at) ≡ Head.Refused n → n < 100
     pass zero w h m at l e = absurd (let o : _≡_ {A = ℕ} 0 1 = cc in omega arith)
     pass (suc k) w h m at l e = let i : suc k ≡ n = cc in omega arith
 
     go : (x : Head) → headerOf s ≡ x → judgedOf x (length s) ≡ Head.Refused n → n < 100
-    go (Head.Found w h m at) p e = pass (first (limitRows w h m ++ rasterRows w h m (length s - at))) w h m at (judged-below w h m (length s - at)) e
+    go (Head.Found w h m at) p e = pass (first (headRows w h m ++ rasterRows w h m (length s - at))) w h m at (judged-below w h m (length s - at)) e
     go (Head.Refused k) p e =
         let i : k ≡ n = cc in
         ⊎-elim (λ y. omega (arith, y, i)) (λ y. omega (arith, y, i)) (refused-number s p)

@@ -13,9 +13,9 @@ use Rattle.lists.proofs.Maps.{onto-whole}
 use Rattle.limit.proofs.Laws.{limit-bound}
 use Rattle.clip.specs.Clip.{excess}
 use Rattle.clip.proofs.Shares.{excess-most}
-use Rattle.tile.specs.declared.Rect.{Rect}
-use Rattle.tile.specs.Tile.{greysOf, countsOf, CountAsks}
-use Rattle.tile.proofs.Counts.{length-counts, total-counts}
+use Rattle.tally.specs.declared.Rect.{Rect}
+use Rattle.tally.specs.Tally.{greysOf, countsOf, CountAsks}
+use Rattle.tally.proofs.Counts.{length-counts, total-counts}
 use Rattle.settings.specs.Settings.{binsOf, tilePixels, Ready}
 use Rattle.prepare.specs.Prepare.{tileRect, tileMap, mappings, TilesAsk}
 use Rattle.prepare.proofs.Table.{tile-pixels-most}

@@ -1,24 +1,26 @@
 -- Document 01, "Numbers to check by hand": the text that the listing program prints for a PGM file's bytes, refusals included.
 -- Assumes nothing.
-use Prim.Native.Nat.{ℕ, zero, suc, _*_, _/_, _%_}
-use mathlib.Core.Bool.{Bool, true, false}
+use Prim.Native.Nat.{ℕ, _*_, _/_, _%_}
+use mathlib.Core.Bool.{Bool, false, cond}
 use mathlib.Core.List.{List, [], _∷_, _++_}
 use lib.Dec.{ltb}
 use lib.IntN.{pos}
 use lib.Ieee.{Float, fin}
 use lib.ListN.{length, drop}
-use Rattle.refuse.specs.Refuse.{first}
+use Rattle.refuse.specs.Refuse.{Row, row, first, unless}
 use Rattle.limit.specs.declared.Clip.the-variants.{Factor}
 use Rattle.limit.specs.Limit.{limitOf}
 use Rattle.clip.specs.Clip.{excess}
-use Rattle.tile.specs.Tile.{greysOf, countsOf}
+use Rattle.tally.specs.Tally.{greysOf, countsOf}
 use Rattle.settings.specs.declared.Settings.{Settings}
 use Rattle.settings.specs.Settings.{tilePixels}
 use Rattle.header.specs.declared.Head.{Head}
 use Rattle.header.specs.declared.Head.the-variants.{Found, Refused}
 use Rattle.header.specs.Header.{headerOf, decimalOf}
 use Rattle.samples.specs.Samples.{isWide, unpacked, noneAbove}
-use Rattle.pgm.specs.Pgm.{readOf}
+use Rattle.pgm.specs.declared.Written.{Written}
+use Rattle.pgm.specs.declared.Written.the-variants as Written
+use Rattle.pgm.specs.Pgm.{readOf, Wrote, wrote}
 use Rattle.prepare.specs.Prepare.{tileRect, tileMap, prepareRows}
 
 -- "factor 2", as a float
@@ -62,16 +64,6 @@ filmText w h maxval pic =
 unfoldable pub refusedText : ℕ → List ℕ
 refusedText n = (114 ∷ 101 ∷ 102 ∷ 117 ∷ 115 ∷ 101 ∷ 100 ∷ 9 ∷ []) ++ line (n ∷ [])
 
--- "A refusal prints ..": what is printed by a refusal's number, the text where there is none
-abbrev pub unless : ℕ → List ℕ → List ℕ
-unless zero text = text
-unless (suc n) text = refusedText (suc n)
-
--- the one text where it holds, else the other
-abbrev pub pick : Bool → List ℕ → List ℕ → List ℕ
-pick true a b = a
-pick false a b = b
-
 -- "at most 8,192 pixels": "a larger film is 22 where read's own 22 stands"
 abbrev pub isLarger : Head → Bool
 isLarger (Found w h m at) = ltb 8192 (w * h)
@@ -80,8 +72,8 @@ isLarger (Refused n) = false
 -- of a film that was read: 26, then prepare's refusals, then the listing
 abbrev pub pictureText : ℕ → ℕ → ℕ → List ℕ → List ℕ
 pictureText w h maxval pic =
-    pick (noneAbove maxval pic)
-    (unless (first (prepareRows w h pic (settingsOf maxval) 16 4)) (filmText w h maxval pic))
+    cond (noneAbove maxval pic)
+    (unless (first (prepareRows w h pic (settingsOf maxval) 16 4)) refusedText (filmText w h maxval pic))
     (refusedText 26)
 
 -- "reads a PGM": of a file that read accepts its film's text, else read's own refusal
@@ -92,6 +84,19 @@ readText (Refused n) s = refusedText n
 -- "a longer input is 22 before all else"
 unfoldable pub listingOf : List ℕ → List ℕ
 listingOf s =
-    pick (ltb 32768 (length s)) (refusedText 22)
-    (pick (isLarger (headerOf s)) (refusedText 22)
+    cond (ltb 32768 (length s)) (refusedText 22)
+    (cond (isLarger (headerOf s)) (refusedText 22)
     (readText (readOf s) s))
+
+-- 27, "the caller's target too short": fewer than the 512 bytes that hold every listing
+unfoldable pub textRows : ℕ → List Row
+textRows room = row 27 (ltb room 512) ∷ []
+
+-- the text at the front of the output, and its length; a film's refusal is part of its text
+unfoldable pub listOf : List ℕ → List ℕ → Wrote
+listOf s out = wrote (textRows (length out)) out (listingOf s)
+
+-- how many bytes an answer says were laid down: none where it is a refusal
+abbrev pub laidOf : Written → ℕ
+laidOf (Written.Bytes n) = n
+laidOf (Written.Refused n) = 0

@@ -4,19 +4,21 @@ ghost use mathlib.Core.List.{[], _∷_};
 ghost use Prim.Native.Nat.{_*_, _≤_, _<_};
 ghost use lib.ListN.{length};
 ghost use Rattle.lists.specs.Lists.{onto};
-ghost use Rattle.refuse.specs.Refuse.{first};
+ghost use Rattle.refuse.specs.Refuse.{first, unless};
 ghost use Rattle.header.specs.Header.{headerOf};
 ghost use Rattle.samples.specs.Samples.{isWide, unpacked};
+ghost use Rattle.pgm.specs.Pgm.{wroteAs};
 ghost use Rattle.prepare.specs.Prepare.{prepareRows};
-ghost use Rattle.lister.specs.Lister.{settingsOf, line, refusedText, excessFor, filmText, unless, isLarger, pictureText, listingOf};
+ghost use Rattle.lister.specs.Lister.{settingsOf, line, refusedText, excessFor, filmText, isLarger, pictureText, listingOf, listOf, laidOf};
 ghost use Rattle.lister.specs.Asks.{Laid, Told, LineAsks, tileFields, TileLineAsks, ExcessAsks, LinesAsk, ListAsks};
 use header::Head;
 use limit::Clip;
 use pgm::Sizes;
 use pgm::Turned;
+use pgm::Written;
 use prepare::Prepared;
 use settings::Settings;
-use tile::Rect;
+use tally::Rect;
 
 // Lays a line of numbers down at `at`, a tab behind each and LF behind the last; hands back the place behind it.
 fn write_line(out: &mut [u8], at: usize, numbers: &[u32]) -> usize
@@ -97,7 +99,7 @@ fn tile_excess(
         width: w,
         height: h,
     };
-    tile::count(film, width as usize, rect, 0, maxval, 4, scratch);
+    tally::count(film, width as usize, rect, 0, maxval, 4, scratch);
     clip::excess(scratch, limit) as u32
 }
 
@@ -152,7 +154,7 @@ fn settings_for(maxval: u32) -> Settings
 // The listing of a film, or prepare's refusal of it.
 fn list_film(film: &[u16], width: u32, height: u32, maxval: u32, out: &mut [u8]) -> usize
     requires { ⌜ (width * height ≤ 8192) × (512 ≤ length (now out)) ⌝ }
-    ensures { λ r. ⌜ Told (now (out .entry)) (unless (first (prepareRows width height (now (film .entry)) (settingsOf maxval) 16 4)) (filmText width height maxval (now (film .entry)))) (now (out .exit)) r ⌝ }
+    ensures { λ r. ⌜ Told (now (out .entry)) (unless (first (prepareRows width height (now (film .entry)) (settingsOf maxval) 16 4)) refusedText (filmText width height maxval (now (film .entry)))) (now (out .exit)) r ⌝ }
 {
     let mut map = [0u16; 16];
     let mut scratch = [0u32; 4];
@@ -181,8 +183,8 @@ fn list_raster(raster: &[u8], width: u32, height: u32, maxval: u32, out: &mut [u
     }
 }
 
-// The text that the listing program prints for a file's bytes, at the front of out; hands back its length.
-pub fn list(bytes: &[u8], out: &mut [u8]) -> usize
+// Lays the text that the listing program prints for a file's bytes down at the front of out; hands back its length.
+fn lay_text(bytes: &[u8], out: &mut [u8]) -> usize
     requires { ⌜ 512 ≤ length (now out) ⌝ }
     ensures { λ r. ⌜ (now (out .exit) ≡ onto (now (out .entry)) (listingOf (now (bytes .entry)))) × (r ≡ length (listingOf (now (bytes .entry)))) ⌝ }
 {
@@ -197,5 +199,25 @@ pub fn list(bytes: &[u8], out: &mut [u8]) -> usize
             list_raster(pgm::read_raster(bytes), width, height, maxval, out)
         }
         Sizes::Refused(n) => refused_line(out, n),
+    }
+}
+
+// The text that the listing program prints for a file's bytes, at the front of out: its length, or 27 where fewer than 512 bytes are lent.
+pub fn list(bytes: &[u8], out: &mut [u8]) -> Written
+    ensures { λ r. ⌜ wroteAs r (now (out .exit)) ≡ listOf (now (bytes .entry)) (now (out .entry)) ⌝ }
+{
+    if out.len() < 512 {
+        return Written::Refused(27);
+    }
+    Written::Bytes(lay_text(bytes, out))
+}
+
+// How many bytes `list` laid down, by its answer.
+pub fn laid(answer: Written) -> usize
+    ensures { λ r. ⌜ r ≡ laidOf answer ⌝ }
+{
+    match answer {
+        Written::Bytes(n) => n,
+        Written::Refused(_) => 0,
     }
 }

@@ -7,6 +7,6 @@ fn main() {
     let mut bytes = [0u8; 32769];
     let mut text = [0u8; 512];
     let n = io::read_full(STDIN_FILENO, &mut bytes);
-    let length = lister::list(&bytes[..n], &mut text);
+    let length = lister::laid(lister::list(&bytes[..n], &mut text));
     io::write_all(STDOUT_FILENO, &text[..length]);
 }

@@ -3,7 +3,7 @@ use libc::STDOUT_FILENO;
 
 fn show(index: u64, bytes: &[u8]) {
     let mut text = [0u8; 512];
-    let length = lister::list(bytes, &mut text);
+    let length = lister::laid(lister::list(bytes, &mut text));
     io::print_decimal(STDOUT_FILENO, index);
     io::write_all(STDOUT_FILENO, b"\n");
     io::write_all(STDOUT_FILENO, &text[..length]);

@@ -1,13 +1,33 @@
--- Laws of entries: of a slice that is filled from the front, and of lists that agree in front.
+-- Laws of entries: of a part and of a block of a slice, of a slice that is filled from the front, and of lists that agree in front.
 -- Assumes nothing.
 use Prim.Native.Nat.{ℕ, _+_, _-_, _*_, _≤_, _<_}
 use mathlib.Core.List.{List, _++_, append-nil}
 use mathlib.Core.Path.{_≡_, refl, sym, ap, _∙_}
-use lib.ListN.{length, take, drop, getD}
-use lib.Seq.{getD-append-add, getD-drop, getD-take, drop-length}
+use lib.ListN.{length, take, drop, getD, length-drop}
+use lib.Seq.{getD-append-add, getD-drop, getD-take, drop-length, length-take-le}
 use native.Mathlib.Omega.{arith}
 use Rattle.lists.specs.Lists.{tab, joined, filled, blocks}
 use Rattle.lists.proofs.Tabs.{length-tab}
+
+-- an entry of a part, which goes from a to e
+pub getD-part : (s : List ℕ) (a e i : ℕ) → i < e - a → getD (take (e - a) (drop a s)) i 0 ≡ getD s (a + i) 0
+getD-part s a e i h = getD-take (e - a) (drop a s) i 0 h ∙ getD-drop a s i 0
+
+-- a part is as long as it was cut
+pub length-part : (s : List ℕ) (a e : ℕ) → a ≤ e → e ≤ length s → length (take (e - a) (drop a s)) ≡ e - a
+length-part s a e h l = length-take-le (e - a) (drop a s) (rw length-drop (omega arith))
+
+-- block t of k entries, as the part from t * k on
+abbrev pub block : List ℕ → ℕ → ℕ → List ℕ
+block s t k = take (t * k + k - t * k) (drop (t * k) s)
+
+-- its entries
+pub getD-block : (s : List ℕ) (t k i : ℕ) → i < k → getD (block s t k) i 0 ≡ getD s (t * k + i) 0
+getD-block s t k i h = getD-part s (t * k) (t * k + k) i (omega arith)
+
+-- its length
+pub length-block : (s : List ℕ) (t k : ℕ) → t * k + k ≤ length s → length (block s t k) ≡ k
+length-block s t k h = let size : t * k + k - t * k ≡ k = omega arith in length-part s (t * k) (t * k + k) (omega arith) h ∙ size
 
 -- an entry behind those that were filled is as it was
 pub getD-behind : (f : ℕ → ℕ) (d : List ℕ) (n i : ℕ) → n ≤ i → getD (filled f d n) i 0 ≡ getD d i 0

@@ -9,7 +9,7 @@ use lib.ListN.{length, take, drop, length-drop}
 use lib.Seq.{drop-append-seam}
 use Rattle.lists.specs.Lists.{onto}
 use Rattle.lists.proofs.Fills.{take-onto}
-use Rattle.refuse.specs.Refuse.{first}
+use Rattle.refuse.specs.Refuse.{first, unless}
 use Rattle.refuse.proofs.Walk.{none-first, first-none, none-front, none-behind, numbered-append}
 use Rattle.header.specs.declared.Head.{Head}
 use Rattle.header.specs.declared.Head.the-variants as Head
@@ -23,7 +23,7 @@ use Rattle.pgm.specs.declared.Turned.{Turned}
 use Rattle.pgm.specs.declared.Turned.the-variants as Turned
 use Rattle.pgm.specs.declared.Written.{Written}
 use Rattle.pgm.specs.declared.Written.the-variants as Written
-use Rattle.pgm.specs.Pgm.{rasterSize, limitRows, rasterRows, greyRows, writeRows, Within, RasterAsks, WriteAsks, judgedOf, readOf, sizesOf, rasterOf, greyedAs, greysOf, fileOf, Wrote, wrote, wroteAs, writeOf, unless}
+use Rattle.pgm.specs.Pgm.{rasterSize, headRows, rasterRows, turnRows, writeRows, Within, RasterAsks, WriteAsks, judgedOf, readOf, sizesOf, rasterOf, greyedAs, turnedOf, fileOf, Wrote, wroteAs, writeOf}
 use Rattle.pgm.proofs.Tables.{within-none, exact-none, judged-found, read-judged, raster-asks, limit-numbered, raster-numbered, grey-none, write-asks, length-file}
 use Rattle.pgm.proofs.Parts.{greys-done}
 
@@ -55,7 +55,7 @@ module _ (pic : List ℕ) (w h m room : ℕ) (ok : first (writeRows pic w h m ro
       sym
       (read-judged (fileOf pic w h m) written-header
       (judged-found w h m (length (headerBytes w h m)) (length (fileOf pic w h m)) refl
-      (none-first (limitRows w h m) (within-none w h m (asks .within)))
+      (none-first (headRows w h m) (within-none w h m (asks .within)))
       refl
       (none-first (rasterRows w h m (length (fileOf pic w h m) - length (headerBytes w h m))) (exact-none w h m (length (fileOf pic w h m) - length (headerBytes w h m)) (omega (arith, written-exact))))))
 
@@ -73,11 +73,11 @@ module _ (pic : List ℕ) (w h m room : ℕ) (ok : first (writeRows pic w h m ro
 
   -- a target with room takes them: no row of greys applies, and the picture stands at its front
   pub written-greys : (target : List ℕ) → w * h ≤ length target
-      → greysOf (fileOf pic w h m) (length (headerBytes w h m)) w h m target ≡ greyedAs Turned.Done (onto target pic)
+      → turnedOf (fileOf pic w h m) (length (headerBytes w h m)) w h m target ≡ greyedAs Turned.Done (onto target pic)
   written-greys target l =
       sym (greys-done (fileOf pic w h m) (length (headerBytes w h m)) w h m target refl none (ap (onto target) (sym written-picture)))
     where
-      none : first (greyRows (fileOf pic w h m) (length (headerBytes w h m)) w h m (length target)) ≡ 0
+      none : first (turnRows (fileOf pic w h m) (length (headerBytes w h m)) w h m (length target)) ≡ 0
       none =
           grey-none (fileOf pic w h m) (length (headerBytes w h m)) w h m (length target)
           (record {
@@ -109,7 +109,7 @@ pub written-front : (pic : List ℕ) (w h m : ℕ) (out left : List ℕ) (n : �
 unfolding writeOf
 written-front pic w h m out left n q = go (first (writeRows pic w h m (length out))) refl q
   where
-    go : (k : ℕ) → first (writeRows pic w h m (length out)) ≡ k → wroteAs (Written.Bytes n) left ≡ wrote k out (fileOf pic w h m)
+    go : (k : ℕ) → first (writeRows pic w h m (length out)) ≡ k → wroteAs (Written.Bytes n) left ≡ unless k (λ j. wroteAs (Written.Refused j) out) (wroteAs (Written.Bytes (length (fileOf pic w h m))) (onto out (fileOf pic w h m)))
         → (first (writeRows pic w h m (length out)) ≡ 0) × (take n left ≡ fileOf pic w h m)
     go zero p e =
         let a : Written.Bytes n ≡ Written.Bytes (length (fileOf pic w h m)) = ap (λ (x : Wrote). x .answer) e in
@@ -129,32 +129,32 @@ write-then-read pic w h m out left n q =
 
 -- and its greys, in a target with room, are the picture that was handed in
 pub write-then-greys : (pic : List ℕ) (w h m : ℕ) (out left : List ℕ) (n : ℕ) (target : List ℕ) → wroteAs (Written.Bytes n) left ≡ writeOf pic w h m out
-    → w * h ≤ length target → greysOf (take n left) (length (headerBytes w h m)) w h m target ≡ greyedAs Turned.Done (onto target pic)
+    → w * h ≤ length target → turnedOf (take n left) (length (headerBytes w h m)) w h m target ≡ greyedAs Turned.Done (onto target pic)
 write-then-greys pic w h m out left n target q l =
     let f = written-front pic w h m out left n q in
-    ap (λ s. greysOf s (length (headerBytes w h m)) w h m target) (f .1) ∙ written-greys pic w h m (length out) (f .0) target l
+    ap (λ s. turnedOf s (length (headerBytes w h m)) w h m target) (f .1) ∙ written-greys pic w h m (length out) (f .0) target l
 
 -- ---- any file that read accepts
 
 -- the rows 22 to 25 together
-judged-asks : (s : List ℕ) (w h m at : ℕ) → first (limitRows w h m ++ rasterRows w h m (length s - at)) ≡ 0 → RasterAsks s at w h m
+judged-asks : (s : List ℕ) (w h m at : ℕ) → first (headRows w h m ++ rasterRows w h m (length s - at)) ≡ 0 → RasterAsks s at w h m
 judged-asks s w h m at e =
-    let n = first-none _ (numbered-append (limitRows w h m) (rasterRows w h m (length s - at)) (limit-numbered w h m) (raster-numbered w h m (length s - at))) e in
-    raster-asks s at w h m (sym (none-first (limitRows w h m) (none-front (limitRows w h m) (rasterRows w h m (length s - at)) n))) refl refl
-    (sym (none-first (rasterRows w h m (length s - at)) (none-behind (limitRows w h m) (rasterRows w h m (length s - at)) n))) refl
+    let n = first-none _ (numbered-append (headRows w h m) (rasterRows w h m (length s - at)) (limit-numbered w h m) (raster-numbered w h m (length s - at))) e in
+    raster-asks s at w h m (sym (none-first (headRows w h m) (none-front (headRows w h m) (rasterRows w h m (length s - at)) n))) refl refl
+    (sym (none-first (rasterRows w h m (length s - at)) (none-behind (headRows w h m) (rasterRows w h m (length s - at)) n))) refl
 
 -- what read finds meets the limits, and its raster is exactly as long as width, height and maxval ask
 pub read-asks : (s : List ℕ) {w h m at : ℕ} → readOf s ≡ Head.Found w h m at → RasterAsks s at w h m
 unfolding readOf judgedOf
 read-asks s {w} {h} {m} {at} q = go (headerOf s) q
   where
-    pass : (n : ℕ) (x : Head) → unless n x ≡ Head.Found w h m at → (n ≡ 0) × (x ≡ Head.Found w h m at)
+    pass : (n : ℕ) (x : Head) → unless n Head.Refused x ≡ Head.Found w h m at → (n ≡ 0) × (x ≡ Head.Found w h m at)
     pass zero x e = (refl, e)
     pass (suc n) x e = absurd (let z : _≡_ {A = ℕ} 0 1 = cc in omega arith)
 
     go : (x : Head) → judgedOf x (length s) ≡ Head.Found w h m at → RasterAsks s at w h m
     go (Head.Found w′ h′ m′ at′) e =
-        let p = pass (first (limitRows w′ h′ m′ ++ rasterRows w′ h′ m′ (length s - at′))) (Head.Found w′ h′ m′ at′) e in
+        let p = pass (first (headRows w′ h′ m′ ++ rasterRows w′ h′ m′ (length s - at′))) (Head.Found w′ h′ m′ at′) e in
         let f : Head.Found w′ h′ m′ at′ ≡ Head.Found w h m at = p .1 in
         let a : w′ ≡ w = cc in
         let b : h′ ≡ h = cc in

@@ -9,12 +9,13 @@ use lib.ListN.{length, take, drop, length-drop}
 use lib.Seq.{take-all}
 use Rattle.lists.specs.Lists.{onto}
 use Rattle.lists.proofs.Overs.{onto-tail}
-use Rattle.refuse.specs.Refuse.{first}
+use Rattle.refuse.specs.Refuse.{first, unless}
+use Rattle.refuse.proofs.Walk.{unless-refused}
 use Rattle.header.specs.Header.{headerBytes}
 use Rattle.samples.specs.Samples.{isWide, sizeOf, packed, unpacked, PackAsks}
 use Rattle.pgm.specs.declared.Turned.the-variants as Turned
 use Rattle.pgm.specs.declared.Written.the-variants as Written
-use Rattle.pgm.specs.Pgm.{rasterSize, greyRows, writeRows, RasterAsks, WriteAsks, greyed, greyedAs, greysOf, fileOf, wrote, wroteAs, writeOf}
+use Rattle.pgm.specs.Pgm.{rasterSize, turnRows, writeRows, RasterAsks, WriteAsks, Greyed, greyedAs, turnedOf, fileOf, Wrote, wroteAs, writeOf}
 
 -- ---- the raster as a part of the bytes
 
@@ -41,18 +42,17 @@ part-greys s start w h m t q e = rw (q, part-raster s start w h m t e) refl
 
 module _ (s : List ℕ) (start w h m : ℕ) (target : List ℕ) where
   -- a refusal leaves the target as it was
-  pub greys-refused : {n : ℕ} → n ≡ first (greyRows s start w h m (length target)) → (n ≡ 0 → ⊥) → greyedAs (Turned.Refused n) target ≡ greysOf s start w h m target
-  unfolding greysOf
-  greys-refused {n} e z = go n z ∙ ap (λ k. greyed k target (unpacked (isWide m) (drop start s) (w * h))) e
+  pub greys-refused : {n : ℕ} → n ≡ first (turnRows s start w h m (length target)) → (n ≡ 0 → ⊥) → greyedAs (Turned.Refused n) target ≡ turnedOf s start w h m target
+  unfolding turnedOf
+  greys-refused {n} e z = unless-refused n (λ k. greyedAs (Turned.Refused k) target) done z ∙ ap (λ j. unless j (λ k. greyedAs (Turned.Refused k) target) done) e
     where
-      go : (k : ℕ) → (k ≡ 0 → ⊥) → greyedAs (Turned.Refused k) target ≡ greyed k target (unpacked (isWide m) (drop start s) (w * h))
-      go zero y = absurd (y refl)
-      go (suc k) y = refl
+      done : Greyed
+      done = greyedAs Turned.Done (onto target (unpacked (isWide m) (drop start s) (w * h)))
 
   -- else the greys stand at its front
-  pub greys-done : {n : ℕ} {left : List ℕ} → n ≡ first (greyRows s start w h m (length target)) → n ≡ 0
-      → left ≡ onto target (unpacked (isWide m) (drop start s) (w * h)) → greyedAs Turned.Done left ≡ greysOf s start w h m target
-  unfolding greysOf
+  pub greys-done : {n : ℕ} {left : List ℕ} → n ≡ first (turnRows s start w h m (length target)) → n ≡ 0
+      → left ≡ onto target (unpacked (isWide m) (drop start s) (w * h)) → greyedAs Turned.Done left ≡ turnedOf s start w h m target
+  unfolding turnedOf
   greys-done e z q = rw (← e, z, q) refl
 
 -- ---- the file laid down
@@ -77,11 +77,10 @@ module _ (pic : List ℕ) (w h m : ℕ) (out : List ℕ) where
   -- a refusal leaves the output as it was
   pub write-refused : {n : ℕ} → n ≡ first (writeRows pic w h m (length out)) → (n ≡ 0 → ⊥) → wroteAs (Written.Refused n) out ≡ writeOf pic w h m out
   unfolding writeOf
-  write-refused {n} e z = go n z ∙ ap (λ k. wrote k out (fileOf pic w h m)) e
+  write-refused {n} e z = unless-refused n (λ k. wroteAs (Written.Refused k) out) done z ∙ ap (λ j. unless j (λ k. wroteAs (Written.Refused k) out) done) e
     where
-      go : (k : ℕ) → (k ≡ 0 → ⊥) → wroteAs (Written.Refused k) out ≡ wrote k out (fileOf pic w h m)
-      go zero y = absurd (y refl)
-      go (suc k) y = refl
+      done : Wrote
+      done = wroteAs (Written.Bytes (length (fileOf pic w h m))) (onto out (fileOf pic w h m))
 
   -- else the file stands at its front, and its length is the answer
   pub write-done : {n k : ℕ} {left : List ℕ} → n ≡ first (writeRows pic w h m (length out)) → n ≡ 0

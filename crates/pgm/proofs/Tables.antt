@@ -9,20 +9,20 @@ use native.Mathlib.Nat.{mul-le-mul, mul-pos}
 use lib.Dec.{eqb, lit<}
 use lib.ListN.{length, drop, length-append}
 use borrow.Author.Tests.{ltb-false, eqb-false, eqb-true, not-false, not-true, ne-eqb, eq-eqb, le-ltb, lt-ltb}
-use Rattle.refuse.specs.Refuse.{row, first, None, Numbered}
-use Rattle.refuse.proofs.Walk.{first-none, first-hit, none-first, none-append, numbered-append, none-front, none-behind, front, behind}
+use Rattle.refuse.specs.Refuse.{row, first, None, Numbered, unless}
+use Rattle.refuse.proofs.Walk.{first-none, first-hit, none-first, none-append, numbered-append, none-front, none-behind, front, behind, unless-refused}
 use Rattle.header.specs.declared.Head.{Head}
 use Rattle.header.specs.declared.Head.the-variants as Head
 use Rattle.header.specs.Header.{headerOf, headerBytes}
 use Rattle.header.proofs.Laws.{found-within}
 use Rattle.samples.specs.Samples.{isWide, sizeOf, unpacked, noneAbove}
 use Rattle.samples.proofs.Packing.{length-packed}
-use Rattle.pgm.specs.Pgm.{rasterSize, limitRows, rasterRows, targetRows, greyRows, writeRows, Within, RasterAsks, GreyAsks, WriteAsks, unless, judgedOf, readOf, fileOf}
+use Rattle.pgm.specs.Pgm.{rasterSize, headRows, rasterRows, targetRows, turnRows, writeRows, Within, RasterAsks, GreyAsks, WriteAsks, judgedOf, readOf, fileOf}
 
 -- ---- the numbers are above 0
 
-pub limit-numbered : (w h m : ℕ) → Numbered (limitRows w h m)
-unfolding limitRows
+pub limit-numbered : (w h m : ℕ) → Numbered (headRows w h m)
+unfolding headRows
 limit-numbered w h m = (lit< tt, (lit< tt, (lit< tt, (lit< tt, (lit< tt, (lit< tt, tt))))))
 
 pub raster-numbered : (w h m size : ℕ) → Numbered (rasterRows w h m size)
@@ -40,8 +40,8 @@ pos zero e = let z : ⊥ = eqb-false 0 0 e refl in absurd z
 pos (suc n) e = omega arith
 
 -- none of them applies: size and maxval are in their limits
-pub within : (w h m : ℕ) → first (limitRows w h m) ≡ 0 → Within w h m
-unfolding limitRows
+pub within : (w h m : ℕ) → first (headRows w h m) ≡ 0 → Within w h m
+unfolding headRows
 within w h m e =
     let n = first-none _ (limit-numbered w h m) e in
     record {
@@ -54,8 +54,8 @@ within w h m e =
     }
 
 -- and the other way
-pub within-none : (w h m : ℕ) → Within w h m → None (limitRows w h m)
-unfolding limitRows
+pub within-none : (w h m : ℕ) → Within w h m → None (headRows w h m)
+unfolding headRows
 within-none w h m t =
     let a : w ≡ 0 → ⊥ = λ e. omega (arith, t .wide) in
     let b : h ≡ 0 → ⊥ = λ e. omega (arith, t .high) in
@@ -119,31 +119,26 @@ raster-some w h m p q = mul-pos (mul-pos p q) (size-least (isWide m))
 
 -- ---- read
 
--- a number other than 0 is a refusal
-unless-refused : (n : ℕ) (found : Head) → (n ≡ 0 → ⊥) → Head.Refused n ≡ unless n found
-unless-refused zero found z = absurd (z refl)
-unless-refused (suc n) found z = refl
-
 module _ (w h m at size : ℕ) where
   -- 22 or 23 applies
-  pub judged-limit : {r : ℕ} → r ≡ first (limitRows w h m) → (r ≡ 0 → ⊥) → Head.Refused r ≡ judgedOf (Head.Found w h m at) size
+  pub judged-limit : {r : ℕ} → r ≡ first (headRows w h m) → (r ≡ 0 → ⊥) → Head.Refused r ≡ judgedOf (Head.Found w h m at) size
   unfolding judgedOf
-  judged-limit {r} e z = unless-refused r (Head.Found w h m at) z ∙ ap (λ n. unless n (Head.Found w h m at)) (front (limitRows w h m) (rasterRows w h m (size - at)) e z)
+  judged-limit {r} e z = unless-refused r Head.Refused (Head.Found w h m at) z ∙ ap (λ n. unless n Head.Refused (Head.Found w h m at)) (front (headRows w h m) (rasterRows w h m (size - at)) e z)
 
   -- 24 or 25 applies
-  pub judged-raster : {a r : ℕ} → a ≡ first (limitRows w h m) → a ≡ 0 → r ≡ first (rasterRows w h m (size - at)) → (r ≡ 0 → ⊥)
+  pub judged-raster : {a r : ℕ} → a ≡ first (headRows w h m) → a ≡ 0 → r ≡ first (rasterRows w h m (size - at)) → (r ≡ 0 → ⊥)
       → Head.Refused r ≡ judgedOf (Head.Found w h m at) size
   unfolding judgedOf
   judged-raster {a} {r} e z f y =
-      unless-refused r (Head.Found w h m at) y
-      ∙ ap (λ n. unless n (Head.Found w h m at)) (behind (limitRows w h m) (rasterRows w h m (size - at)) (limit-numbered w h m) e z f)
+      unless-refused r Head.Refused (Head.Found w h m at) y
+      ∙ ap (λ n. unless n Head.Refused (Head.Found w h m at)) (behind (headRows w h m) (rasterRows w h m (size - at)) (limit-numbered w h m) e z f)
 
   -- none applies
-  pub judged-found : {a b : ℕ} → a ≡ first (limitRows w h m) → a ≡ 0 → b ≡ first (rasterRows w h m (size - at)) → b ≡ 0
+  pub judged-found : {a b : ℕ} → a ≡ first (headRows w h m) → a ≡ 0 → b ≡ first (rasterRows w h m (size - at)) → b ≡ 0
       → Head.Found w h m at ≡ judgedOf (Head.Found w h m at) size
   unfolding judgedOf
   judged-found {a} {b} e z f y =
-      ap (λ n. unless n (Head.Found w h m at)) (sym y ∙ behind (limitRows w h m) (rasterRows w h m (size - at)) (limit-numbered w h m) e z f)
+      ap (λ n. unless n Head.Refused (Head.Found w h m at)) (sym y ∙ behind (headRows w h m) (rasterRows w h m (size - at)) (limit-numbered w h m) e z f)
 
 -- the header is judged
 pub read-judged : (s : List ℕ) {x r : Head} → headerOf s ≡ x → r ≡ judgedOf x (length s) → r ≡ readOf s
@@ -160,12 +155,12 @@ pub read-header : (s : List ℕ) {w h m at : ℕ} → readOf s ≡ Head.Found w 
 unfolding readOf judgedOf
 read-header s {w} {h} {m} {at} q = go (headerOf s) refl q
   where
-    pass : (n : ℕ) (x : Head) → unless n x ≡ Head.Found w h m at → x ≡ Head.Found w h m at
+    pass : (n : ℕ) (x : Head) → unless n Head.Refused x ≡ Head.Found w h m at → x ≡ Head.Found w h m at
     pass zero x e = e
     pass (suc n) x e = absurd (let z : _≡_ {A = ℕ} 0 1 = cc in omega arith)
 
     go : (x : Head) → headerOf s ≡ x → judgedOf x (length s) ≡ Head.Found w h m at → headerOf s ≡ Head.Found w h m at
-    go (Head.Found w′ h′ m′ at′) p e = p ∙ pass (first (limitRows w′ h′ m′ ++ rasterRows w′ h′ m′ (length s - at′))) (Head.Found w′ h′ m′ at′) e
+    go (Head.Found w′ h′ m′ at′) p e = p ∙ pass (first (headRows w′ h′ m′ ++ rasterRows w′ h′ m′ (length s - at′))) (Head.Found w′ h′ m′ at′) e
     go (Head.Refused n) p e = absurd (let z : _≡_ {A = ℕ} 0 1 = cc in omega arith)
 
 -- the raster that read finds starts within the bytes
@@ -175,7 +170,7 @@ read-within s e = found-within s (read-header s e)
 -- ---- greys
 
 -- none of 22 to 25 applies: from `start` on there is a raster
-pub raster-asks : (bytes : List ℕ) (start w h m : ℕ) {size a b : ℕ} → a ≡ first (limitRows w h m) → a ≡ 0 → size ≡ length bytes - start
+pub raster-asks : (bytes : List ℕ) (start w h m : ℕ) {size a b : ℕ} → a ≡ first (headRows w h m) → a ≡ 0 → size ≡ length bytes - start
     → b ≡ first (rasterRows w h m size) → b ≡ 0 → RasterAsks bytes start w h m
 raster-asks bytes start w h m {size} e z q f y =
     let t : Within w h m = within w h m (sym e ∙ z) in
@@ -201,54 +196,54 @@ module _ (bytes : List ℕ) (start w h m room : ℕ) where
   target-above l e q = rw (le-ltb room (w * h) l, ← e, q) refl
 
   -- 22 or 23 applies
-  pub grey-limit : {r : ℕ} → r ≡ first (limitRows w h m) → (r ≡ 0 → ⊥) → r ≡ first (greyRows bytes start w h m room)
-  unfolding greyRows
-  grey-limit e z = front (limitRows w h m) _ e z
+  pub grey-limit : {r : ℕ} → r ≡ first (headRows w h m) → (r ≡ 0 → ⊥) → r ≡ first (turnRows bytes start w h m room)
+  unfolding turnRows
+  grey-limit e z = front (headRows w h m) _ e z
 
   -- 24 or 25 applies
-  pub grey-raster : {size a r : ℕ} → a ≡ first (limitRows w h m) → a ≡ 0 → size ≡ length bytes - start → r ≡ first (rasterRows w h m size) → (r ≡ 0 → ⊥)
-      → r ≡ first (greyRows bytes start w h m room)
-  unfolding greyRows
+  pub grey-raster : {size a r : ℕ} → a ≡ first (headRows w h m) → a ≡ 0 → size ≡ length bytes - start → r ≡ first (rasterRows w h m size) → (r ≡ 0 → ⊥)
+      → r ≡ first (turnRows bytes start w h m room)
+  unfolding turnRows
   grey-raster {size} {a} {r} e z q f y =
-      behind (limitRows w h m) _ (limit-numbered w h m) e z (front (rasterRows w h m (length bytes - start)) _ (f ∙ ap (λ k. first (rasterRows w h m k)) q) y)
+      behind (headRows w h m) _ (limit-numbered w h m) e z (front (rasterRows w h m (length bytes - start)) _ (f ∙ ap (λ k. first (rasterRows w h m k)) q) y)
 
   -- none of them applies
-  pub grey-target : {size a b r : ℕ} → a ≡ first (limitRows w h m) → a ≡ 0 → size ≡ length bytes - start → b ≡ first (rasterRows w h m size) → b ≡ 0
-      → r ≡ first (targetRows bytes start w h m room) → r ≡ first (greyRows bytes start w h m room)
-  unfolding greyRows
+  pub grey-target : {size a b r : ℕ} → a ≡ first (headRows w h m) → a ≡ 0 → size ≡ length bytes - start → b ≡ first (rasterRows w h m size) → b ≡ 0
+      → r ≡ first (targetRows bytes start w h m room) → r ≡ first (turnRows bytes start w h m room)
+  unfolding turnRows
   grey-target {size} {a} {b} {r} e z q f y g =
-      behind (limitRows w h m) _ (limit-numbered w h m) e z
+      behind (headRows w h m) _ (limit-numbered w h m) e z
       (behind (rasterRows w h m (length bytes - start)) _ (raster-numbered w h m (length bytes - start)) (f ∙ ap (λ k. first (rasterRows w h m k)) q) y g)
 
   -- the numbers are above 0
-  pub grey-numbered : Numbered (greyRows bytes start w h m room)
-  unfolding greyRows
+  pub grey-numbered : Numbered (turnRows bytes start w h m room)
+  unfolding turnRows
   grey-numbered =
-      numbered-append (limitRows w h m) (rasterRows w h m (length bytes - start) ++ targetRows bytes start w h m room) (limit-numbered w h m)
+      numbered-append (headRows w h m) (rasterRows w h m (length bytes - start) ++ targetRows bytes start w h m room) (limit-numbered w h m)
       (numbered-append (rasterRows w h m (length bytes - start)) (targetRows bytes start w h m room) (raster-numbered w h m (length bytes - start))
       (target-numbered bytes start w h m room))
 
   -- no row applies: what the work below relies on
-  pub grey-asks : first (greyRows bytes start w h m room) ≡ 0 → GreyAsks bytes start w h m room
-  unfolding greyRows targetRows
+  pub grey-asks : first (turnRows bytes start w h m room) ≡ 0 → GreyAsks bytes start w h m room
+  unfolding turnRows targetRows
   grey-asks e =
-      let n = first-none (greyRows bytes start w h m room) grey-numbered e in
-      let a = none-front (limitRows w h m) _ n in
-      let b = none-behind (limitRows w h m) _ n in
+      let n = first-none (turnRows bytes start w h m room) grey-numbered e in
+      let a = none-front (headRows w h m) _ n in
+      let b = none-behind (headRows w h m) _ n in
       let x = none-front (rasterRows w h m (length bytes - start)) _ b in
       let y = none-behind (rasterRows w h m (length bytes - start)) _ b in
       record {
-        raster = raster-asks bytes start w h m (sym (none-first (limitRows w h m) a)) refl refl (sym (none-first (rasterRows w h m (length bytes - start)) x)) refl;
+        raster = raster-asks bytes start w h m (sym (none-first (headRows w h m) a)) refl refl (sym (none-first (rasterRows w h m (length bytes - start)) x)) refl;
         fitting = ltb-false _ _ (y .0);
         bounded = not-false _ (y .1 .0);
       }
 
   -- and the other way
-  pub grey-none : GreyAsks bytes start w h m room → first (greyRows bytes start w h m room) ≡ 0
-  unfolding greyRows targetRows
+  pub grey-none : GreyAsks bytes start w h m room → first (turnRows bytes start w h m room) ≡ 0
+  unfolding turnRows targetRows
   grey-none t =
-      none-first (greyRows bytes start w h m room)
-      (none-append (limitRows w h m) _ (within-none w h m (t .raster .within))
+      none-first (turnRows bytes start w h m room)
+      (none-append (headRows w h m) _ (within-none w h m (t .raster .within))
       (none-append (rasterRows w h m (length bytes - start)) _ (exact-none w h m (length bytes - start) (omega (arith, t .raster .exact)))
       (le-ltb room (w * h) (t .fitting), (rw (t .bounded) refl, tt))))
 
@@ -261,51 +256,51 @@ length-file pic w h m e = rw (length-append, length-packed (isWide m) pic, e) re
 
 module _ (pic : List ℕ) (w h m room : ℕ) where
   -- 22 or 23 applies
-  pub write-limit : {r : ℕ} → r ≡ first (limitRows w h m) → (r ≡ 0 → ⊥) → r ≡ first (writeRows pic w h m room)
+  pub write-limit : {r : ℕ} → r ≡ first (headRows w h m) → (r ≡ 0 → ⊥) → r ≡ first (writeRows pic w h m room)
   unfolding writeRows
-  write-limit e z = front (limitRows w h m) _ e z
+  write-limit e z = front (headRows w h m) _ e z
 
   -- 2 applies
-  pub write-size : {a : ℕ} → a ≡ first (limitRows w h m) → a ≡ 0 → (length pic ≡ w * h → ⊥) → 2 ≡ first (writeRows pic w h m room)
+  pub write-size : {a : ℕ} → a ≡ first (headRows w h m) → a ≡ 0 → (length pic ≡ w * h → ⊥) → 2 ≡ first (writeRows pic w h m room)
   unfolding first writeRows
-  write-size e z q = behind (limitRows w h m) _ (limit-numbered w h m) e z (rw (ne-eqb (length pic) (w * h) q) refl)
+  write-size e z q = behind (headRows w h m) _ (limit-numbered w h m) e z (rw (ne-eqb (length pic) (w * h) q) refl)
 
   -- 26 applies
-  pub write-above : {a : ℕ} {t : Bool} → a ≡ first (limitRows w h m) → a ≡ 0 → length pic ≡ w * h → t ≡ noneAbove m pic → not t ≡ true
+  pub write-above : {a : ℕ} {t : Bool} → a ≡ first (headRows w h m) → a ≡ 0 → length pic ≡ w * h → t ≡ noneAbove m pic → not t ≡ true
       → 26 ≡ first (writeRows pic w h m room)
   unfolding first writeRows
-  write-above {a} {t} e z q f y = behind (limitRows w h m) _ (limit-numbered w h m) e z (rw (eq-eqb (length pic) (w * h) q, ← f, not-true t y) refl)
+  write-above {a} {t} e z q f y = behind (headRows w h m) _ (limit-numbered w h m) e z (rw (eq-eqb (length pic) (w * h) q, ← f, not-true t y) refl)
 
   -- 27 applies
-  pub write-short : {a x y : ℕ} {t : Bool} → a ≡ first (limitRows w h m) → a ≡ 0 → length pic ≡ w * h → t ≡ noneAbove m pic → not t ≡ false
+  pub write-short : {a x y : ℕ} {t : Bool} → a ≡ first (headRows w h m) → a ≡ 0 → length pic ≡ w * h → t ≡ noneAbove m pic → not t ≡ false
       → x ≡ length (headerBytes w h m) → y ≡ rasterSize w h m → room < x + y → 27 ≡ first (writeRows pic w h m room)
   unfolding first writeRows
   write-short {a} {x} {y} {t} e z q f n p s l =
-      behind (limitRows w h m) _ (limit-numbered w h m) e z
+      behind (headRows w h m) _ (limit-numbered w h m) e z
       (rw (eq-eqb (length pic) (w * h) q, ← f, not-false t n, lt-ltb room (length (fileOf pic w h m)) (omega (arith, length-file pic w h m q))) refl)
 
   -- none applies
-  pub write-fits : {a x y : ℕ} {t : Bool} → a ≡ first (limitRows w h m) → a ≡ 0 → length pic ≡ w * h → t ≡ noneAbove m pic → not t ≡ false
+  pub write-fits : {a x y : ℕ} {t : Bool} → a ≡ first (headRows w h m) → a ≡ 0 → length pic ≡ w * h → t ≡ noneAbove m pic → not t ≡ false
       → x ≡ length (headerBytes w h m) → y ≡ rasterSize w h m → x + y ≤ room → 0 ≡ first (writeRows pic w h m room)
   unfolding first writeRows
   write-fits {a} {x} {y} {t} e z q f n p s l =
-      behind (limitRows w h m) _ (limit-numbered w h m) e z
+      behind (headRows w h m) _ (limit-numbered w h m) e z
       (rw (eq-eqb (length pic) (w * h) q, ← f, not-false t n, le-ltb room (length (fileOf pic w h m)) (omega (arith, length-file pic w h m q))) refl)
 
   -- the numbers are above 0
   pub write-numbered : Numbered (writeRows pic w h m room)
   unfolding writeRows
-  write-numbered = numbered-append (limitRows w h m) _ (limit-numbered w h m) (lit< tt, (lit< tt, (lit< tt, tt)))
+  write-numbered = numbered-append (headRows w h m) _ (limit-numbered w h m) (lit< tt, (lit< tt, (lit< tt, tt)))
 
   -- no row applies: what the work below relies on
   pub write-asks : first (writeRows pic w h m room) ≡ 0 → WriteAsks pic w h m room
   unfolding writeRows
   write-asks e =
       let n = first-none (writeRows pic w h m room) write-numbered e in
-      let b = none-behind (limitRows w h m) _ n in
+      let b = none-behind (headRows w h m) _ n in
       let q : length pic ≡ w * h = eqb-true _ _ (not-false _ (b .0)) in
       record {
-        within = within w h m (none-first (limitRows w h m) (none-front (limitRows w h m) _ n));
+        within = within w h m (none-first (headRows w h m) (none-front (headRows w h m) _ n));
         whole = q;
         bounded = not-false _ (b .1 .0);
         fitting = let l : length (fileOf pic w h m) ≤ room = ltb-false _ _ (b .1 .1 .0) in omega (arith, length-file pic w h m q);

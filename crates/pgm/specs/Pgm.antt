@@ -1,14 +1,14 @@
 -- Document 01, "What each call hands back" for read and write, the refusals 20 to 27, and "Raw PGM".
 -- A file is a list of bytes. w, h and m are width, height and maxval.
 -- Assumes nothing.
-use Prim.Native.Nat.{ℕ, zero, suc, _+_, _-_, _*_, _≤_, _<_}
+use Prim.Native.Nat.{ℕ, _+_, _-_, _*_, _≤_, _<_}
 use mathlib.Core.Bool.{true, not}
 use mathlib.Core.List.{List, [], _∷_, _++_}
 use mathlib.Core.Path.{_≡_}
 use lib.Dec.{ltb, eqb}
 use lib.ListN.{length, drop}
 use Rattle.lists.specs.Lists.{onto}
-use Rattle.refuse.specs.Refuse.{Row, row, first, Says, accepted, refused}
+use Rattle.refuse.specs.Refuse.{Row, row, first, unless, Says, accepted, refused}
 use Rattle.header.specs.declared.Head.{Head}
 use Rattle.header.specs.declared.Head.the-variants as Head
 use Rattle.header.specs.Header.{headerOf, headerBytes}
@@ -25,8 +25,8 @@ abbrev pub rasterSize : ℕ → ℕ → ℕ → ℕ
 rasterSize w h m = w * h * sizeOf (isWide m)
 
 -- 22 and 23: "size as in 1 / maxval 0 or above 4095"
-unfoldable pub limitRows : ℕ → ℕ → ℕ → List Row
-limitRows w h m =
+unfoldable pub headRows : ℕ → ℕ → ℕ → List Row
+headRows w h m =
     row 22 (eqb w 0) ∷ row 22 (ltb 4096 w) ∷ row 22 (eqb h 0) ∷ row 22 (ltb 4096 h) ∷ row 23 (eqb m 0) ∷ row 23 (ltb 4095 m) ∷ []
 
 -- 24 and 25: "raster too short / bytes behind it", of a raster of `size` bytes
@@ -44,14 +44,9 @@ pub record Within (w h m : ℕ) : Type 0 where
 
 -- ---- read
 
--- a refusal's number in the place of what was found
-abbrev pub unless : ℕ → Head → Head
-unless zero found = found
-unless (suc n) found = Head.Refused (suc n)
-
 -- "header bytes from the front ..; then 22 to 25": what the header found, in a file of `size` bytes
 unfoldable pub judgedOf : Head → ℕ → Head
-judgedOf (Head.Found w h m at) size = unless (first (limitRows w h m ++ rasterRows w h m (size - at))) (Head.Found w h m at)
+judgedOf (Head.Found w h m at) size = unless (first (headRows w h m ++ rasterRows w h m (size - at))) Head.Refused (Head.Found w h m at)
 judgedOf (Head.Refused n) size = Head.Refused n
 
 -- the same where a header was found
@@ -72,6 +67,11 @@ abbrev pub rasterOf : Head → List ℕ → List ℕ
 rasterOf (Head.Found w h m at) s = drop at s
 rasterOf (Head.Refused n) s = []
 
+-- where "that part of the caller's bytes" begins: behind the header; the empty part stands at the front
+abbrev pub startOf : Head → ℕ
+startOf (Head.Found w h m at) = at
+startOf (Head.Refused n) = 0
+
 -- document 01's values and number of read's answers: width, height and maxval, or a refusal
 unfoldable pub sizesSays : Sizes → Says (ℕ × ℕ × ℕ)
 sizesSays (Sizes.Found w h m) = accepted (w, h, m)
@@ -85,9 +85,9 @@ targetRows bytes start w h m room =
     row 27 (ltb room (w * h)) ∷ row 26 (not (noneAbove m (unpacked (isWide m) (drop start bytes) (w * h)))) ∷ []
 
 -- "Turning a raster into greys: 22, 23, 24, 25, 27, 26": the raster is what stands in `bytes` from `start` on, `room` the target's length
-unfoldable pub greyRows : List ℕ → ℕ → ℕ → ℕ → ℕ → ℕ → List Row
-greyRows bytes start w h m room =
-    limitRows w h m ++ (rasterRows w h m (length bytes - start) ++ targetRows bytes start w h m room)
+unfoldable pub turnRows : List ℕ → ℕ → ℕ → ℕ → ℕ → ℕ → List Row
+turnRows bytes start w h m room =
+    headRows w h m ++ (rasterRows w h m (length bytes - start) ++ targetRows bytes start w h m room)
 
 -- what the rows 22 to 25 tell where none applies: from `start` on there is a raster of exactly the picture's samples
 pub record RasterAsks (bytes : List ℕ) (start w h m : ℕ) : Type 0 where
@@ -114,15 +114,11 @@ pub record Greyed : Type 0 where
 abbrev pub greyedAs : Turned → List ℕ → Greyed
 greyedAs answer target = record { answer = answer; target = target }
 
--- a refusal leaves the target as it was; else "entries behind the last grey keep their contents"
-abbrev pub greyed : ℕ → List ℕ → List ℕ → Greyed
-greyed zero target greys = record { answer = Turned.Done; target = onto target greys }
-greyed (suc n) target greys = record { answer = Turned.Refused (suc n); target = target }
-
--- greys of a raster: the first row that applies, else the target with the greys at its front
-unfoldable pub greysOf : List ℕ → ℕ → ℕ → ℕ → ℕ → List ℕ → Greyed
-greysOf bytes start w h m target =
-    greyed (first (greyRows bytes start w h m (length target))) target (unpacked (isWide m) (drop start bytes) (w * h))
+-- greys of a raster: the first row that applies, and the target stays as it was, else the greys at its front: "entries behind the last grey keep their contents"
+unfoldable pub turnedOf : List ℕ → ℕ → ℕ → ℕ → ℕ → List ℕ → Greyed
+turnedOf bytes start w h m target =
+    unless (first (turnRows bytes start w h m (length target))) (λ n. greyedAs (Turned.Refused n) target)
+    (greyedAs Turned.Done (onto target (unpacked (isWide m) (drop start bytes) (w * h))))
 
 -- ---- write
 
@@ -133,7 +129,7 @@ fileOf pic w h m = headerBytes w h m ++ packed (isWide m) pic
 -- "Write: 22, 23, 2, 26, 27."
 unfoldable pub writeRows : List ℕ → ℕ → ℕ → ℕ → ℕ → List Row
 writeRows pic w h m room =
-    limitRows w h m
+    headRows w h m
     ++ (row 2 (not (eqb (length pic) (w * h)))
     ∷ row 26 (not (noneAbove m pic))
     ∷ row 27 (ltb room (length (fileOf pic w h m)))
@@ -160,11 +156,10 @@ pub record Wrote : Type 0 where
 abbrev pub wroteAs : Written → List ℕ → Wrote
 wroteAs answer out = record { answer = answer; out = out }
 
--- a refusal leaves the output as it was; else "returns the byte count; bytes behind it keep their contents"
-abbrev pub wrote : ℕ → List ℕ → List ℕ → Wrote
-wrote zero out bytes = record { answer = Written.Bytes (length bytes); out = onto out bytes }
-wrote (suc n) out bytes = record { answer = Written.Refused (suc n); out = out }
+-- the first row that applies, and the output stays as it was, else bytes at its front: "returns the byte count; bytes behind it keep their contents"
+abbrev pub wrote : List Row → List ℕ → List ℕ → Wrote
+wrote rows out bytes = unless (first rows) (λ n. wroteAs (Written.Refused n) out) (wroteAs (Written.Bytes (length bytes)) (onto out bytes))
 
 -- write: the first row that applies, else the output with the file at its front
 unfoldable pub writeOf : List ℕ → ℕ → ℕ → ℕ → List ℕ → Wrote
-writeOf pic w h m out = wrote (first (writeRows pic w h m (length out))) out (fileOf pic w h m)
+writeOf pic w h m out = wrote (writeRows pic w h m (length out)) out (fileOf pic w h m)

@@ -1,11 +1,12 @@
 // Raw PGM: read, asked twice over the same bytes, greys from a raster, and write.
 ghost use mathlib.Core.Path.{_≡_};
-ghost use Prim.Native.Nat.{_-_, _*_, _≤_};
+ghost use Prim.Native.Nat.{_+_, _-_, _*_, _≤_};
+ghost use denote.Ref.{ptr};
 ghost use lib.ListN.{length, drop};
 ghost use Rattle.lists.specs.Lists.{onto};
 ghost use Rattle.refuse.specs.Refuse.{first};
 ghost use Rattle.samples.specs.Samples.{isWide, unpacked};
-ghost use Rattle.pgm.specs.Pgm.{rasterSize, limitRows, rasterRows, judgedFound, readOf, sizesOf, rasterOf, targetRows, greyRows, RasterAsks, GreyAsks, greyedAs, greysOf, fileOf, writeRows, WriteAsks, wroteAs, writeOf};
+ghost use Rattle.pgm.specs.Pgm.{rasterSize, headRows, rasterRows, judgedFound, readOf, sizesOf, rasterOf, startOf, targetRows, turnRows, RasterAsks, GreyAsks, greyedAs, turnedOf, fileOf, writeRows, WriteAsks, wroteAs, writeOf};
 use header::Head;
 
 // What read finds: width, height and maxval, or the refusal.
@@ -28,7 +29,7 @@ pub enum Written {
 
 // The first of the refusals 22 and 23 that applies, else 0.
 fn limit_refusal(width: u32, height: u32, maxval: u32) -> u32
-    ensures { λ r. ⌜ r ≡ first (limitRows width height maxval) ⌝ }
+    ensures { λ r. ⌜ r ≡ first (headRows width height maxval) ⌝ }
 {
     if width == 0 {
         return 22;
@@ -117,7 +118,7 @@ pub fn read_sizes(bytes: &[u8]) -> Sizes
 
 // Read, asked for the raster: the part of the bytes behind the header, and an empty part on a refusal.
 pub fn read_raster(bytes: &[u8]) -> &[u8]
-    ensures { λ r. ⌜ now r ≡ rasterOf (readOf (now (bytes .entry))) (now (bytes .entry)) ⌝ }
+    ensures { λ r. ⌜ (now r ≡ rasterOf (readOf (now (bytes .entry))) (now (bytes .entry))) × (ptr r ≡ (ptr (bytes .entry) .0, startOf (readOf (now (bytes .entry))) + ptr (bytes .entry) .1)) ⌝ }
 {
     match read(bytes) {
         Head::Found(_, _, _, at) => {
@@ -172,7 +173,7 @@ fn grey_refusal(
     maxval: u32,
     room: usize,
 ) -> u32
-    ensures { λ r. ⌜ r ≡ first (greyRows (now (bytes .entry)) start width height maxval room) ⌝ }
+    ensures { λ r. ⌜ r ≡ first (turnRows (now (bytes .entry)) start width height maxval room) ⌝ }
 {
     let limit = limit_refusal(width, height, maxval);
     if limit != 0 {
@@ -207,7 +208,7 @@ pub fn read_greys(
     maxval: u32,
     target: &mut [u16],
 ) -> Turned
-    ensures { λ r. ⌜ greyedAs r (now (target .exit)) ≡ greysOf (now (bytes .entry)) start width height maxval (now (target .entry)) ⌝ }
+    ensures { λ r. ⌜ greyedAs r (now (target .exit)) ≡ turnedOf (now (bytes .entry)) start width height maxval (now (target .entry)) ⌝ }
 {
     let refusal = grey_refusal(bytes, start, width, height, maxval, target.len());
     if refusal != 0 {

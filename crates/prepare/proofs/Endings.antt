@@ -5,18 +5,14 @@ use mathlib.Core.Bool.{Bool, true, false}
 use mathlib.Core.List.{List}
 use mathlib.Core.Path.{_≡_, refl, sym, ap, _∙_}
 use lib.ListN.{length}
-use Rattle.refuse.specs.Refuse.{first}
+use Rattle.refuse.specs.Refuse.{first, unless}
+use Rattle.refuse.proofs.Walk.{unless-refused}
 use Rattle.settings.specs.declared.Settings.{Settings}
 use Rattle.settings.specs.declared.Footer.{Footer}
 use Rattle.settings.specs.Settings.{binsOf, keptOf, tilePixels, clipOne}
 use Rattle.prepare.specs.declared.Prepared.the-variants as Prepared
-use Rattle.prepare.specs.Prepare.{mappings, prepareRows, footerOf, Ended, ending, settled, preparedOf, prepareOf, TightAsks, Work, TilesAsk, TilesDone}
+use Rattle.prepare.specs.Prepare.{mappings, prepareRows, footerOf, Ended, ending, preparedOf, prepareOf, TightAsks, Work, TilesAsk, TilesDone}
 use Rattle.prepare.proofs.Table.{work, tight-asks}
-
--- a number that is not 0 is a refusal
-pub settles : (n : ℕ) (m t : List ℕ) (ok : Ended) → (n ≡ 0 → ⊥) → ending (Prepared.Refused n) m t ≡ settled n m t ok
-settles zero m t ok z = absurd (z refl)
-settles (suc n) m t ok z = refl
 
 -- ---- what the work asks, once none of the rows applies
 
@@ -40,12 +36,14 @@ module _ (film w h : ℕ) (pic : List ℕ) (s : Settings) (m t : List ℕ) where
   pub ends-refused : {r : ℕ} → r ≡ first (prepareRows w h pic s (length m) (length t)) → (r ≡ 0 → ⊥)
       → ending (Prepared.Refused r) m t ≡ prepareOf film w h pic s m t
   unfolding prepareOf
-  ends-refused {r} e z = settles r m t (preparedOf film w h pic s m t) z ∙ ap (λ n. settled n m t (preparedOf film w h pic s m t)) e
+  ends-refused {r} e z =
+      unless-refused r (λ n. ending (Prepared.Refused n) m t) (preparedOf film w h pic s m t) z
+      ∙ ap (λ k. unless k (λ n. ending (Prepared.Refused n) m t) (preparedOf film w h pic s m t)) e
 
   -- no refusal
   pub ends-done : {r : ℕ} → r ≡ first (prepareRows w h pic s (length m) (length t)) → r ≡ 0 → preparedOf film w h pic s m t ≡ prepareOf film w h pic s m t
   unfolding prepareOf
-  ends-done {r} e z = ap (λ n. settled n m t (preparedOf film w h pic s m t)) (sym z ∙ e)
+  ends-done {r} e z = ap (λ k. unless k (λ n. ending (Prepared.Refused n) m t) (preparedOf film w h pic s m t)) (sym z ∙ e)
 
   -- at the factor 1.0 the buffers stay
   pub ends-one : {r b : ℕ} {kept : Settings} {foot : Footer} {o : Bool} → r ≡ first (prepareRows w h pic s (length m) (length t)) → r ≡ 0

@@ -19,10 +19,12 @@ use Rattle.limit.specs.declared.Clip.{Clip}
 use Rattle.limit.specs.declared.Clip.the-variants.{Off, Factor}
 use Rattle.limit.specs.Limit.{accepted, limitOf, tooTight}
 use Rattle.limit.proofs.Laws.{tight-factor}
-use Rattle.tile.specs.declared.Rect.{Rect}
-use Rattle.tile.specs.Tile.{within, greysOf, tileCounts, tileMapping, Inside, Holds, off, factor, TileMapped}
+use Rattle.tally.specs.declared.Rect.{Rect}
+use Rattle.scan.specs.Scan.{within}
+use Rattle.tally.specs.Tally.{greysOf, Inside}
+use Rattle.tile.specs.Tile.{tileCounts, tileMapping, Holds, off, factor, TileMapped}
 use Rattle.tile.specs.Tile as tile
-use Rattle.tile.proofs.Greys.{length-greys, greys-all}
+use Rattle.tally.proofs.Greys.{length-greys, greys-all}
 use Rattle.tile.proofs.Tiles.{length-tile-counts, length-tile-mapping, tile-mapping-within}
 use Rattle.settings.specs.declared.Settings.{Settings}
 use Rattle.settings.specs.Settings.{binsOf, entriesOf, tileHeight, tilePixels, clipBad, clipOne, Ready}

@@ -8,24 +8,20 @@ use native.Mathlib.Nat.{mul-comm}
 use native.Mathlib.Omega.{arith}
 use lib.ListN.{length, take}
 use lib.Seq.{take-all}
-use Rattle.refuse.specs.Refuse.{first}
+use Rattle.refuse.specs.Refuse.{first, unless}
+use Rattle.refuse.proofs.Walk.{unless-refused}
 use Rattle.lists.specs.Lists.{onto, all}
 use Rattle.lists.proofs.Fills.{take-onto, length-onto}
-use Rattle.tile.specs.Tile.{within}
+use Rattle.scan.specs.Scan.{within}
 use Rattle.settings.specs.declared.Settings.{Settings}
 use Rattle.settings.specs.declared.Footer.{Footer}
 use Rattle.settings.specs.Settings.{binsOf, entriesOf, tilePixels, clipOne, Ready}
 use Rattle.render.specs.Render.{renderOf, whole, Mapped, Shown}
 use Rattle.render.proofs.Laws.{render-front, ready-mapped}
 use Rattle.prepare.specs.declared.Enhanced.the-variants as Enhanced
-use Rattle.prepare.specs.Prepare.{mappings, prepareRows, footerOf, Over, overing, settledOver, enhancedOf, enhanceOf, Work, TilesAsk, TilesDone}
+use Rattle.prepare.specs.Prepare.{mappings, prepareRows, footerOf, Over, overing, enhancedOf, enhanceOf, Work, TilesAsk, TilesDone}
 use Rattle.prepare.proofs.Films.{length-mappings, mappings-within}
 use Rattle.prepare.proofs.Endings.{asks-tiles}
-
--- a number that is not 0 is a refusal
-pub settles-over : (n : ℕ) (pic m t : List ℕ) (ok : Over) → (n ≡ 0 → ⊥) → overing (Enhanced.Refused n) pic m t ≡ settledOver n pic m t ok
-settles-over zero pic m t ok z = absurd (z refl)
-settles-over (suc n) pic m t ok z = refl
 
 -- ---- what rendering asks, once the mappings are laid down
 
@@ -67,12 +63,14 @@ module _ (w h : ℕ) (pic : List ℕ) (s : Settings) (m t : List ℕ) where
   pub over-refused : {r : ℕ} → r ≡ first (prepareRows w h pic s (length m) (length t)) → (r ≡ 0 → ⊥)
       → overing (Enhanced.Refused r) pic m t ≡ enhanceOf w h pic s m t
   unfolding enhanceOf
-  over-refused {r} e z = settles-over r pic m t (enhancedOf w h pic s m t) z ∙ ap (λ n. settledOver n pic m t (enhancedOf w h pic s m t)) e
+  over-refused {r} e z =
+      unless-refused r (λ n. overing (Enhanced.Refused n) pic m t) (enhancedOf w h pic s m t) z
+      ∙ ap (λ k. unless k (λ n. overing (Enhanced.Refused n) pic m t) (enhancedOf w h pic s m t)) e
 
   -- no refusal
   pub over-done : {r : ℕ} → r ≡ first (prepareRows w h pic s (length m) (length t)) → r ≡ 0 → enhancedOf w h pic s m t ≡ enhanceOf w h pic s m t
   unfolding enhanceOf
-  over-done {r} e z = ap (λ n. settledOver n pic m t (enhancedOf w h pic s m t)) (sym z ∙ e)
+  over-done {r} e z = ap (λ k. unless k (λ n. overing (Enhanced.Refused n) pic m t) (enhancedOf w h pic s m t)) (sym z ∙ e)
 
   -- "Factor 1.0: nothing changes."
   pub over-one : {r b : ℕ} {foot : Footer} {o : Bool} → r ≡ first (prepareRows w h pic s (length m) (length t)) → r ≡ 0

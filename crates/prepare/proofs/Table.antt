@@ -13,7 +13,7 @@ use Rattle.refuse.specs.Refuse.{first, Numbered}
 use Rattle.refuse.proofs.Walk.{front, behind, first-none, none-first, none-front, none-behind, numbered-append}
 use Rattle.lists.specs.Lists.{all}
 use Rattle.limit.specs.Limit.{tooTight}
-use Rattle.tile.specs.Tile.{within}
+use Rattle.scan.specs.Scan.{within}
 use Rattle.settings.specs.declared.Settings.{Settings}
 use Rattle.settings.specs.Settings.{binsOf, tilePixels, sharedRows, Ready}
 use Rattle.settings.proofs.Ready.{ready, shared-numbered, tile-most}

@@ -1,21 +1,23 @@
 -- Document 01, "What each call hands back" for prepare and enhance: what they answer, and what each lent buffer holds at the end.
 -- w and h are the film's width and height, pic its pixels, m the map buffer and t the scratch as lent.
 -- Assumes nothing.
-use Prim.Native.Nat.{ℕ, zero, suc, _*_, _/_, _%_, _≤_, _<_}
+use Prim.Native.Nat.{ℕ, _*_, _/_, _%_, _≤_, _<_}
 use mathlib.Core.Path.{_≡_}
-use mathlib.Core.Bool.{Bool, true, false, not}
+use mathlib.Core.Bool.{true, false, not, cond}
 use mathlib.Core.List.{List, [], _∷_, _++_}
 use lib.Dec.{ltb}
 use lib.IntN.{pos}
 use lib.Ieee.{Float, fin}
 use lib.ListN.{length, drop}
 use Rattle.lists.specs.Lists.{joined, onto, over, filled, all}
-use Rattle.refuse.specs.Refuse.{Row, row, first, Says, accepted, refused}
+use Rattle.refuse.specs.Refuse.{Row, row, first, unless, Says, accepted, refused}
 use Rattle.limit.specs.declared.Clip.{Clip}
 use Rattle.limit.specs.declared.Clip.the-variants.{Off, Factor}
 use Rattle.limit.specs.Limit.{isOne, limitOf, usedOf, tooTight}
-use Rattle.tile.specs.declared.Rect.{Rect}
-use Rattle.tile.specs.Tile.{within, greysOf, tileMapping}
+use Rattle.tally.specs.declared.Rect.{Rect}
+use Rattle.scan.specs.Scan.{within}
+use Rattle.tally.specs.Tally.{greysOf}
+use Rattle.tile.specs.Tile.{tileMapping}
 use Rattle.settings.specs.declared.Settings.{Settings}
 use Rattle.settings.specs.declared.MapRecord.{MapRecord}
 use Rattle.settings.specs.declared.Footer.{Footer}
@@ -73,22 +75,12 @@ none = fin false 0 (pos 0)
 abbrev pub one : Float
 one = fin false 1 (pos 0)
 
--- the one footer where it holds, else the other
-abbrev pub pickFooter : Bool → Footer → Footer → Footer
-pickFooter true a b = a
-pickFooter false a b = b
-
 -- "a footer record with L, the factor asked as f32 and the factor used as f64 .. Clip off: L 0, both factors 0.0. Factor 1.0: L 0, both 1.0"
 unfoldable pub footerOf : Clip → ℕ → ℕ → Footer
 footerOf Off n b = record { limit = 0; asked = none; used = none }
 footerOf (Factor f) n b =
-    pickFooter (isOne f) (record { limit = 0; asked = one; used = one })
+    cond (isOne f) (record { limit = 0; asked = one; used = one })
     (record { limit = limitOf f n b; asked = f; used = usedOf (limitOf f n b) b n })
-
--- a list that stays where the factor is 1.0, and is another one else
-abbrev pub stays : Bool → List ℕ → List ℕ → List ℕ
-stays true old new = old
-stays false old new = new
 
 -- ---- prepare
 
@@ -102,24 +94,20 @@ pub record Ended : Type 0 where
 abbrev pub ending : Prepared → List ℕ → List ℕ → Ended
 ending r m t = record { answer = r; map = m; scratch = t }
 
--- a refusal leaves all memory as it was
-abbrev pub settled : ℕ → List ℕ → List ℕ → Ended → Ended
-settled zero m t ok = ok
-settled (suc n) m t ok = record { answer = Prepared.Refused (suc n); map = m; scratch = t }
-
 -- "the map buffer's first (grid across) x (grid down) x B entries are the mappings ..; the first B scratch entries are zero;
 -- all other entries keep their contents. It returns the map record and a footer record"; "Factor 1.0: .. map and scratch stay as they were"
 unfoldable pub preparedOf : ℕ → ℕ → ℕ → List ℕ → Settings → List ℕ → List ℕ → Ended
 preparedOf film w h pic s m t =
     record {
       answer = Prepared.Done (recordOf film w h s) (footerOf (s .clip) (tilePixels w h s) (binsOf s));
-      map = stays (clipOne (s .clip)) m (onto m (mappings w h pic s));
-      scratch = stays (clipOne (s .clip)) t (filled (λ k. 0) t (binsOf s));
+      map = cond (clipOne (s .clip)) m (onto m (mappings w h pic s));
+      scratch = cond (clipOne (s .clip)) t (filled (λ k. 0) t (binsOf s));
     }
 
--- "The first that applies is given", and nothing else happens; where none applies, prepare does its work
+-- "The first that applies is given", and all memory stays as it was; where none applies, prepare does its work
 unfoldable pub prepareOf : ℕ → ℕ → ℕ → List ℕ → Settings → List ℕ → List ℕ → Ended
-prepareOf film w h pic s m t = settled (first (prepareRows w h pic s (length m) (length t))) m t (preparedOf film w h pic s m t)
+prepareOf film w h pic s m t =
+    unless (first (prepareRows w h pic s (length m) (length t))) (λ n. ending (Prepared.Refused n) m t) (preparedOf film w h pic s m t)
 
 -- ---- enhance
 
@@ -134,24 +122,20 @@ pub record Over : Type 0 where
 abbrev pub overing : Enhanced → List ℕ → List ℕ → List ℕ → Over
 overing r pic m t = record { answer = r; picture = pic; map = m; scratch = t }
 
--- a refusal leaves the picture and all memory as they were
-abbrev pub settledOver : ℕ → List ℕ → List ℕ → List ℕ → Over → Over
-settledOver zero pic m t ok = ok
-settledOver (suc n) pic m t ok = record { answer = Enhanced.Refused (suc n); picture = pic; map = m; scratch = t }
-
 -- "the same buffers and footer, and the picture rendered. Factor 1.0: nothing changes."
 unfoldable pub enhancedOf : ℕ → ℕ → List ℕ → Settings → List ℕ → List ℕ → Over
 enhancedOf w h pic s m t =
     record {
       answer = Enhanced.Done (footerOf (s .clip) (tilePixels w h s) (binsOf s));
-      picture = stays (clipOne (s .clip)) pic (renderOf w h s (mappings w h pic s) (whole w h) pic);
-      map = stays (clipOne (s .clip)) m (onto m (mappings w h pic s));
-      scratch = stays (clipOne (s .clip)) t (filled (λ k. 0) t (binsOf s));
+      picture = cond (clipOne (s .clip)) pic (renderOf w h s (mappings w h pic s) (whole w h) pic);
+      map = cond (clipOne (s .clip)) m (onto m (mappings w h pic s));
+      scratch = cond (clipOne (s .clip)) t (filled (λ k. 0) t (binsOf s));
     }
 
--- the refusals are prepare's; where none applies, enhance does its work
+-- the refusals are prepare's, and leave the picture and all memory as they were; where none applies, enhance does its work
 unfoldable pub enhanceOf : ℕ → ℕ → List ℕ → Settings → List ℕ → List ℕ → Over
-enhanceOf w h pic s m t = settledOver (first (prepareRows w h pic s (length m) (length t))) pic m t (enhancedOf w h pic s m t)
+enhanceOf w h pic s m t =
+    unless (first (prepareRows w h pic s (length m) (length t))) (λ n. overing (Enhanced.Refused n) pic m t) (enhancedOf w h pic s m t)
 
 -- ---- what the functions below ask
 

@@ -11,7 +11,7 @@ use settings::Footer;
 use settings::MapRecord;
 use settings::Settings;
 use settings::Window;
-use tile::Rect;
+use tally::Rect;
 
 // What prepare answers: the record and the footer, or the refusal's number alone.
 pub enum Prepared {
@@ -103,7 +103,7 @@ fn refusal(
     if scratch < (bins as usize) {
         return 12;
     }
-    if !render::all_within(picture, s.min, s.max) {
+    if !scan::all_within(picture, s.min, s.max) {
         return 13;
     }
     let clip = s.clip;

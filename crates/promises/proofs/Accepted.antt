@@ -1,201 +1,158 @@
--- What an answer tells, in document 01's terms: which row of its table was met, and that none was where the answer is that all is done.
+-- What an answer tells, in document 01's terms: a refusal which row of its table was met, and that all memory stayed; that all is done, that no row was.
 -- Assumes nothing.
 use Prim.Native.Nat.{ℕ, zero, suc}
+use mathlib.Core.Bool.{cond}
 use mathlib.Core.List.{List}
 use mathlib.Core.Path.{_≡_, refl, sym, ap, _∙_}
 use native.Mathlib.Omega.{arith}
 use lib.ListN.{length}
-use Rattle.refuse.specs.Refuse.{first, refused, says}
+use Rattle.refuse.specs.Refuse.{first, Says, accepted, refused, says}
+use Rattle.tally.specs.Tally.{greysOf}
 use Rattle.settings.specs.declared.Settings.{Settings}
 use Rattle.settings.specs.declared.MapRecord.{MapRecord}
 use Rattle.settings.specs.declared.Footer.{Footer}
 use Rattle.settings.specs.declared.Window.{Window}
-use Rattle.settings.specs.Settings.{binsOf, recordOf, tilePixels}
-use Rattle.prepare.specs.declared.Prepared.{Prepared}
+use Rattle.settings.specs.Settings.{binsOf, recordOf, tilePixels, clipOne}
+use Rattle.render.specs.Render.{renderOf, rectOf}
 use Rattle.prepare.specs.declared.Prepared.the-variants as Prepared
-use Rattle.prepare.specs.declared.Enhanced.{Enhanced}
 use Rattle.prepare.specs.declared.Enhanced.the-variants as Enhanced
-use Rattle.prepare.specs.Prepare.{prepareRows, preparedSays, enhancedSays, footerOf, Ended, ending, settled, preparedOf, prepareOf, Over, overing, settledOver, enhancedOf, enhanceOf, Work}
+use Rattle.prepare.specs.Prepare.{prepareRows, preparedSays, enhancedSays, footerOf, Ended, ending, preparedOf, prepareOf, Over, overing, enhancedOf, enhanceOf, Work}
 use Rattle.prepare.proofs.Table.{work}
-use Rattle.draw.specs.declared.Drawn.{Drawn}
+use Rattle.prepare.proofs.Endings.{ends-refused, ends-done}
+use Rattle.prepare.proofs.Renders.{over-refused, over-done}
 use Rattle.draw.specs.declared.Drawn.the-variants as Drawn
-use Rattle.draw.specs.Draw.{drawRows, drawnSays, showing, drawOf}
-use Rattle.draw.specs.Draw.{settled as shown}
+use Rattle.draw.specs.Draw.{drawRows, drawnSays, Shows, showing, drawOf}
+use Rattle.draw.proofs.Works.{ends-well}
+use Rattle.draw.proofs.Works.{ends-refused as drawn-refused}
+
+-- ---- any call
+
+-- where it says that all is done, no row applies
+pub says-accepted : {A : Type 0} (n : ℕ) (v : A) {u : A} → says n v ≡ accepted u → (n ≡ 0) × (v ≡ u)
+says-accepted zero v e = (refl, cc)
+says-accepted (suc n) v e = absurd (let z : _≡_ {A = ℕ} 0 1 = cc in omega arith)
+
+-- where it says a number, that row applies
+pub says-refused : {A : Type 0} (n : ℕ) (v : A) {k : ℕ} → says n v ≡ refused k → n ≡ k
+says-refused zero v e = absurd (let z : _≡_ {A = ℕ} 0 1 = cc in omega arith)
+says-refused (suc n) v e = cc
+
+-- and the other way
+pub refused-says : {A : Type 0} (n : ℕ) (v : A) {k : ℕ} → n ≡ suc k → says n v ≡ refused (suc k)
+refused-says n v e = ap (λ x. says x v) e
+
+-- a call that ends with y, where n is the number of the first row of its table that applies: with `done`, which says v, where none does;
+-- else with what was lent beside the number
+pub record ByTable {Y A : Type 0} (said : Y → Says A) (n : ℕ) (v : A) (done : Y) (lent : ℕ → Y) (y : Y) : Type 0 where
+  pub when-none : n ≡ 0 → y ≡ done
+  pub when-some : (n ≡ 0 → ⊥) → y ≡ lent n
+  pub says-done : said done ≡ accepted v
+  pub says-lent : (k : ℕ) → said (lent k) ≡ refused k
+
+module _ {Y A : Type 0} {said : Y → Says A} {n : ℕ} {v : A} {done : Y} {lent : ℕ → Y} {y : Y} (call : ByTable said n v done lent y) where
+  -- it says the number of the first row that applies, and where none does its values
+  pub table-says : said y ≡ says n v
+  table-says = go n refl
+    where
+      go : (k : ℕ) → n ≡ k → said y ≡ says k v
+      go zero e = ap said (call .when-none e) ∙ call .says-done
+      go (suc k) e = ap said (call .when-some (λ z. omega arith)) ∙ (call .says-lent n ∙ ap refused e)
+
+  -- that all is done: no row applies, and these are its values
+  pub table-accepted : {u : A} → said y ≡ accepted u → (n ≡ 0) × (v ≡ u)
+  table-accepted e = says-accepted n v (sym table-says ∙ e)
+
+  -- so it ends as the rules say
+  pub table-done : {u : A} → said y ≡ accepted u → y ≡ done
+  table-done e = call .when-none (table-accepted e .0)
+
+  -- a refusal: that row applies
+  pub table-refused : {k : ℕ} → said y ≡ refused k → n ≡ k
+  table-refused e = says-refused n v (sym table-says ∙ e)
+
+  -- and all memory stays as it was
+  pub table-kept : {k : ℕ} → said y ≡ refused k → y ≡ lent k
+  table-kept {k} e =
+      call .when-some
+      (λ z. let q : accepted v ≡ refused k = sym (ap said (call .when-none z) ∙ call .says-done) ∙ e in let o : _≡_ {A = ℕ} 0 1 = cc in omega arith)
+      ∙ ap lent (table-refused e)
 
 -- ---- prepare
 
--- an answer that says a refusal is that refusal
-pub prepared-refused : (r : Prepared) {n : ℕ} → preparedSays r ≡ refused n → r ≡ Prepared.Refused n
-unfolding preparedSays
-prepared-refused (Prepared.Done r foot) e = absurd (let z : _≡_ {A = ℕ} 0 1 = cc in omega arith)
-prepared-refused (Prepared.Refused k) e = cc
-
-settled-done : (n : ℕ) (m t : List ℕ) (ok : Ended) {r : MapRecord} {foot : Footer} → settled n m t ok .answer ≡ Prepared.Done r foot → n ≡ 0
-settled-done zero m t ok e = refl
-settled-done (suc n) m t ok e = absurd (let z : _≡_ {A = ℕ} 0 1 = cc in omega arith)
-
 module _ (film w h : ℕ) (pic : List ℕ) (s : Settings) (m t : List ℕ) where
-  -- an accepted film meets none of the rows 1 to 14
-  pub prepare-accepts : {r : MapRecord} {foot : Footer} → prepareOf film w h pic s m t .answer ≡ Prepared.Done r foot
-      → first (prepareRows w h pic s (length m) (length t)) ≡ 0
-  unfolding prepareOf
-  prepare-accepts e = settled-done _ m t _ e
+  -- prepare goes by the rows 1 to 14
+  pub prepare-table : ByTable (λ (x : Ended). preparedSays (x .answer)) (first (prepareRows w h pic s (length m) (length t)))
+      (recordOf film w h s, footerOf (s .clip) (tilePixels w h s) (binsOf s)) (preparedOf film w h pic s m t) (λ k. ending (Prepared.Refused k) m t) (prepareOf film w h pic s m t)
+  unfolding preparedOf preparedSays
+  prepare-table =
+      record {
+        when-none = λ z. sym (ends-done film w h pic s m t refl z);
+        when-some = λ z. sym (ends-refused film w h pic s m t refl z);
+        says-done = refl;
+        says-lent = λ k. refl;
+      }
 
-  -- it ends as the rules say
-  pub prepare-done : {r : MapRecord} {foot : Footer} → prepareOf film w h pic s m t .answer ≡ Prepared.Done r foot
-      → prepareOf film w h pic s m t ≡ preparedOf film w h pic s m t
-  unfolding prepareOf
-  prepare-done e = ap (λ n. settled n m t (preparedOf film w h pic s m t)) (prepare-accepts e)
+  module _ {r : MapRecord} {foot : Footer} (done : preparedSays (prepareOf film w h pic s m t .answer) ≡ accepted (r, foot)) where
+    -- an accepted film meets none of the rows 1 to 14
+    pub prepare-accepts : first (prepareRows w h pic s (length m) (length t)) ≡ 0
+    prepare-accepts = table-accepted prepare-table done .0
 
-  -- what such a film's call knows
-  pub prepare-work : {r : MapRecord} {foot : Footer} → prepareOf film w h pic s m t .answer ≡ Prepared.Done r foot → Work w h pic s (length m) (length t)
-  prepare-work e = work w h pic s (length m) (length t) (prepare-accepts e)
+    -- what such a film's call knows
+    pub prepare-work : Work w h pic s (length m) (length t)
+    prepare-work = work w h pic s (length m) (length t) prepare-accepts
 
-  -- the record and the footer that are handed back
-  pub prepare-hands : {r : MapRecord} {foot : Footer} → prepareOf film w h pic s m t .answer ≡ Prepared.Done r foot
-      → Prepared.Done (recordOf film w h s) (footerOf (s .clip) (tilePixels w h s) (binsOf s)) ≡ Prepared.Done r foot
-  unfolding preparedOf
-  prepare-hands e = sym (ap (λ (x : Ended). x .answer) (prepare-done e)) ∙ e
+    -- it ends as the rules say
+    pub prepare-done : prepareOf film w h pic s m t ≡ preparedOf film w h pic s m t
+    prepare-done = table-done prepare-table done
 
-  -- where no row applies, prepare is done
-  pub prepare-accepted : first (prepareRows w h pic s (length m) (length t)) ≡ 0
-      → prepareOf film w h pic s m t .answer ≡ Prepared.Done (recordOf film w h s) (footerOf (s .clip) (tilePixels w h s) (binsOf s))
-  unfolding prepareOf preparedOf
-  prepare-accepted e = ap (λ n. settled n m t (preparedOf film w h pic s m t) .answer) e
+    -- the record that is handed back
+    pub prepare-record : recordOf film w h s ≡ r
+    prepare-record = ap (λ (x : MapRecord × Footer). x .0) (table-accepted prepare-table done .1)
 
-  -- a row that applies is the answer
-  pub prepare-refused : {n : ℕ} → first (prepareRows w h pic s (length m) (length t)) ≡ suc n → prepareOf film w h pic s m t .answer ≡ Prepared.Refused (suc n)
-  unfolding prepareOf
-  prepare-refused e = ap (λ n. settled n m t (preparedOf film w h pic s m t) .answer) e
-
-  settled-refused : {n : ℕ} (k : ℕ) → settled k m t (preparedOf film w h pic s m t) .answer ≡ Prepared.Refused n
-      → (k ≡ n) × (settled k m t (preparedOf film w h pic s m t) ≡ ending (Prepared.Refused n) m t)
-  unfolding preparedOf
-  settled-refused zero e = absurd (let z : _≡_ {A = ℕ} 0 1 = cc in omega arith)
-  settled-refused (suc k) e = (cc, ap (λ r. ending r m t) e)
-
-  -- an answer that is a number: that row applies
-  pub prepare-refuses : {n : ℕ} → prepareOf film w h pic s m t .answer ≡ Prepared.Refused n → first (prepareRows w h pic s (length m) (length t)) ≡ n
-  unfolding prepareOf
-  prepare-refuses e = settled-refused (first (prepareRows w h pic s (length m) (length t))) e .0
-
-  -- and all memory stays as it was
-  pub prepare-keeps : {n : ℕ} → prepareOf film w h pic s m t .answer ≡ Prepared.Refused n → prepareOf film w h pic s m t ≡ ending (Prepared.Refused n) m t
-  unfolding prepareOf
-  prepare-keeps e = settled-refused (first (prepareRows w h pic s (length m) (length t))) e .1
-
-  -- the answer says the number of the first row that applies, and where none does the map record and the footer
-  pub prepared-says : preparedSays (prepareOf film w h pic s m t .answer)
-      ≡ says (first (prepareRows w h pic s (length m) (length t))) (recordOf film w h s, footerOf (s .clip) (tilePixels w h s) (binsOf s))
-  unfolding prepareOf preparedOf preparedSays
-  prepared-says = go (first (prepareRows w h pic s (length m) (length t)))
-    where
-      go : (k : ℕ) → preparedSays (settled k m t (preparedOf film w h pic s m t) .answer) ≡ says k (recordOf film w h s, footerOf (s .clip) (tilePixels w h s) (binsOf s))
-      go zero = refl
-      go (suc k) = refl
+    -- and the footer
+    pub prepare-foot : footerOf (s .clip) (tilePixels w h s) (binsOf s) ≡ foot
+    prepare-foot = ap (λ (x : MapRecord × Footer). x .1) (table-accepted prepare-table done .1)
 
 -- ---- enhance
 
--- an answer that says a refusal is that refusal
-pub enhanced-refused : (r : Enhanced) {n : ℕ} → enhancedSays r ≡ refused n → r ≡ Enhanced.Refused n
-unfolding enhancedSays
-enhanced-refused (Enhanced.Done foot) e = absurd (let z : _≡_ {A = ℕ} 0 1 = cc in omega arith)
-enhanced-refused (Enhanced.Refused k) e = cc
-
-over-done : (n : ℕ) (pic m t : List ℕ) (ok : Over) {foot : Footer} → settledOver n pic m t ok .answer ≡ Enhanced.Done foot → n ≡ 0
-over-done zero pic m t ok e = refl
-over-done (suc n) pic m t ok e = absurd (let z : _≡_ {A = ℕ} 0 1 = cc in omega arith)
-
 module _ (w h : ℕ) (pic : List ℕ) (s : Settings) (m t : List ℕ) where
-  -- an accepted film meets none of the rows 1 to 14
-  pub enhance-accepts : {foot : Footer} → enhanceOf w h pic s m t .answer ≡ Enhanced.Done foot → first (prepareRows w h pic s (length m) (length t)) ≡ 0
-  unfolding enhanceOf
-  enhance-accepts e = over-done _ pic m t _ e
+  -- enhance goes by the same rows
+  pub enhance-table : ByTable (λ (x : Over). enhancedSays (x .answer)) (first (prepareRows w h pic s (length m) (length t)))
+      (footerOf (s .clip) (tilePixels w h s) (binsOf s)) (enhancedOf w h pic s m t) (λ k. overing (Enhanced.Refused k) pic m t) (enhanceOf w h pic s m t)
+  unfolding enhancedOf enhancedSays
+  enhance-table =
+      record {
+        when-none = λ z. sym (over-done w h pic s m t refl z);
+        when-some = λ z. sym (over-refused w h pic s m t refl z);
+        says-done = refl;
+        says-lent = λ k. refl;
+      }
 
-  -- it ends as the rules say
-  pub enhance-done : {foot : Footer} → enhanceOf w h pic s m t .answer ≡ Enhanced.Done foot → enhanceOf w h pic s m t ≡ enhancedOf w h pic s m t
-  unfolding enhanceOf
-  enhance-done e = ap (λ n. settledOver n pic m t (enhancedOf w h pic s m t)) (enhance-accepts e)
+  module _ {foot : Footer} (done : enhancedSays (enhanceOf w h pic s m t .answer) ≡ accepted foot) where
+    -- what an accepted film's call knows
+    pub enhance-work : Work w h pic s (length m) (length t)
+    enhance-work = work w h pic s (length m) (length t) (table-accepted enhance-table done .0)
 
-  -- what such a film's call knows
-  pub enhance-work : {foot : Footer} → enhanceOf w h pic s m t .answer ≡ Enhanced.Done foot → Work w h pic s (length m) (length t)
-  enhance-work e = work w h pic s (length m) (length t) (enhance-accepts e)
+    -- it ends as the rules say
+    pub enhance-done : enhanceOf w h pic s m t ≡ enhancedOf w h pic s m t
+    enhance-done = table-done enhance-table done
 
-  -- the footer that is handed back
-  pub enhance-hands : {foot : Footer} → enhanceOf w h pic s m t .answer ≡ Enhanced.Done foot
-      → Enhanced.Done (footerOf (s .clip) (tilePixels w h s) (binsOf s)) ≡ Enhanced.Done foot
-  unfolding enhancedOf
-  enhance-hands e = sym (ap (λ (x : Over). x .answer) (enhance-done e)) ∙ e
-
-  -- where no row applies, enhance is done
-  pub enhance-accepted : first (prepareRows w h pic s (length m) (length t)) ≡ 0
-      → enhanceOf w h pic s m t .answer ≡ Enhanced.Done (footerOf (s .clip) (tilePixels w h s) (binsOf s))
-  unfolding enhanceOf enhancedOf
-  enhance-accepted e = ap (λ n. settledOver n pic m t (enhancedOf w h pic s m t) .answer) e
-
-  -- a row that applies is the answer
-  pub enhance-refused : {n : ℕ} → first (prepareRows w h pic s (length m) (length t)) ≡ suc n → enhanceOf w h pic s m t .answer ≡ Enhanced.Refused (suc n)
-  unfolding enhanceOf
-  enhance-refused e = ap (λ n. settledOver n pic m t (enhancedOf w h pic s m t) .answer) e
-
-  over-refused : {n : ℕ} (k : ℕ) → settledOver k pic m t (enhancedOf w h pic s m t) .answer ≡ Enhanced.Refused n
-      → (k ≡ n) × (settledOver k pic m t (enhancedOf w h pic s m t) ≡ overing (Enhanced.Refused n) pic m t)
-  unfolding enhancedOf
-  over-refused zero e = absurd (let z : _≡_ {A = ℕ} 0 1 = cc in omega arith)
-  over-refused (suc k) e = (cc, ap (λ r. overing r pic m t) e)
-
-  -- an answer that is a number: that row applies
-  pub enhance-refuses : {n : ℕ} → enhanceOf w h pic s m t .answer ≡ Enhanced.Refused n → first (prepareRows w h pic s (length m) (length t)) ≡ n
-  unfolding enhanceOf
-  enhance-refuses e = over-refused (first (prepareRows w h pic s (length m) (length t))) e .0
-
-  -- and all memory stays as it was
-  pub enhance-keeps : {n : ℕ} → enhanceOf w h pic s m t .answer ≡ Enhanced.Refused n → enhanceOf w h pic s m t ≡ overing (Enhanced.Refused n) pic m t
-  unfolding enhanceOf
-  enhance-keeps e = over-refused (first (prepareRows w h pic s (length m) (length t))) e .1
-
-  -- the answer says the number of the first row that applies, and where none does the footer
-  pub enhanced-says : enhancedSays (enhanceOf w h pic s m t .answer)
-      ≡ says (first (prepareRows w h pic s (length m) (length t))) (footerOf (s .clip) (tilePixels w h s) (binsOf s))
-  unfolding enhanceOf enhancedOf enhancedSays
-  enhanced-says = go (first (prepareRows w h pic s (length m) (length t)))
-    where
-      go : (k : ℕ) → enhancedSays (settledOver k pic m t (enhancedOf w h pic s m t) .answer) ≡ says k (footerOf (s .clip) (tilePixels w h s) (binsOf s))
-      go zero = refl
-      go (suc k) = refl
+    -- the footer that is handed back
+    pub enhance-foot : footerOf (s .clip) (tilePixels w h s) (binsOf s) ≡ foot
+    enhance-foot = table-accepted enhance-table done .1
 
 -- ---- draw
 
--- an answer that says a refusal is that refusal
-pub drawn-refused : (r : Drawn) {n : ℕ} → drawnSays r ≡ refused n → r ≡ Drawn.Refused n
-unfolding drawnSays
-drawn-refused Drawn.Done e = absurd (let z : _≡_ {A = ℕ} 0 1 = cc in omega arith)
-drawn-refused (Drawn.Refused k) e = cc
-
 module _ (film w h : ℕ) (pic : List ℕ) (s : Settings) (r : MapRecord) (win : Window) (m out : List ℕ) where
-  -- a refusal keeps the output
-  pub draw-keeps : {n : ℕ} → drawOf film w h pic s r win m out .answer ≡ Drawn.Refused n → drawOf film w h pic s r win m out ≡ showing (Drawn.Refused n) out
-  unfolding drawOf
-  draw-keeps {n} e = go (first (drawRows film w h pic s r win m (length out))) _ e
-    where
-      go : (k : ℕ) (pixels : List ℕ) → shown k out pixels .answer ≡ Drawn.Refused n → shown k out pixels ≡ showing (Drawn.Refused n) out
-      go zero pixels q = absurd (let z : _≡_ {A = ℕ} 0 1 = cc in omega arith)
-      go (suc k) pixels q = ap (λ x. showing x out) q
-
-  -- an accepted window meets none of draw's rows
-  pub draw-accepts : drawOf film w h pic s r win m out .answer ≡ Drawn.Done → first (drawRows film w h pic s r win m (length out)) ≡ 0
-  unfolding drawOf
-  draw-accepts e = go (first (drawRows film w h pic s r win m (length out))) _ e
-    where
-      go : (k : ℕ) (pixels : List ℕ) → shown k out pixels .answer ≡ Drawn.Done → k ≡ 0
-      go zero pixels q = refl
-      go (suc k) pixels q = absurd (let z : _≡_ {A = ℕ} 0 1 = cc in omega arith)
-
-  -- the answer says the number of the first row that applies, and where none does no value
-  pub drawn-says : drawnSays (drawOf film w h pic s r win m out .answer) ≡ says (first (drawRows film w h pic s r win m (length out))) tt
-  unfolding drawOf drawnSays
-  drawn-says = go (first (drawRows film w h pic s r win m (length out))) _
-    where
-      go : (k : ℕ) (pixels : List ℕ) → drawnSays (shown k out pixels .answer) ≡ says k tt
-      go zero pixels = refl
-      go (suc k) pixels = refl
+  -- draw goes by its own
+  pub draw-table : ByTable (λ (x : Shows). drawnSays (x .answer)) (first (drawRows film w h pic s r win m (length out))) tt
+      (showing Drawn.Done (cond (clipOne (s .clip)) (greysOf pic w (rectOf win)) (renderOf w h s m win (greysOf pic w (rectOf win)))))
+      (λ k. showing (Drawn.Refused k) out) (drawOf film w h pic s r win m out)
+  unfolding drawnSays
+  draw-table =
+      record {
+        when-none = λ z. sym (ends-well film w h pic s r win m out refl z refl);
+        when-some = λ z. sym (drawn-refused film w h pic s r win m out refl z);
+        says-done = refl;
+        says-lent = λ k. refl;
+      }

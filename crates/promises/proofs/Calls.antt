@@ -1,154 +1,237 @@
 -- Document 00, demand 2, call by call: a window drawn with the record of another film, the whole film, and a window drawn with what prepare left.
--- `Post` is the contract itself: of the arguments a, an answer r and the lent memory x at the end.
+-- Of every run of the calls by their contracts (Runs); a name with ′ is lent memory at the end.
 -- Assumes nothing.
-use Prim.Native.Nat.{ℕ, _+_, _*_, _≤_, _<_}
+use Prim.Native.Nat.{ℕ, zero, suc, _+_, _*_, _≤_, _<_}
 use mathlib.Core.Bool.{true, false}
-use mathlib.Core.List.{List}
 use mathlib.Core.Logic.{_≢_}
 use mathlib.Core.Path.{_≡_, refl, sym, ap, subst, _∙_}
-use contract.Lifetimes.{Lfts}
-use denote.Ref.{now}
-use denote.Triple.Clauses.{AtExit}
-use borrow.Fn.Kinds.{Dens, endedOf, resT}
+use native.Mathlib.Omega.{arith}
 use lib.ListN.{length, getD, take}
+use Rattle.refuse.specs.Refuse.{first, accepted, refused}
 use Rattle.tile.specs.Tile.{mappedOf}
-use Rattle.settings.specs.declared.Settings.{Settings}
 use Rattle.settings.specs.declared.MapRecord.{MapRecord}
 use Rattle.settings.specs.declared.Footer.{Footer}
-use Rattle.settings.specs.declared.Window.{Window}
-use Rattle.settings.specs.Settings.{binsOf, entriesOf, keptOf, tilePixels, clipOne}
-use Rattle.prepare.specs.declared.Prepared.the-variants as Prepared
-use Rattle.prepare.specs.declared.Enhanced.the-variants as Enhanced
-use Rattle.prepare.specs.Prepare.{Ended, ending, prepareOf, Over, overing, enhanceOf}
-use Rattle.prepare.proofs.prepare.Kinds as prepare
-use Rattle.prepare.proofs.prepare.Reads as prepare-reads
-use Rattle.prepare.proofs.enhance.Kinds as enhance
-use Rattle.prepare.proofs.enhance.Reads as enhance-reads
-use Rattle.draw.specs.declared.Drawn.the-variants as Drawn
-use Rattle.draw.specs.Draw.{Shows, showing, drawOf, Held}
-use Rattle.draw.proofs.draw.Kinds as draw
-use Rattle.draw.proofs.draw.Reads as draw-reads
+use Rattle.settings.specs.Settings.{binsOf, entriesOf, keptOf, tilePixels, clipOne, sameClip, sharedRows}
+use Rattle.prepare.specs.Prepare.{preparedSays, enhancedSays, Ended, prepareOf, Over, overing, enhanceOf}
+use Rattle.draw.specs.Draw.{drawRows, drawnSays, Shows, showing, drawOf, Held}
+use Rattle.draw.proofs.Laws.{other-field}
+use Rattle.draw.proofs.Tables.{draw-ready}
 use Rattle.promises.specs.Films.{clippedCounts, ruleGrey, HandedOn}
-use Rattle.promises.proofs.Handed.{enhance-like}
-use Rattle.promises.proofs.Reuse.{left-record, left-settings}
-use Rattle.promises.proofs.Demand2.{own-mapping, differing-refused, own-rendering, own-pixels, enhance-agrees, draw-agrees}
+use Rattle.promises.proofs.Accepted.{refused-says, prepare-record}
+use Rattle.promises.proofs.Handed.{enhance-kept}
+use Rattle.promises.proofs.Reuse.{left-settings}
+use Rattle.promises.proofs.Demand1.{draw-refusal-keeps, draw-says}
+use Rattle.promises.proofs.Demand2.{own-mapping, own-mapping-enhance, own-rendering, own-pixels, enhance-agrees, draw-agrees}
 use Rattle.promises.proofs.Windows.{accepted-by-rule, accepted-as-film, accepted-as-enhanced}
+use Rattle.promises.proofs.Runs.{PrepareCall, Prepares, prepare-ends, EnhanceCall, Enhances, enhance-ends, DrawCall, Draws, draw-ends}
 
 -- ---- a record of another film
 
-module _ (κs : Lfts 3) (a : Dens κs draw.ps) (r : resT draw.r κs .Denot) (x : AtExit (endedOf 3 draw.ps draw.r) κs) (drew : draw-reads.Post κs a r x) where
-  -- a record that differs in whatever field, for every picture, settings, window, map and output: draw answers a number above 0, and the output holds what it held
-  pub draw-differing-refused : (Held (a .0) (a .1 .0) (a .1 .1 .0) (a .1 .1 .1 .1 .0) (a .1 .1 .1 .1 .1 .0) → ⊥)
-      → (n : ℕ) × (0 < n) × (r ≡ Drawn.Refused n) × (now (x .1 .1 .1 .1 .1 .1 .1 .1 .0) ≡ now (a .1 .1 .1 .1 .1 .1 .1 .1 .0))
-  draw-differing-refused d =
-      let y = differing-refused _ _ _ (now (a .1 .1 .1 .0)) _ _ (a .1 .1 .1 .1 .1 .1 .0) (now (a .1 .1 .1 .1 .1 .1 .1 .0)) (now (a .1 .1 .1 .1 .1 .1 .1 .1 .0)) d in
-      let e = drew ∙ y .2 in
-      (y .0, y .1, ap (λ (z : Shows). z .answer) e, ap (λ (z : Shows). z .out) e)
+-- draw says a number above 0, and the output holds what it held
+abbrev pub Refuses : DrawCall → Type 0
+Refuses d = (n : ℕ) × (0 < n) × (drawnSays (d .answer) ≡ refused n) × (d .out′ ≡ d .out)
 
-  -- "A window drawn with the record of a film of another number is refused."
-  pub draw-other-film-refused : a .0 ≢ a .1 .1 .1 .1 .1 .0 .film
-      → (n : ℕ) × (0 < n) × (r ≡ Drawn.Refused n) × (now (x .1 .1 .1 .1 .1 .1 .1 .1 .0) ≡ now (a .1 .1 .1 .1 .1 .1 .1 .1 .0))
-  draw-other-film-refused d = draw-differing-refused (λ held. d (held .number))
+-- a record that differs in whatever field, for every picture, settings, window, map and output
+pub draw-differing-refused : {d : DrawCall} → Draws d → (Held (d .film) (d .width) (d .height) (d .settings) (d .kept) → ⊥) → Refuses d
+draw-differing-refused {d} ran other = go (first (drawRows (d .film) (d .width) (d .height) (d .pixels) (d .settings) (d .kept) (d .window) (d .map) (length (d .out)))) refl
+  where
+    go : (n : ℕ) → first (drawRows (d .film) (d .width) (d .height) (d .pixels) (d .settings) (d .kept) (d .window) (d .map) (length (d .out))) ≡ n → Refuses d
+    go zero e = absurd (other (draw-ready _ _ _ _ _ _ _ _ _ e .held))
+    go (suc n) e = let q = draw-says ran ∙ refused-says _ tt e in (suc n, omega arith, q, draw-refusal-keeps (suc n) ran q)
+
+-- "A window drawn with the record of a film of another number is refused."
+pub draw-other-film-refused : {d : DrawCall} → Draws d → d .film ≢ d .kept .film → Refuses d
+draw-other-film-refused ran other = draw-differing-refused ran (λ held. other (held .number))
+
+-- 15, "record differs in film number, size or any setting (bins 0 read as 128 on both sides)": given where none of 1 to 11 applies, whatever the window, the output,
+-- the pixels and the map entries
+module _ {d : DrawCall} (ran : Draws d) (shared : first (sharedRows (d .width) (d .height) (length (d .pixels)) (d .settings) (length (d .map))) ≡ 0) where
+  pub draw-differing-15 : (Held (d .film) (d .width) (d .height) (d .settings) (d .kept) → ⊥) → drawnSays (d .answer) ≡ refused 15
+  draw-differing-15 other =
+      draw-says ran ∙ refused-says _ tt (other-field (d .film) (d .width) (d .height) (d .pixels) (d .settings) (d .kept) (d .window) (d .map) (length (d .out)) shared other)
+
+  -- in the film's number
+  pub other-film-15 : d .film ≢ d .kept .film → drawnSays (d .answer) ≡ refused 15
+  other-film-15 other = draw-differing-15 (λ held. other (held .number))
+
+  -- in the width
+  pub other-width-15 : d .width ≢ d .kept .width → drawnSays (d .answer) ≡ refused 15
+  other-width-15 other = draw-differing-15 (λ held. other (held .wide))
+
+  -- in the height
+  pub other-height-15 : d .height ≢ d .kept .height → drawnSays (d .answer) ≡ refused 15
+  other-height-15 other = draw-differing-15 (λ held. other (held .high))
+
+  -- in the grid across
+  pub other-across-15 : d .settings .across ≢ d .kept .settings .across → drawnSays (d .answer) ≡ refused 15
+  other-across-15 other = draw-differing-15 (λ held. other (held .across))
+
+  -- in the grid down
+  pub other-down-15 : d .settings .down ≢ d .kept .settings .down → drawnSays (d .answer) ≡ refused 15
+  other-down-15 other = draw-differing-15 (λ held. other (held .down))
+
+  -- in the bins, "0 read as 128 on both sides"
+  pub other-bins-15 : binsOf (d .settings) ≢ binsOf (d .kept .settings) → drawnSays (d .answer) ≡ refused 15
+  other-bins-15 other = draw-differing-15 (λ held. other (held .bins))
+
+  -- in Min
+  pub other-min-15 : d .settings .min ≢ d .kept .settings .min → drawnSays (d .answer) ≡ refused 15
+  other-min-15 other = draw-differing-15 (λ held. other (held .least))
+
+  -- in Max
+  pub other-max-15 : d .settings .max ≢ d .kept .settings .max → drawnSays (d .answer) ≡ refused 15
+  other-max-15 other = draw-differing-15 (λ held. other (held .most))
+
+  -- in the clip setting
+  pub other-clip-15 : sameClip (d .settings .clip) (d .kept .settings .clip) ≢ true → drawnSays (d .answer) ≡ refused 15
+  other-clip-15 other = draw-differing-15 (λ held. other (held .clip))
 
 -- ---- the whole film
 
-module _ (κs : Lfts 3) (a : Dens κs enhance.ps) {foot : Footer} (x : AtExit (endedOf 3 enhance.ps enhance.r) κs) (enhanced : enhance-reads.Post κs a (Enhanced.Done foot) x) where
+-- a film that enhance accepted
+module _ {e : EnhanceCall} {foot : Footer} (ran : Enhances e) (enhanced : enhancedSays (e .answer) ≡ accepted foot) where
+  over : enhancedSays (enhanceOf (e .width) (e .height) (e .pixels) (e .settings) (e .map) (e .scratch) .answer) ≡ accepted foot
+  over = sym (ap (λ (z : Over). enhancedSays (z .answer)) (enhance-ends ran)) ∙ enhanced
+
   -- "The rendering of every accepted film is the one that the integer rule of document 01 gives for that film's own pixels and settings: whole"
-  pub enhanced-by-rule : clipOne (a .1 .1 .1 .0 .clip) ≡ false → (i j : ℕ) → i < a .0 → j < a .1 .0
-      → getD (now (x .1 .1 .0)) (j * a .0 + i) 0 ≡ ruleGrey (a .0) (a .1 .0) (now (a .1 .1 .0)) (a .1 .1 .1 .0) i j
+  pub enhanced-by-rule : clipOne (e .settings .clip) ≡ false → (i j : ℕ) → i < e .width → j < e .height
+      → getD (e .pixels′) (j * e .width + i) 0 ≡ ruleGrey (e .width) (e .height) (e .pixels) (e .settings) i j
   enhanced-by-rule one i j l k =
-      ap (λ (z : Over). getD (z .picture) (j * a .0 + i) 0) enhanced
-      ∙ own-rendering _ _ _ _ (now (a .1 .1 .1 .1 .0)) (now (a .1 .1 .1 .1 .1 .0)) (sym (ap (λ (z : Over). z .answer) enhanced)) one i j l k
+      ap (λ (z : Over). getD (z .picture) (j * e .width + i) 0) (enhance-ends ran) ∙ own-rendering _ _ _ _ (e .map) (e .scratch) over one i j l k
 
   -- at the factor 1.0 the film is unchanged
-  pub enhanced-as-film : clipOne (a .1 .1 .1 .0 .clip) ≡ true → now (x .1 .1 .0) ≡ now (a .1 .1 .0)
-  enhanced-as-film one =
-      ap (λ (z : Over). z .picture) enhanced
-      ∙ own-pixels _ _ _ _ (now (a .1 .1 .1 .1 .0)) (now (a .1 .1 .1 .1 .1 .0)) (sym (ap (λ (z : Over). z .answer) enhanced)) one
+  pub enhanced-as-film : clipOne (e .settings .clip) ≡ true → e .pixels′ ≡ e .pixels
+  enhanced-as-film one = ap (λ (z : Over). z .picture) (enhance-ends ran) ∙ own-pixels _ _ _ _ (e .map) (e .scratch) over one
+
+  -- "the same buffers": each tile's own mapping lies in the map buffer
+  pub enhanced-mapped-by-rule : clipOne (e .settings .clip) ≡ false → (k b : ℕ) → k < e .settings .across * e .settings .down → b < binsOf (e .settings)
+      → getD (e .map′) (k * binsOf (e .settings) + b) 0
+      ≡ mappedOf (e .settings .min) (e .settings .max) (tilePixels (e .width) (e .height) (e .settings)) (clippedCounts (e .width) (e .height) (e .pixels) (e .settings) k) b
+  enhanced-mapped-by-rule one k b l q =
+      ap (λ (z : Over). getD (z .map) (k * binsOf (e .settings) + b) 0) (enhance-ends ran) ∙ own-mapping-enhance _ _ _ _ (e .map) (e .scratch) over one k b l q
 
 -- ---- what prepare left
 
--- one call of prepare, handed this film and these settings, that answered r and foot, and left x
-module _ (film w h : ℕ) (pic : List ℕ) (s : Settings) {r : MapRecord} {foot : Footer} (κs : Lfts 3) (a : Dens κs prepare.ps) (x : AtExit (endedOf 3 prepare.ps prepare.r) κs)
-    (prepared : prepare-reads.Post κs a (Prepared.Done r foot) x) (film₁ : a .0 ≡ film) (wide₁ : a .1 .0 ≡ w) (high₁ : a .1 .1 .0 ≡ h) (pixels₁ : now (a .1 .1 .1 .0) ≡ pic)
-    (settings₁ : a .1 .1 .1 .1 .0 ≡ s) where
-  left : ending (Prepared.Done r foot) (now (x .1 .1 .1 .1 .1 .0)) (now (x .1 .1 .1 .1 .1 .1 .0))
-      ≡ prepareOf film w h pic s (now (a .1 .1 .1 .1 .1 .0)) (now (a .1 .1 .1 .1 .1 .1 .0))
-  left = prepared ∙ rw (film₁, wide₁, high₁, pixels₁, settings₁) refl
+-- what prepare's contract gives of a call's values
+abbrev ended : PrepareCall → Ended
+ended p = prepareOf (p .film) (p .width) (p .height) (p .pixels) (p .settings) (p .map) (p .scratch)
 
-  done : prepareOf film w h pic s (now (a .1 .1 .1 .1 .1 .0)) (now (a .1 .1 .1 .1 .1 .1 .0)) .answer ≡ Prepared.Done r foot
-  done = sym (ap (λ (z : Ended). z .answer) left)
-
-  onward : {s′ : Settings} {m′ : List ℕ} {win : Window} {room : ℕ} → HandedOn w h s (now (x .1 .1 .1 .1 .1 .0)) s′ m′ win room
-      → HandedOn w h s (prepareOf film w h pic s (now (a .1 .1 .1 .1 .1 .0)) (now (a .1 .1 .1 .1 .1 .1 .0)) .map) s′ m′ win room
-  onward {s′} {m′} {win} {room} = subst (λ n. HandedOn w h s n s′ m′ win room) (ap (λ (z : Ended). z .map) left)
+-- a film that prepare accepted, answering the record r
+module _ {p : PrepareCall} {r : MapRecord} {foot : Footer} (ran : Prepares p) (prepared : preparedSays (p .answer) ≡ accepted (r, foot)) where
+  done : preparedSays (ended p .answer) ≡ accepted (r, foot)
+  done = sym (ap (λ (z : Ended). preparedSays (z .answer)) (prepare-ends ran)) ∙ prepared
 
   -- each tile's own mapping lies in the map buffer
-  pub prepared-by-rule : clipOne (s .clip) ≡ false → (k b : ℕ) → k < s .across * s .down → b < binsOf s
-      → getD (now (x .1 .1 .1 .1 .1 .0)) (k * binsOf s + b) 0 ≡ mappedOf (s .min) (s .max) (tilePixels w h s) (clippedCounts w h pic s k) b
-  prepared-by-rule one k b l q = ap (λ (z : Ended). getD (z .map) (k * binsOf s + b) 0) left ∙ own-mapping film w h pic s _ _ done one k b l q
+  pub prepared-by-rule : clipOne (p .settings .clip) ≡ false → (k b : ℕ) → k < p .settings .across * p .settings .down → b < binsOf (p .settings)
+      → getD (p .map′) (k * binsOf (p .settings) + b) 0
+      ≡ mappedOf (p .settings .min) (p .settings .max) (tilePixels (p .width) (p .height) (p .settings)) (clippedCounts (p .width) (p .height) (p .pixels) (p .settings) k) b
+  prepared-by-rule one k b l q =
+      ap (λ (z : Ended). getD (z .map) (k * binsOf (p .settings) + b) 0) (prepare-ends ran) ∙ own-mapping _ _ _ _ _ _ _ done one k b l q
 
   -- the record's own settings can be handed on for those that were asked
-  pub record-settings : keptOf (r .settings) ≡ keptOf s
-  record-settings = left-settings film w h pic s _ _ done
+  pub record-settings : keptOf (r .settings) ≡ keptOf (p .settings)
+  record-settings = left-settings _ _ _ _ _ _ _ done
 
-  -- "A window drawn with the record of a film of another number is refused.": of one call of draw, handed that record and another film's number, whatever else
-  pub prepared-other-film : (κ : Lfts 3) (b : Dens κ draw.ps) (answer : resT draw.r κ .Denot) (y : AtExit (endedOf 3 draw.ps draw.r) κ) → draw-reads.Post κ b answer y
-      → b .1 .1 .1 .1 .1 .0 ≡ r → b .0 ≢ film
-      → (n : ℕ) × (0 < n) × (answer ≡ Drawn.Refused n) × (now (y .1 .1 .1 .1 .1 .1 .1 .1 .0) ≡ now (b .1 .1 .1 .1 .1 .1 .1 .1 .0))
-  prepared-other-film κ b answer y drew same other =
-      draw-other-film-refused κ b answer y drew (λ e. other (e ∙ ap (λ (z : MapRecord). z .film) (same ∙ sym (left-record film w h pic s _ _ done))))
+  -- "A window drawn with the record of a film of another number is refused.": handed that record and another film's number, whatever else
+  pub prepared-other-film : {d : DrawCall} → Draws d → d .kept ≡ r → d .film ≢ p .film → Refuses d
+  prepared-other-film drew same other =
+      draw-other-film-refused drew (λ e. other (e ∙ ap (λ (z : MapRecord). z .film) (same ∙ sym (prepare-record _ _ _ _ _ _ _ done))))
 
-  -- draw accepts the same film with that record, the settings and mappings that prepare left, a window inside the film and an output of its area
-  pub drawn-done : (κ : Lfts 3) (b : Dens κ draw.ps) (answer : resT draw.r κ .Denot) (y : AtExit (endedOf 3 draw.ps draw.r) κ) → draw-reads.Post κ b answer y
-      → b .0 ≡ film → b .1 .0 ≡ w → b .1 .1 .0 ≡ h → now (b .1 .1 .1 .0) ≡ pic → b .1 .1 .1 .1 .1 .0 ≡ r
-      → HandedOn w h s (now (x .1 .1 .1 .1 .1 .0)) (b .1 .1 .1 .1 .0) (now (b .1 .1 .1 .1 .1 .1 .1 .0)) (b .1 .1 .1 .1 .1 .1 .0) (length (now (b .1 .1 .1 .1 .1 .1 .1 .1 .0)))
-      → answer ≡ Drawn.Done
-  drawn-done κ b answer y drew film₂ wide₂ high₂ pixels₂ record₂ handed =
-      ap (λ (z : Shows). z .answer) drew
-      ∙ rw (film₂, wide₂, high₂, pixels₂, record₂)
-      (ap (λ (z : Shows). z .answer) (draw-agrees film w h pic s _ _ done _ _ _ (now (b .1 .1 .1 .1 .1 .1 .1 .1 .0)) (onward handed)))
+-- what prepare left, handed to draw: prepare accepted the film of p with this footer, and draw is handed the same film with the record that prepare answered, the settings,
+-- the mappings that prepare left, a window inside the film and an output of its area
+pub record HandedToDraw (p : PrepareCall) (foot : Footer) (d : DrawCall) : Type 0 where
+  pub prepares : Prepares p
+  pub prepared : preparedSays (p .answer) ≡ accepted (d .kept, foot)
+  pub draws : Draws d
+  pub film : d .film ≡ p .film
+  pub width : d .width ≡ p .width
+  pub height : d .height ≡ p .height
+  pub pixels : d .pixels ≡ p .pixels
+  pub rest : HandedOn (p .width) (p .height) (p .settings) (p .map′) (d .settings) (d .map) (d .window) (length (d .out))
 
-  -- one call of draw that accepts, handed the same pixels, that record and the mappings that prepare left, whatever else
-  module _ (win : Window) (κ : Lfts 3) (b : Dens κ draw.ps) (y : AtExit (endedOf 3 draw.ps draw.r) κ) (drew : draw-reads.Post κ b Drawn.Done y)
-      (pixels₂ : now (b .1 .1 .1 .0) ≡ pic) (record₂ : b .1 .1 .1 .1 .1 .0 ≡ r) (window₂ : b .1 .1 .1 .1 .1 .1 .0 ≡ win)
-      (front : clipOne (s .clip) ≡ false → take (entriesOf s) (now (b .1 .1 .1 .1 .1 .1 .1 .0)) ≡ take (entriesOf s) (now (x .1 .1 .1 .1 .1 .0))) where
-    shows : showing Drawn.Done (now (y .1 .1 .1 .1 .1 .1 .1 .1 .0))
-        ≡ drawOf (b .0) (b .1 .0) (b .1 .1 .0) pic (b .1 .1 .1 .1 .0) r win (now (b .1 .1 .1 .1 .1 .1 .1 .0)) (now (b .1 .1 .1 .1 .1 .1 .1 .1 .0))
-    shows = drew ∙ rw (pixels₂, record₂, window₂) refl
+-- "through a window from the record and mappings prepared for those pixels and unchanged since": prepare accepted the film of p with this footer,
+-- and draw accepted d, handed the record that prepare answered, the same pixels and, but at the factor 1.0, the mappings that it left, whatever else
+pub record DrawnFrom (p : PrepareCall) (foot : Footer) (d : DrawCall) : Type 0 where
+  pub prepares : Prepares p
+  pub prepared : preparedSays (p .answer) ≡ accepted (d .kept, foot)
+  pub draws : Draws d
+  pub drawn : drawnSays (d .answer) ≡ accepted tt
+  pub pixels : d .pixels ≡ p .pixels
+  pub mappings : clipOne (p .settings .clip) ≡ false → take (entriesOf (p .settings)) (d .map) ≡ take (entriesOf (p .settings)) (p .map′)
 
-    accepts : drawOf (b .0) (b .1 .0) (b .1 .1 .0) pic (b .1 .1 .1 .1 .0) r win (now (b .1 .1 .1 .1 .1 .1 .1 .0)) (now (b .1 .1 .1 .1 .1 .1 .1 .1 .0)) .answer ≡ Drawn.Done
-    accepts = sym (ap (λ (z : Shows). z .answer) shows)
+-- what prepare left, handed to draw, is drawn
+pub drawn-done : {p : PrepareCall} {foot : Footer} {d : DrawCall} → HandedToDraw p foot d → drawnSays (d .answer) ≡ accepted tt
+drawn-done {p} {foot} {d} handed =
+    ap (λ (z : Shows). drawnSays (z .answer)) (draw-ends (handed .draws))
+    ∙ rw (handed .film, handed .width, handed .height, handed .pixels)
+    (draw-agrees _ _ _ _ _ _ _ (done (handed .prepares) (handed .prepared)) _ _ _ (d .out)
+    (subst (λ m. HandedOn (p .width) (p .height) (p .settings) m (d .settings) (d .map) (d .window) (length (d .out))) (ap (λ (z : Ended). z .map) (prepare-ends (handed .prepares))) (handed .rest)))
 
-    entries : clipOne (s .clip) ≡ false
-        → take (entriesOf s) (now (b .1 .1 .1 .1 .1 .1 .1 .0)) ≡ take (entriesOf s) (prepareOf film w h pic s (now (a .1 .1 .1 .1 .1 .0)) (now (a .1 .1 .1 .1 .1 .1 .0)) .map)
-    entries one = front one ∙ ap (λ (z : Ended). take (entriesOf s) (z .map)) left
+-- so all that follows is said of it
+pub handed-drawn : {p : PrepareCall} {foot : Footer} {d : DrawCall} → HandedToDraw p foot d → DrawnFrom p foot d
+handed-drawn handed =
+    record {
+      prepares = handed .prepares;
+      prepared = handed .prepared;
+      draws = handed .draws;
+      drawn = drawn-done handed;
+      pixels = handed .pixels;
+      mappings = handed .rest .front;
+    }
 
-    -- "or through a window from the record and mappings prepared for those pixels and unchanged since"
-    pub drawn-by-rule : clipOne (s .clip) ≡ false → (j i : ℕ) → j < win .height → i < win .width
-        → getD (now (y .1 .1 .1 .1 .1 .1 .1 .1 .0)) (j * win .width + i) 0 ≡ ruleGrey w h pic s (win .left + i) (win .top + j)
-    drawn-by-rule one j i l k =
-        ap (λ (z : Shows). getD (z .out) (j * win .width + i) 0) shows ∙ accepted-by-rule film w h pic s _ _ done _ _ _ _ _ win _ accepts entries one j i l k
+-- enhance is handed the film of p, with settings that are kept as its own, and buffers that are long enough
+pub record EnhancesFilm (p : PrepareCall) (e : EnhanceCall) : Type 0 where
+  pub enhances : Enhances e
+  pub width : e .width ≡ p .width
+  pub height : e .height ≡ p .height
+  pub pixels : e .pixels ≡ p .pixels
+  pub like : keptOf (e .settings) ≡ keptOf (p .settings)
+  pub map : entriesOf (p .settings) ≤ length (e .map)
+  pub scratch : binsOf (p .settings) ≤ length (e .scratch)
 
-    -- at the factor 1.0 the film's own pixels
-    pub drawn-as-film : clipOne (s .clip) ≡ true → (j i : ℕ) → j < win .height → i < win .width
-        → getD (now (y .1 .1 .1 .1 .1 .1 .1 .1 .0)) (j * win .width + i) 0 ≡ getD pic ((win .top + j) * w + (win .left + i)) 0
-    drawn-as-film one j i l k =
-        ap (λ (z : Shows). getD (z .out) (j * win .width + i) 0) shows ∙ accepted-as-film film w h pic s _ _ done _ _ _ _ _ win _ accepts entries one j i l k
+-- the grey in column i and row j of what draw left
+abbrev pub drawnGrey : DrawCall → ℕ → ℕ → ℕ
+drawnGrey d i j = getD (d .out′) (j * d .window .width + i) 0
 
-    -- "With the record and buffer that prepare left for the film, and the film's pixels as they were then, each drawn pixel is the one in enhance's picture.":
-    -- of one call of enhance, handed the same film with these settings, and buffers that are long enough
-    pub drawn-as-enhanced : (κ′ : Lfts 3) (c : Dens κ′ enhance.ps) (e : resT enhance.r κ′ .Denot) (z : AtExit (endedOf 3 enhance.ps enhance.r) κ′) → enhance-reads.Post κ′ c e z
-        → c .0 ≡ w → c .1 .0 ≡ h → now (c .1 .1 .0) ≡ pic → keptOf (c .1 .1 .1 .0) ≡ keptOf s
-        → entriesOf s ≤ length (now (c .1 .1 .1 .1 .0)) → binsOf s ≤ length (now (c .1 .1 .1 .1 .1 .0))
-        → (e ≡ Enhanced.Done foot)
-        × ((j i : ℕ) → j < win .height → i < win .width
-        → getD (now (y .1 .1 .1 .1 .1 .1 .1 .1 .0)) (j * win .width + i) 0 ≡ getD (now (z .1 .1 .0)) ((win .top + j) * w + (win .left + i)) 0)
-    drawn-as-enhanced κ′ c e z enhanced wide₃ high₃ pixels₃ like room scratch =
-        let over : overing e (now (z .1 .1 .0)) (now (z .1 .1 .1 .1 .0)) (now (z .1 .1 .1 .1 .1 .0)) ≡ enhanceOf w h pic s (now (c .1 .1 .1 .1 .0)) (now (c .1 .1 .1 .1 .1 .0)) =
-        enhanced ∙ rw (wide₃, high₃, pixels₃) (enhance-like w h pic s _ _ _ like) in (
-          ap (λ (x : Over). x .answer) over ∙ enhance-agrees film w h pic s _ _ done (now (c .1 .1 .1 .1 .0)) (now (c .1 .1 .1 .1 .1 .0)) room scratch,
-          λ j i l k. ap (λ (x : Shows). getD (x .out) (j * win .width + i) 0) shows
-              ∙ accepted-as-enhanced film w h pic s _ _ done _ _ _ _ _ win _ accepts entries (now (c .1 .1 .1 .1 .0)) (now (c .1 .1 .1 .1 .1 .0)) room scratch j i l k
-              ∙ sym (ap (λ (x : Over). getD (x .picture) ((win .top + j) * w + (win .left + i)) 0) over),
-        )
+module _ {p : PrepareCall} {foot : Footer} {d : DrawCall} (from : DrawnFrom p foot d) where
+  made : preparedSays (ended p .answer) ≡ accepted (d .kept, foot)
+  made = done (from .prepares) (from .prepared)
+
+  shows : showing (d .answer) (d .out′) ≡ drawOf (d .film) (d .width) (d .height) (p .pixels) (d .settings) (d .kept) (d .window) (d .map) (d .out)
+  shows = draw-ends (from .draws) ∙ rw (from .pixels) refl
+
+  accepts : drawnSays (drawOf (d .film) (d .width) (d .height) (p .pixels) (d .settings) (d .kept) (d .window) (d .map) (d .out) .answer) ≡ accepted tt
+  accepts = sym (ap (λ (z : Shows). drawnSays (z .answer)) shows) ∙ from .drawn
+
+  entries : clipOne (p .settings .clip) ≡ false → take (entriesOf (p .settings)) (d .map) ≡ take (entriesOf (p .settings)) (ended p .map)
+  entries one = from .mappings one ∙ ap (λ (z : Ended). take (entriesOf (p .settings)) (z .map)) (prepare-ends (from .prepares))
+
+  -- "or through a window from the record and mappings prepared for those pixels and unchanged since"
+  pub drawn-by-rule : clipOne (p .settings .clip) ≡ false → (j i : ℕ) → j < d .window .height → i < d .window .width
+      → drawnGrey d i j ≡ ruleGrey (p .width) (p .height) (p .pixels) (p .settings) (d .window .left + i) (d .window .top + j)
+  drawn-by-rule one j i l k =
+      ap (λ (z : Shows). getD (z .out) (j * d .window .width + i) 0) shows
+      ∙ accepted-by-rule (p .film) (p .width) (p .height) (p .pixels) (p .settings) _ _ made _ _ _ _ _ (d .window) _ accepts entries one j i l k
+
+  -- at the factor 1.0 the film's own pixels
+  pub drawn-as-film : clipOne (p .settings .clip) ≡ true → (j i : ℕ) → j < d .window .height → i < d .window .width
+      → drawnGrey d i j ≡ getD (p .pixels) ((d .window .top + j) * p .width + (d .window .left + i)) 0
+  drawn-as-film one j i l k =
+      ap (λ (z : Shows). getD (z .out) (j * d .window .width + i) 0) shows
+      ∙ accepted-as-film (p .film) (p .width) (p .height) (p .pixels) (p .settings) _ _ made _ _ _ _ _ (d .window) _ accepts entries one j i l k
+
+  -- "With the record and buffer that prepare left for the film, and the film's pixels as they were then, each drawn pixel is the one in enhance's picture.",
+  -- which enhance renders with the same footer
+  pub drawn-as-enhanced : {e : EnhanceCall} → EnhancesFilm p e
+      → (enhancedSays (e .answer) ≡ accepted foot)
+      × ((j i : ℕ) → j < d .window .height → i < d .window .width → drawnGrey d i j ≡ getD (e .pixels′) ((d .window .top + j) * p .width + (d .window .left + i)) 0)
+  drawn-as-enhanced {e} too =
+      let over : overing (e .answer) (e .pixels′) (e .map′) (e .scratch′) ≡ enhanceOf (p .width) (p .height) (p .pixels) (p .settings) (e .map) (e .scratch) =
+      enhance-ends (too .enhances)
+      ∙ rw (too .width, too .height, too .pixels)
+      (sym (enhance-kept _ _ _ (e .settings) _ _) ∙ ap (λ s. enhanceOf (p .width) (p .height) (p .pixels) s (e .map) (e .scratch)) (too .like) ∙ enhance-kept _ _ _ (p .settings) _ _) in (
+        ap (λ (z : Over). enhancedSays (z .answer)) over ∙ enhance-agrees (p .film) _ _ _ _ _ _ made _ _ (too .map) (too .scratch),
+        λ j i l k. ap (λ (z : Shows). getD (z .out) (j * d .window .width + i) 0) shows
+            ∙ accepted-as-enhanced (p .film) _ _ _ _ _ _ made _ _ _ _ _ (d .window) _ accepts entries (e .map) (e .scratch) (too .map) (too .scratch) j i l k
+            ∙ sym (ap (λ (z : Over). getD (z .picture) ((d .window .top + j) * p .width + (d .window .left + i)) 0) over),
+      )

@@ -1,67 +1,54 @@
 -- Document 00, demand 1: "Bad input meets a numbered refusal, and after a refusal all lent memory holds what it held before", of prepare, enhance and draw.
--- `Post` is the contract itself: of the arguments a, an answer r and the lent memory x at the end.
+-- Of every run of the calls by their contracts (Runs); a name with ′ is lent memory at the end.
 -- Assumes nothing.
 use Prim.Native.Nat.{ℕ}
 use mathlib.Core.Path.{_≡_, sym, ap, _∙_}
-use contract.Lifetimes.{Lfts}
-use denote.Ref.{now}
-use denote.Triple.Clauses.{AtExit}
-use borrow.Fn.Kinds.{Dens, endedOf, resT}
 use lib.ListN.{length}
 use Rattle.refuse.specs.Refuse.{first, refused, says}
 use Rattle.settings.specs.Settings.{binsOf, recordOf, tilePixels}
 use Rattle.prepare.specs.Prepare.{prepareRows, preparedSays, enhancedSays, footerOf, Ended, Over}
-use Rattle.prepare.proofs.prepare.Kinds as prepare
-use Rattle.prepare.proofs.prepare.Reads as prepare-reads
-use Rattle.prepare.proofs.enhance.Kinds as enhance
-use Rattle.prepare.proofs.enhance.Reads as enhance-reads
 use Rattle.draw.specs.Draw.{drawRows, drawnSays, Shows}
-use Rattle.draw.proofs.draw.Kinds as draw
-use Rattle.draw.proofs.draw.Reads as draw-reads
-use Rattle.promises.proofs.Accepted.{prepared-refused, prepare-keeps, prepared-says, enhanced-refused, enhance-keeps, enhanced-says, drawn-refused, draw-keeps, drawn-says}
+use Rattle.promises.proofs.Accepted.{table-says, table-kept, prepare-table, enhance-table, draw-table}
+use Rattle.promises.proofs.Runs.{PrepareCall, Prepares, prepare-ends, EnhanceCall, Enhances, enhance-ends, DrawCall, Draws, draw-ends}
 
 -- "after a refusal all lent memory holds what it held before": prepare's map buffer and scratch
-pub prepare-refusal-keeps : (κs : Lfts 3) (a : Dens κs prepare.ps) (r : resT prepare.r κs .Denot) (x : AtExit (endedOf 3 prepare.ps prepare.r) κs) (n : ℕ)
-    → prepare-reads.Post κs a r x → preparedSays r ≡ refused n
-    → (now (x .1 .1 .1 .1 .1 .0) ≡ now (a .1 .1 .1 .1 .1 .0)) × (now (x .1 .1 .1 .1 .1 .1 .0) ≡ now (a .1 .1 .1 .1 .1 .1 .0))
-prepare-refusal-keeps κs a r x n p q =
-    let e = p ∙ prepare-keeps _ _ _ _ _ _ _ (sym (ap (λ (y : Ended). y .answer) p) ∙ prepared-refused r q) in
+pub prepare-refusal-keeps : {p : PrepareCall} (n : ℕ) → Prepares p → preparedSays (p .answer) ≡ refused n → (p .map′ ≡ p .map) × (p .scratch′ ≡ p .scratch)
+prepare-refusal-keeps n ran q =
+    let x = prepare-ends ran in
+    let e = x ∙ table-kept (prepare-table _ _ _ _ _ _ _) (sym (ap (λ (y : Ended). preparedSays (y .answer)) x) ∙ q) in
     (ap (λ (y : Ended). y .map) e, ap (λ (y : Ended). y .scratch) e)
 
 -- enhance's picture, map buffer and scratch
-pub enhance-refusal-keeps : (κs : Lfts 3) (a : Dens κs enhance.ps) (r : resT enhance.r κs .Denot) (x : AtExit (endedOf 3 enhance.ps enhance.r) κs) (n : ℕ)
-    → enhance-reads.Post κs a r x → enhancedSays r ≡ refused n
-    → (now (x .1 .1 .0) ≡ now (a .1 .1 .0)) × (now (x .1 .1 .1 .1 .0) ≡ now (a .1 .1 .1 .1 .0)) × (now (x .1 .1 .1 .1 .1 .0) ≡ now (a .1 .1 .1 .1 .1 .0))
-enhance-refusal-keeps κs a r x n p q =
-    let e = p ∙ enhance-keeps _ _ _ _ _ _ (sym (ap (λ (y : Over). y .answer) p) ∙ enhanced-refused r q) in
-    (ap (λ (y : Over). y .picture) e, ap (λ (y : Over). y .map) e, ap (λ (y : Over). y .scratch) e)
+pub enhance-refusal-keeps : {e : EnhanceCall} (n : ℕ) → Enhances e → enhancedSays (e .answer) ≡ refused n
+    → (e .pixels′ ≡ e .pixels) × (e .map′ ≡ e .map) × (e .scratch′ ≡ e .scratch)
+enhance-refusal-keeps n ran q =
+    let x = enhance-ends ran in
+    let k = x ∙ table-kept (enhance-table _ _ _ _ _ _) (sym (ap (λ (y : Over). enhancedSays (y .answer)) x) ∙ q) in
+    (ap (λ (y : Over). y .picture) k, ap (λ (y : Over). y .map) k, ap (λ (y : Over). y .scratch) k)
 
 -- draw's output
-pub draw-refusal-keeps : (κs : Lfts 3) (a : Dens κs draw.ps) (r : resT draw.r κs .Denot) (x : AtExit (endedOf 3 draw.ps draw.r) κs) (n : ℕ)
-    → draw-reads.Post κs a r x → drawnSays r ≡ refused n → now (x .1 .1 .1 .1 .1 .1 .1 .1 .0) ≡ now (a .1 .1 .1 .1 .1 .1 .1 .1 .0)
-draw-refusal-keeps κs a r x n p q =
-    let e = p ∙ draw-keeps _ _ _ _ _ _ _ _ _ (sym (ap (λ (y : Shows). y .answer) p) ∙ drawn-refused r q) in
-    ap (λ (y : Shows). y .out) e
+pub draw-refusal-keeps : {d : DrawCall} (n : ℕ) → Draws d → drawnSays (d .answer) ≡ refused n → d .out′ ≡ d .out
+draw-refusal-keeps n ran q =
+    let x = draw-ends ran in
+    ap (λ (y : Shows). y .out) (x ∙ table-kept (draw-table _ _ _ _ _ _ _ _ _) (sym (ap (λ (y : Shows). drawnSays (y .answer)) x) ∙ q))
 
 -- "Bad input meets a numbered refusal": prepare's is that of the first row of document 01's order that applies; where none does it hands back "the map record and a footer record"
-pub prepare-says : (κs : Lfts 3) (a : Dens κs prepare.ps) (r : resT prepare.r κs .Denot) (x : AtExit (endedOf 3 prepare.ps prepare.r) κs) → prepare-reads.Post κs a r x
-    → preparedSays r
-    ≡ says (first (prepareRows (a .1 .0) (a .1 .1 .0) (now (a .1 .1 .1 .0)) (a .1 .1 .1 .1 .0) (length (now (a .1 .1 .1 .1 .1 .0))) (length (now (a .1 .1 .1 .1 .1 .1 .0))))) (
-      recordOf (a .0) (a .1 .0) (a .1 .1 .0) (a .1 .1 .1 .1 .0),
-      footerOf (a .1 .1 .1 .1 .0 .clip) (tilePixels (a .1 .0) (a .1 .1 .0) (a .1 .1 .1 .1 .0)) (binsOf (a .1 .1 .1 .1 .0)),
+pub prepare-says : {p : PrepareCall} → Prepares p
+    → preparedSays (p .answer)
+    ≡ says (first (prepareRows (p .width) (p .height) (p .pixels) (p .settings) (length (p .map)) (length (p .scratch)))) (
+      recordOf (p .film) (p .width) (p .height) (p .settings),
+      footerOf (p .settings .clip) (tilePixels (p .width) (p .height) (p .settings)) (binsOf (p .settings)),
     )
-prepare-says κs a r x p = ap (λ (y : Ended). preparedSays (y .answer)) p ∙ prepared-says _ _ _ _ _ _ _
+prepare-says ran = ap (λ (y : Ended). preparedSays (y .answer)) (prepare-ends ran) ∙ table-says (prepare-table _ _ _ _ _ _ _)
 
 -- enhance's is that of the same rows, and where none applies it hands back "the same .. footer"
-pub enhance-says : (κs : Lfts 3) (a : Dens κs enhance.ps) (r : resT enhance.r κs .Denot) (x : AtExit (endedOf 3 enhance.ps enhance.r) κs) → enhance-reads.Post κs a r x
-    → enhancedSays r
-    ≡ says (first (prepareRows (a .0) (a .1 .0) (now (a .1 .1 .0)) (a .1 .1 .1 .0) (length (now (a .1 .1 .1 .1 .0))) (length (now (a .1 .1 .1 .1 .1 .0)))))
-    (footerOf (a .1 .1 .1 .0 .clip) (tilePixels (a .0) (a .1 .0) (a .1 .1 .1 .0)) (binsOf (a .1 .1 .1 .0)))
-enhance-says κs a r x p = ap (λ (y : Over). enhancedSays (y .answer)) p ∙ enhanced-says _ _ _ _ _ _
+pub enhance-says : {e : EnhanceCall} → Enhances e
+    → enhancedSays (e .answer)
+    ≡ says (first (prepareRows (e .width) (e .height) (e .pixels) (e .settings) (length (e .map)) (length (e .scratch))))
+    (footerOf (e .settings .clip) (tilePixels (e .width) (e .height) (e .settings)) (binsOf (e .settings)))
+enhance-says ran = ap (λ (y : Over). enhancedSays (y .answer)) (enhance-ends ran) ∙ table-says (enhance-table _ _ _ _ _ _)
 
 -- draw's is that of draw's rows; where none applies there is no value to hand back
-pub draw-says : (κs : Lfts 3) (a : Dens κs draw.ps) (r : resT draw.r κs .Denot) (x : AtExit (endedOf 3 draw.ps draw.r) κs) → draw-reads.Post κs a r x
-    → drawnSays r
-    ≡ says (first (drawRows (a .0) (a .1 .0) (a .1 .1 .0) (now (a .1 .1 .1 .0)) (a .1 .1 .1 .1 .0) (a .1 .1 .1 .1 .1 .0) (a .1 .1 .1 .1 .1 .1 .0)
-    (now (a .1 .1 .1 .1 .1 .1 .1 .0)) (length (now (a .1 .1 .1 .1 .1 .1 .1 .1 .0))))) tt
-draw-says κs a r x p = ap (λ (y : Shows). drawnSays (y .answer)) p ∙ drawn-says _ _ _ _ _ _ _ _ _
+pub draw-says : {d : DrawCall} → Draws d
+    → drawnSays (d .answer) ≡ says (first (drawRows (d .film) (d .width) (d .height) (d .pixels) (d .settings) (d .kept) (d .window) (d .map) (length (d .out)))) tt
+draw-says ran = ap (λ (y : Shows). drawnSays (y .answer)) (draw-ends ran) ∙ table-says (draw-table _ _ _ _ _ _ _ _ _)

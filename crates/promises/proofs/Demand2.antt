@@ -1,9 +1,9 @@
 -- Document 00, demand 2: "The rendering of every accepted film is the one that the integer rule of document 01 gives for that film's own pixels and settings".
+-- Laws of the outcomes that the contracts of prepare, enhance and draw cite; of the calls themselves they are said in Calls.
 -- Assumes nothing.
-use Prim.Native.Nat.{ℕ, zero, suc, _+_, _*_, _≤_, _<_}
-use mathlib.Core.Bool.{Bool, true, false}
+use Prim.Native.Nat.{ℕ, _+_, _*_, _≤_, _<_}
+use mathlib.Core.Bool.{Bool, true, false, cond}
 use mathlib.Core.List.{List}
-use mathlib.Core.Logic.{_≢_}
 use mathlib.Core.Path.{_≡_, refl, sym, ap, ap₂, _∙_}
 use native.Mathlib.Nat.{mul-comm, zero-add}
 use native.Mathlib.Omega.{arith}
@@ -12,35 +12,32 @@ use lib.Arith.{digits-lt}
 use Rattle.lists.specs.Lists.{onto}
 use Rattle.lists.proofs.Blocks.{block-fits}
 use Rattle.lists.proofs.Alls.{all-at}
-use Rattle.refuse.specs.Refuse.{Row, first}
-use Rattle.tile.specs.Tile.{within, binOf, greysOf, mappedOf}
+use Rattle.refuse.specs.Refuse.{first, accepted, says}
+use Rattle.scan.specs.Scan.{within}
+use Rattle.binning.specs.Binning.{binOf}
+use Rattle.tally.specs.Tally.{greysOf}
+use Rattle.tile.specs.Tile.{mappedOf}
 use Rattle.tile.proofs.Tiles.{getD-tile-mapping}
 use Rattle.settings.specs.declared.Settings.{Settings}
 use Rattle.settings.specs.declared.MapRecord.{MapRecord}
 use Rattle.settings.specs.declared.Footer.{Footer}
 use Rattle.settings.specs.declared.Window.{Window}
-use Rattle.settings.specs.Settings.{binsOf, entriesOf, tileWidth, tileHeight, tilePixels, clipOne, sameClip, sharedRows}
+use Rattle.settings.specs.Settings.{binsOf, entriesOf, tileWidth, tileHeight, tilePixels, clipOne}
 use Rattle.blend.specs.declared.Place.{Place}
 use Rattle.blend.specs.Blend.{placeOf, greyOf}
 use Rattle.render.specs.Render.{rectOf, mappedAt, pixelOf, renderedOf, renderOf, whole, PixelAsks}
 use Rattle.render.proofs.Pixels.{tile-index, pixel-bin}
 use Rattle.render.proofs.Rows.{pixel-asks}
-use Rattle.tile.proofs.Greys.{getD-greys}
+use Rattle.tally.proofs.Greys.{getD-greys}
 use Rattle.render.proofs.Laws.{render-at, window-law}
-use Rattle.prepare.specs.declared.Prepared.the-variants as Prepared
-use Rattle.prepare.specs.declared.Enhanced.the-variants as Enhanced
-use Rattle.prepare.specs.Prepare.{tileRect, tileMap, mappings, stays, Ended, prepareOf, preparedOf, Over, enhanceOf, enhancedOf, Work, TilesAsk}
+use Rattle.prepare.specs.Prepare.{tileRect, tileMap, mappings, preparedSays, enhancedSays, Ended, prepareOf, preparedOf, Over, enhanceOf, enhancedOf, Work, TilesAsk}
 use Rattle.prepare.proofs.Films.{length-tile-greys, length-mappings, getD-mappings}
 use Rattle.prepare.proofs.Renders.{laid-mapped, laid-render}
-use Rattle.draw.specs.declared.Drawn.the-variants.{Done, Refused}
-use Rattle.draw.specs.Draw.{recordRows, drawRows, drawnOf, Shows, showing, drawOf, Held}
-use Rattle.draw.proofs.Laws.{other-record, record-differs}
-use Rattle.draw.proofs.Tables.{draw-ready}
-use Rattle.draw.proofs.Works.{ends-refused, ends-well}
+use Rattle.draw.specs.Draw.{drawRows, drawnSays, Shows, drawOf}
 use Rattle.promises.specs.Films.{clippedCounts, tileValue, ruleGrey, HandedOn}
-use Rattle.promises.proofs.Accepted.{prepare-accepts, prepare-done, prepare-work, prepare-hands, enhance-accepted, enhance-done, enhance-work}
-use Rattle.promises.proofs.Handed.{draw-like, draw-room}
-use Rattle.promises.proofs.Reuse.{prepared-foot, rows-any, left-room, left-laid, left-asks, draw-free}
+use Rattle.promises.proofs.Accepted.{table-says, prepare-accepts, prepare-work, prepare-done, prepare-foot, enhance-table, enhance-work, enhance-done, draw-table}
+use Rattle.promises.proofs.Handed.{draw-kept, draw-room}
+use Rattle.promises.proofs.Reuse.{rows-any, left-room, left-laid, left-asks, draw-free}
 
 -- ---- each tile's own mapping
 
@@ -65,22 +62,22 @@ laid-own w h pic s m k b l q =
 -- "the one that the integer rule of document 01 gives for that film's own pixels and settings": the map entry of tile k and bin b that prepare leaves
 -- is the mapped value of that tile's own clipped counts, for every tile and bin
 pub own-mapping : (film w h : ℕ) (pic : List ℕ) (s : Settings) (m t : List ℕ) {r : MapRecord} {foot : Footer}
-    → prepareOf film w h pic s m t .answer ≡ Prepared.Done r foot → clipOne (s .clip) ≡ false → (k b : ℕ) → k < s .across * s .down → b < binsOf s
+    → preparedSays (prepareOf film w h pic s m t .answer) ≡ accepted (r, foot) → clipOne (s .clip) ≡ false → (k b : ℕ) → k < s .across * s .down → b < binsOf s
     → getD (prepareOf film w h pic s m t .map) (k * binsOf s + b) 0 ≡ mappedOf (s .min) (s .max) (tilePixels w h s) (clippedCounts w h pic s k) b
 unfolding preparedOf
 own-mapping film w h pic s m t e one k b l q =
     ap (λ (x : Ended). getD (x .map) (k * binsOf s + b) 0) (prepare-done film w h pic s m t e)
-    ∙ ap (λ o. getD (stays o m (onto m (mappings w h pic s))) (k * binsOf s + b) 0) one
+    ∙ ap (λ o. getD (cond o m (onto m (mappings w h pic s))) (k * binsOf s + b) 0) one
     ∙ laid-own w h pic s m k b l q
 
 -- the same of the map entries that enhance leaves
 pub own-mapping-enhance : (w h : ℕ) (pic : List ℕ) (s : Settings) (m t : List ℕ) {foot : Footer}
-    → enhanceOf w h pic s m t .answer ≡ Enhanced.Done foot → clipOne (s .clip) ≡ false → (k b : ℕ) → k < s .across * s .down → b < binsOf s
+    → enhancedSays (enhanceOf w h pic s m t .answer) ≡ accepted foot → clipOne (s .clip) ≡ false → (k b : ℕ) → k < s .across * s .down → b < binsOf s
     → getD (enhanceOf w h pic s m t .map) (k * binsOf s + b) 0 ≡ mappedOf (s .min) (s .max) (tilePixels w h s) (clippedCounts w h pic s k) b
 unfolding enhancedOf
 own-mapping-enhance w h pic s m t e one k b l q =
     ap (λ (x : Over). getD (x .map) (k * binsOf s + b) 0) (enhance-done w h pic s m t e)
-    ∙ ap (λ o. getD (stays o m (onto m (mappings w h pic s))) (k * binsOf s + b) 0) one
+    ∙ ap (λ o. getD (cond o m (onto m (mappings w h pic s))) (k * binsOf s + b) 0) one
     ∙ laid-own w h pic s m k b l q
 
 -- ---- the whole film
@@ -118,12 +115,12 @@ laid-grey m {w} {h} {pic} {s} asks x y l k g =
 -- "The rendering of every accepted film is the one that the integer rule of document 01 gives for that film's own pixels and settings: whole":
 -- each pixel of enhance's picture
 pub own-rendering : (w h : ℕ) (pic : List ℕ) (s : Settings) (m t : List ℕ) {foot : Footer}
-    → enhanceOf w h pic s m t .answer ≡ Enhanced.Done foot → clipOne (s .clip) ≡ false → (x y : ℕ) → x < w → y < h
+    → enhancedSays (enhanceOf w h pic s m t .answer) ≡ accepted foot → clipOne (s .clip) ≡ false → (x y : ℕ) → x < w → y < h
     → getD (enhanceOf w h pic s m t .picture) (y * w + x) 0 ≡ ruleGrey w h pic s x y
 unfolding enhancedOf
 own-rendering w h pic s m t e one x y l k =
     ap (λ (a : Over). getD (a .picture) (y * w + x) 0) (enhance-done w h pic s m t e)
-    ∙ ap (λ o. getD (stays o pic (renderOf w h s (mappings w h pic s) (whole w h) pic)) (y * w + x) 0) one
+    ∙ ap (λ o. getD (cond o pic (renderOf w h s (mappings w h pic s) (whole w h) pic)) (y * w + x) 0) one
     ∙ ap (λ ys. getD ys (y * w + x) 0) (sym (laid-render m asks refl refl))
     ∙ render-at w h s (onto m (mappings w h pic s)) (whole w h) pic k l
     ∙ ap₂ (λ a b. renderedOf w h s (onto m (mappings w h pic s)) a b (getD pic (y * w + x) 0)) (zero-add x) (zero-add y)
@@ -138,120 +135,60 @@ own-rendering w h pic s m t e one x y l k =
 
 -- at the factor 1.0 enhance changes nothing
 pub own-pixels : (w h : ℕ) (pic : List ℕ) (s : Settings) (m t : List ℕ) {foot : Footer}
-    → enhanceOf w h pic s m t .answer ≡ Enhanced.Done foot → clipOne (s .clip) ≡ true → enhanceOf w h pic s m t .picture ≡ pic
+    → enhancedSays (enhanceOf w h pic s m t .answer) ≡ accepted foot → clipOne (s .clip) ≡ true → enhanceOf w h pic s m t .picture ≡ pic
 unfolding enhancedOf
 own-pixels w h pic s m t e one =
-    ap (λ (a : Over). a .picture) (enhance-done w h pic s m t e) ∙ ap (λ o. stays o pic (renderOf w h s (mappings w h pic s) (whole w h) pic)) one
-
--- ---- a record of another film
-
-module _ (film w h : ℕ) (pic : List ℕ) (s : Settings) (r : MapRecord) (win : Window) (m out : List ℕ) where
-  -- for every picture, settings, window, map and output: a record that differs from what comes with the call, in whatever field, is refused with a number above 0,
-  -- and the output holds what it held
-  pub differing-refused : (Held film w h s r → ⊥) → (n : ℕ) × (0 < n) × (drawOf film w h pic s r win m out ≡ showing (Refused n) out)
-  differing-refused d = (first rows, some (first rows) applies, sym (ends-refused film w h pic s r win m out refl applies))
-    where
-      rows : List Row
-      rows = drawRows film w h pic s r win m (length out)
-
-      applies : first rows ≢ 0
-      applies z = d (draw-ready film w h pic s r win m (length out) z .held)
-
-      some : (n : ℕ) → n ≢ 0 → 0 < n
-      some zero z = absurd (z refl)
-      some (suc n) z = omega arith
-
-  -- "A window drawn with the record of a film of another number is refused."
-  pub other-film-refused : film ≢ r .film → (n : ℕ) × (0 < n) × (drawOf film w h pic s r win m out ≡ showing (Refused n) out)
-  other-film-refused d = differing-refused (λ held. d (held .number))
-
-module _ (film w h : ℕ) (pic : List ℕ) (s : Settings) (r : MapRecord) (win : Window) (m out : List ℕ) (shared : first (sharedRows w h (length pic) s (length m)) ≡ 0) where
-  -- 15 of 01's order: where none of 1 to 11 applies, a record that differs is refused with 15, whatever the window, the pixels and the map entries
-  pub other-record-refused : first (recordRows film w h s r) ≢ 0 → drawOf film w h pic s r win m out .answer ≡ Refused 15
-  other-record-refused d =
-      sym (ap (λ (x : Shows). x .answer) (ends-refused film w h pic s r win m out (sym (other-record film w h pic s r win m (length out) shared d)) (λ z. omega arith)))
-
-  -- in whatever field
-  other-refused : (Held film w h s r → ⊥) → drawOf film w h pic s r win m out .answer ≡ Refused 15
-  other-refused d = other-record-refused (record-differs film w h s r d)
-
-  -- one of another film number
-  pub other-film : film ≢ r .film → drawOf film w h pic s r win m out .answer ≡ Refused 15
-  other-film d = other-refused (λ held. d (held .number))
-
-  -- and so is one of another width
-  pub other-width : w ≢ r .width → drawOf film w h pic s r win m out .answer ≡ Refused 15
-  other-width d = other-refused (λ held. d (held .wide))
-
-  -- of another height
-  pub other-height : h ≢ r .height → drawOf film w h pic s r win m out .answer ≡ Refused 15
-  other-height d = other-refused (λ held. d (held .high))
-
-  -- of another grid across
-  pub other-across : s .across ≢ r .settings .across → drawOf film w h pic s r win m out .answer ≡ Refused 15
-  other-across d = other-refused (λ held. d (held .across))
-
-  -- of another grid down
-  pub other-down : s .down ≢ r .settings .down → drawOf film w h pic s r win m out .answer ≡ Refused 15
-  other-down d = other-refused (λ held. d (held .down))
-
-  -- of other bins, "0 read as 128 on both sides"
-  pub other-bins : binsOf s ≢ binsOf (r .settings) → drawOf film w h pic s r win m out .answer ≡ Refused 15
-  other-bins d = other-refused (λ held. d (held .bins))
-
-  -- of another Min
-  pub other-min : s .min ≢ r .settings .min → drawOf film w h pic s r win m out .answer ≡ Refused 15
-  other-min d = other-refused (λ held. d (held .least))
-
-  -- of another Max
-  pub other-max : s .max ≢ r .settings .max → drawOf film w h pic s r win m out .answer ≡ Refused 15
-  other-max d = other-refused (λ held. d (held .most))
-
-  -- of another clip setting
-  pub other-clip : sameClip (s .clip) (r .settings .clip) ≢ true → drawOf film w h pic s r win m out .answer ≡ Refused 15
-  other-clip d = other-refused (λ held. d (held .clip))
+    ap (λ (a : Over). a .picture) (enhance-done w h pic s m t e) ∙ ap (λ o. cond o pic (renderOf w h s (mappings w h pic s) (whole w h) pic)) one
 
 -- ---- a window from what prepare left
 
-module _ (film w h : ℕ) (pic : List ℕ) (s : Settings) (m t : List ℕ) {r : MapRecord} {foot : Footer} (done : prepareOf film w h pic s m t .answer ≡ Prepared.Done r foot) where
+module _ (film w h : ℕ) (pic : List ℕ) (s : Settings) (m t : List ℕ) {r : MapRecord} {foot : Footer} (done : preparedSays (prepareOf film w h pic s m t .answer) ≡ accepted (r, foot)) where
   -- what prepare accepts enhance accepts, with the same footer, where its buffers are long enough
-  pub enhance-agrees : (m₂ t₂ : List ℕ) → entriesOf s ≤ length m₂ → binsOf s ≤ length t₂ → enhanceOf w h pic s m₂ t₂ .answer ≡ Enhanced.Done foot
+  pub enhance-agrees : (m₂ t₂ : List ℕ) → entriesOf s ≤ length m₂ → binsOf s ≤ length t₂ → enhancedSays (enhanceOf w h pic s m₂ t₂ .answer) ≡ accepted foot
   enhance-agrees m₂ t₂ room scratch =
-      enhance-accepted w h pic s m₂ t₂ (rows-any w h pic s (length m) (length t) (length m₂) (length t₂) (prepare-accepts film w h pic s m t done) room scratch)
-      ∙ ap Enhanced.Done (prepared-foot (prepare-hands film w h pic s m t done))
+      table-says (enhance-table w h pic s m₂ t₂)
+      ∙ ap₂ says (rows-any w h pic s (length m) (length t) (length m₂) (length t₂) (prepare-accepts film w h pic s m t done) room scratch) (prepare-foot film w h pic s m t done)
 
   -- settings s′ that are kept as s are, and a map buffer m′ whose first entries are those that prepare left
   module _ (s′ : Settings) (m′ : List ℕ) (win : Window) (out : List ℕ) (handed : HandedOn w h s (prepareOf film w h pic s m t .map) s′ m′ win (length out)) where
-    -- draw accepts a window inside the film, and an output of its area, with the record and the mappings that prepare left
-    pub draw-agrees : drawOf film w h pic s′ r win m′ out
-        ≡ showing Done (drawnOf (clipOne (s .clip)) (greysOf pic w (rectOf win)) (renderOf w h s (prepareOf film w h pic s m t .map) win (greysOf pic w (rectOf win))))
-    draw-agrees =
-        draw-like film w h pic s s′ r win m′ out (handed .like)
+    -- draw looks at it as at the film's own
+    draw-same : drawOf film w h pic s′ r win m′ out ≡ drawOf film w h pic s r win (prepareOf film w h pic s m t .map) out
+    draw-same =
+        sym (draw-kept film w h pic s′ r win m′ out)
+        ∙ ap (λ x. drawOf film w h pic x r win m′ out) (handed .like)
+        ∙ draw-kept film w h pic s r win m′ out
         ∙ draw-room film w h pic s r win m′ (prepareOf film w h pic s m t .map) out (handed .long) (left-room film w h pic s m t done) (handed .front)
-        ∙ sym (ends-well film w h pic s r win (prepareOf film w h pic s m t .map) out
-        (sym (draw-free film w h pic s m t done win (length out) (handed .wide) (handed .high) (handed .across) (handed .down) (handed .area))) refl refl)
+
+    draw-none : first (drawRows film w h pic s r win (prepareOf film w h pic s m t .map) (length out)) ≡ 0
+    draw-none = draw-free film w h pic s m t done win (length out) (handed .wide) (handed .high) (handed .across) (handed .down) (handed .area)
+
+    -- it accepts a window inside the film, and an output of its area, with the record and the mappings that prepare left
+    pub draw-agrees : drawnSays (drawOf film w h pic s′ r win m′ out .answer) ≡ accepted tt
+    draw-agrees =
+        ap (λ (x : Shows). drawnSays (x .answer)) draw-same
+        ∙ table-says (draw-table film w h pic s r win (prepareOf film w h pic s m t .map) out)
+        ∙ ap (λ n. says n tt) draw-none
+
+    -- and draws it from those mappings
+    drawn-from : drawOf film w h pic s′ r win m′ out .out
+        ≡ cond (clipOne (s .clip)) (greysOf pic w (rectOf win)) (renderOf w h s (prepareOf film w h pic s m t .map) win (greysOf pic w (rectOf win)))
+    drawn-from = ap (λ (x : Shows). x .out) (draw-same ∙ draw-table film w h pic s r win (prepareOf film w h pic s m t .map) out .when-none draw-none)
 
     -- "With the record and buffer that prepare left for the film, and the film's pixels as they were then, each drawn pixel is the one in enhance's picture."
-    pub drawn-is-enhanced : (m₂ t₂ : List ℕ) → entriesOf s ≤ length m₂ → binsOf s ≤ length t₂
-        → (drawOf film w h pic s′ r win m′ out .answer ≡ Done)
-        × (enhanceOf w h pic s m₂ t₂ .answer ≡ Enhanced.Done foot)
-        × ((j i : ℕ) → j < win .height → i < win .width
+    pub drawn-is-enhanced : (m₂ t₂ : List ℕ) → entriesOf s ≤ length m₂ → binsOf s ≤ length t₂ → (j i : ℕ) → j < win .height → i < win .width
         → getD (drawOf film w h pic s′ r win m′ out .out) (j * win .width + i) 0
-        ≡ getD (enhanceOf w h pic s m₂ t₂ .picture) ((win .top + j) * w + (win .left + i)) 0)
+        ≡ getD (enhanceOf w h pic s m₂ t₂ .picture) ((win .top + j) * w + (win .left + i)) 0
     unfolding enhancedOf
-    drawn-is-enhanced m₂ t₂ room scratch = (
-      ap (λ (x : Shows). x .answer) draw-agrees,
-      enhance-agrees m₂ t₂ room scratch,
-      λ j i l k. ap (λ (x : Shows). getD (x .out) (j * win .width + i) 0) draw-agrees
-          ∙ same (clipOne (s .clip)) refl j i l k
-          ∙ sym (ap (λ (x : Over). getD (x .picture) ((win .top + j) * w + (win .left + i)) 0) (enhance-done w h pic s m₂ t₂ (enhance-agrees m₂ t₂ room scratch))),
-    )
+    drawn-is-enhanced m₂ t₂ room scratch j i l k =
+        ap (λ ys. getD ys (j * win .width + i) 0) drawn-from
+        ∙ same (clipOne (s .clip)) refl
+        ∙ sym (ap (λ (x : Over). getD (x .picture) ((win .top + j) * w + (win .left + i)) 0) (enhance-done w h pic s m₂ t₂ (enhance-agrees m₂ t₂ room scratch)))
       where
-        same : (b : Bool) → clipOne (s .clip) ≡ b → (j i : ℕ) → j < win .height → i < win .width
-            → getD (drawnOf b (greysOf pic w (rectOf win)) (renderOf w h s (prepareOf film w h pic s m t .map) win (greysOf pic w (rectOf win)))) (j * win .width + i) 0
-            ≡ getD (stays b pic (renderOf w h s (mappings w h pic s) (whole w h) pic)) ((win .top + j) * w + (win .left + i)) 0
-        same true e j i l k = getD-greys pic w (rectOf win) l k
-        same false e j i l k =
+        same : (b : Bool) → clipOne (s .clip) ≡ b
+            → getD (cond b (greysOf pic w (rectOf win)) (renderOf w h s (prepareOf film w h pic s m t .map) win (greysOf pic w (rectOf win)))) (j * win .width + i) 0
+            ≡ getD (cond b pic (renderOf w h s (mappings w h pic s) (whole w h) pic)) ((win .top + j) * w + (win .left + i)) 0
+        same true e = getD-greys pic w (rectOf win) l k
+        same false e =
             window-law w h s (prepareOf film w h pic s m t .map) win pic (handed .across) (handed .down) l k
             ∙ ap (λ ys. getD ys ((win .top + j) * w + (win .left + i)) 0) (laid-render m (left-asks film w h pic s m t done e) (left-laid film w h pic s m t done e) refl)
 
@@ -259,7 +196,7 @@ module _ (film w h : ℕ) (pic : List ℕ) (s : Settings) (m t : List ℕ) {r : 
     pub own-window : clipOne (s .clip) ≡ false → (j i : ℕ) → j < win .height → i < win .width
         → getD (drawOf film w h pic s′ r win m′ out .out) (j * win .width + i) 0 ≡ ruleGrey w h pic s (win .left + i) (win .top + j)
     own-window one j i l k =
-        drawn-is-enhanced m t (known .ready .fitting) (known .bins) .2 j i l k
+        drawn-is-enhanced m t (known .ready .fitting) (known .bins) j i l k
         ∙ own-rendering w h pic s m t (enhance-agrees m t (known .ready .fitting) (known .bins)) one (win .left + i) (win .top + j) (omega (arith, handed .across)) (omega (arith, handed .down))
       where
         known : Work w h pic s (length m) (length t)
@@ -269,6 +206,6 @@ module _ (film w h : ℕ) (pic : List ℕ) (s : Settings) (m t : List ℕ) {r : 
     pub drawn-is-film : clipOne (s .clip) ≡ true → (j i : ℕ) → j < win .height → i < win .width
         → getD (drawOf film w h pic s′ r win m′ out .out) (j * win .width + i) 0 ≡ getD pic ((win .top + j) * w + (win .left + i)) 0
     drawn-is-film one j i l k =
-        ap (λ (x : Shows). getD (x .out) (j * win .width + i) 0) draw-agrees
-        ∙ ap (λ b. getD (drawnOf b (greysOf pic w (rectOf win)) (renderOf w h s (prepareOf film w h pic s m t .map) win (greysOf pic w (rectOf win)))) (j * win .width + i) 0) one
+        ap (λ ys. getD ys (j * win .width + i) 0) drawn-from
+        ∙ ap (λ b. getD (cond b (greysOf pic w (rectOf win)) (renderOf w h s (prepareOf film w h pic s m t .map) win (greysOf pic w (rectOf win)))) (j * win .width + i) 0) one
         ∙ getD-greys pic w (rectOf win) l k

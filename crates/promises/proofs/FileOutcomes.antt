@@ -1,126 +1,196 @@
 -- Document 01, "How tight the promises are", of read, greys and write: any two outcomes that a contract allows are equal, what each answer says, and that a refusal keeps lent memory.
--- `Post` is the contract itself: of the arguments a, an answer r and the lent memory s at the end.
+-- Of every run of the calls by their contracts (Runs); a name with ′ is lent memory at the end.
 -- Assumes nothing.
 use Prim.Native.Nat.{ℕ, _-_, _*_, _≤_}
-use mathlib.Core.List.{[], _++_}
-use mathlib.Core.Logic.{_⊎_}
-use mathlib.Core.Path.{_≡_, sym, ap, _∙_}
-use contract.Lifetimes.{Lfts}
-use denote.Ref.{now}
-use denote.Triple.Clauses.{AtExit}
-use borrow.Fn.Kinds.{Dens, endedOf, resT}
-use lib.ListN.{length, take}
+use mathlib.Core.List.{List, [], _++_}
+use mathlib.Core.Path.{_≡_, refl, sym, ap, _∙_}
+use native.Mathlib.Omega.{arith}
+use lib.ListN.{length, take, drop, length-drop, drop-of-length-le}
 use Rattle.lists.specs.Lists.{onto}
+use Rattle.lists.proofs.Fills.{take-onto}
 use Rattle.refuse.specs.Refuse.{first, accepted, refused, says}
+use Rattle.header.specs.declared.Head.{Head}
 use Rattle.header.specs.declared.Head.the-variants as Head
-use Rattle.header.specs.Header.{headerOf}
-use Rattle.header.proofs.Laws.{refused-number}
-use Rattle.pgm.specs.declared.Turned.the-variants as Turned
-use Rattle.pgm.specs.Pgm.{limitRows, rasterRows, greyRows, writeRows, readOf, sizesOf, sizesSays, turnedSays, writtenSays, greyedAs, Greyed, fileOf, Wrote, wroteAs}
-use Rattle.pgm.proofs.read_sizes.Kinds as sizes
-use Rattle.pgm.proofs.read_sizes.Reads as read-sizes
-use Rattle.pgm.proofs.read_raster.Kinds as raster
-use Rattle.pgm.proofs.read_raster.Reads as read-raster
-use Rattle.pgm.proofs.read_greys.Kinds as greys
-use Rattle.pgm.proofs.read_greys.Reads as read-greys
-use Rattle.pgm.proofs.write.Kinds as write
-use Rattle.pgm.proofs.write.Reads as write-reads
-use Rattle.promises.proofs.Files.{refused-part, SameFilm, same-film, found-says, misfit-says, turned-says, written-says, read-refuses, turned-refused, written-refused, written-bytes, greys-kept, write-kept}
+use Rattle.header.specs.Grammar.{Header, Hash}
+use Rattle.pgm.specs.Pgm.{rasterSize, headRows, rasterRows, turnRows, writeRows, readOf, sizesOf, rasterOf, sizesSays, turnedSays, writtenSays, turnedOf, Greyed, fileOf, Wrote, wroteAs, writeOf}
+use Rattle.pgm.proofs.Tables.{read-within}
+use Rattle.promises.proofs.Accepted.{table-says, table-kept}
+use Rattle.promises.proofs.Files.{found-says, hash-says, other-says, raster-behind, refused-part, greys-table, write-table, written-none, written-count, written-file, file-sizes, file-greys, file-again, file-pixels}
+use Rattle.promises.proofs.Runs.{SizesCall, ReadsSizes, sizes-ends, RasterCall, ReadsRaster, raster-ends, GreysCall, Greys, greys-given, greys-ends, WriteCall, Writes, write-given, write-ends}
 
 -- ---- any two outcomes are equal
 
 -- read, asked for the sizes: one answer for each file
-pub sizes-determined : (κs : Lfts 1) (a : Dens κs sizes.ps) (r r′ : resT sizes.r κs .Denot) (s s′ : AtExit (endedOf 1 sizes.ps sizes.r) κs)
-    → read-sizes.Post κs a r s → read-sizes.Post κs a r′ s′ → r ≡ r′
-sizes-determined κs a r r′ s s′ p q = p ∙ sym q
+pub sizes-determined : {c k : SizesCall} → ReadsSizes c → ReadsSizes k → c .bytes ≡ k .bytes → c .answer ≡ k .answer
+sizes-determined x y same = sizes-ends x ∙ ap (λ s. sizesOf (readOf s)) same ∙ sym (sizes-ends y)
 
 -- read, asked for the raster: one part for each file
-pub raster-determined : (κs : Lfts 1) (a : Dens κs raster.ps) (r r′ : resT raster.r κs .Denot) (s s′ : AtExit (endedOf 1 raster.ps raster.r) κs)
-    → read-raster.Post κs a r s → read-raster.Post κs a r′ s′ → now r ≡ now r′
-raster-determined κs a r r′ s s′ p q = p ∙ sym q
+pub raster-determined : {c k : RasterCall} → ReadsRaster c → ReadsRaster k → c .bytes ≡ k .bytes → c .part ≡ k .part
+raster-determined x y same = raster-ends x ∙ ap (λ s. rasterOf (readOf s) s) same ∙ sym (raster-ends y)
 
 -- greys: one answer and one target for each raster, numbers and target
-pub greys-determined : (κs : Lfts 2) (a : Dens κs greys.ps) (r r′ : resT greys.r κs .Denot) (s s′ : AtExit (endedOf 2 greys.ps greys.r) κs)
-    → read-greys.Post κs a r s → read-greys.Post κs a r′ s′ → (r ≡ r′) × (now (s .1 .1 .1 .1 .1 .0) ≡ now (s′ .1 .1 .1 .1 .1 .0))
-greys-determined κs a r r′ s s′ p q =
-    let e = p ∙ sym q in
-    (ap (λ (x : Greyed). x .answer) e, ap (λ (x : Greyed). x .target) e)
+pub greys-determined : {g k : GreysCall} → Greys g → Greys k → greys-given g ≡ greys-given k → (g .answer ≡ k .answer) × (g .target′ ≡ k .target′)
+greys-determined x y same =
+    let e = greys-ends x ∙ ap (λ g. turnedOf (g .0) (g .1) (g .2) (g .3) (g .4) (g .5)) same ∙ sym (greys-ends y) in
+    (ap (λ (z : Greyed). z .answer) e, ap (λ (z : Greyed). z .target) e)
 
 -- write: one answer and one output for each picture, numbers and output
-pub write-determined : (κs : Lfts 2) (a : Dens κs write.ps) (r r′ : resT write.r κs .Denot) (s s′ : AtExit (endedOf 2 write.ps write.r) κs)
-    → write-reads.Post κs a r s → write-reads.Post κs a r′ s′ → (r ≡ r′) × (now (s .1 .1 .1 .1 .0) ≡ now (s′ .1 .1 .1 .1 .0))
-write-determined κs a r r′ s s′ p q =
-    let e = p ∙ sym q in
-    (ap (λ (x : Wrote). x .answer) e, ap (λ (x : Wrote). x .out) e)
+pub write-determined : {c k : WriteCall} → Writes c → Writes k → write-given c ≡ write-given k → (c .answer ≡ k .answer) × (c .out′ ≡ k .out′)
+write-determined x y same =
+    let e = write-ends x ∙ ap (λ g. writeOf (g .0) (g .1) (g .2) (g .3) (g .4)) same ∙ sym (write-ends y) in
+    (ap (λ (z : Wrote). z .answer) e, ap (λ (z : Wrote). z .out) e)
 
 -- ---- what each call says
 
 -- demand 1, "Bad input meets a numbered refusal", of read, asked for the sizes: "header bytes from the front .. then 22 to 25".
--- Where the header is found, the number is that of the first of the rows 22 to 25 that applies; where none does the header's width, height and maxval are handed back
-pub sizes-says-found : (κs : Lfts 1) (a : Dens κs sizes.ps) (r : resT sizes.r κs .Denot) (s : AtExit (endedOf 1 sizes.ps sizes.r) κs) (w h m at : ℕ)
-    → read-sizes.Post κs a r s → headerOf (now (a .0)) ≡ Head.Found w h m at
-    → sizesSays r ≡ says (first (limitRows w h m ++ rasterRows w h m (length (now (a .0)) - at))) (w, h, m)
-sizes-says-found κs a r s w h m at p q = ap sizesSays p ∙ found-says (now (a .0)) q
+-- Where the bytes start with a header, the number is that of the first of the rows 22 to 25 that applies; where none does the header's width, height and maxval are handed back
+pub sizes-says-found : {c : SizesCall} {w h m : ℕ} {rest : List ℕ} → ReadsSizes c → Header (c .bytes) w h m rest
+    → sizesSays (c .answer) ≡ says (first (headRows w h m ++ rasterRows w h m (length rest))) (w, h, m)
+sizes-says-found {c} ran g = ap sizesSays (sizes-ends ran) ∙ found-says (c .bytes) g
 
--- where it is not, the number is the header's, 20 or 21
-pub sizes-says-misfit : (κs : Lfts 1) (a : Dens κs sizes.ps) (r : resT sizes.r κs .Denot) (s : AtExit (endedOf 1 sizes.ps sizes.r) κs) (n : ℕ)
-    → read-sizes.Post κs a r s → headerOf (now (a .0)) ≡ Head.Refused n → (sizesSays r ≡ refused n) × ((n ≡ 20) ⊎ (n ≡ 21))
-sizes-says-misfit κs a r s n p q = (ap sizesSays p ∙ misfit-says (now (a .0)) q, refused-number (now (a .0)) q)
+-- "behind `P5`, a `#` instead of white space or a digit is 21"
+pub sizes-says-hash : {c : SizesCall} → ReadsSizes c → Hash (c .bytes) → sizesSays (c .answer) ≡ refused 21
+sizes-says-hash {c} ran g = ap sizesSays (sizes-ends ran) ∙ hash-says (c .bytes) g
+
+-- "and any other misfit, or the end of input, is 20"
+pub sizes-says-misfit : {c : SizesCall} → ReadsSizes c → ((w h m : ℕ) (rest : List ℕ) → Header (c .bytes) w h m rest → ⊥) → (Hash (c .bytes) → ⊥)
+    → sizesSays (c .answer) ≡ refused 20
+sizes-says-misfit {c} ran header hash = ap sizesSays (sizes-ends ran) ∙ other-says (c .bytes) header hash
 
 -- the same of greys: the first row that applies, "22, 23, 24, 25, 27, 26"; where none does there is no value to hand back
-pub greys-says : (κs : Lfts 2) (a : Dens κs greys.ps) (r : resT greys.r κs .Denot) (s : AtExit (endedOf 2 greys.ps greys.r) κs) → read-greys.Post κs a r s
-    → turnedSays r
-    ≡ says (first (greyRows (now (a .0)) (a .1 .0) (a .1 .1 .0) (a .1 .1 .1 .0) (a .1 .1 .1 .1 .0) (length (now (a .1 .1 .1 .1 .1 .0))))) tt
-greys-says κs a r s p = ap (λ (x : Greyed). turnedSays (x .answer)) p ∙ turned-says _ _ _ _ _ _
+pub greys-says : {g : GreysCall} → Greys g
+    → turnedSays (g .answer) ≡ says (first (turnRows (g .bytes) (g .start) (g .width) (g .height) (g .maxval) (length (g .target)))) tt
+greys-says ran = ap (λ (x : Greyed). turnedSays (x .answer)) (greys-ends ran) ∙ table-says (greys-table _ _ _ _ _ _)
 
 -- the same of write: the first row that applies, "22, 23, 2, 26, 27"; where none does it "returns the byte count"
-pub write-says : (κs : Lfts 2) (a : Dens κs write.ps) (r : resT write.r κs .Denot) (s : AtExit (endedOf 2 write.ps write.r) κs) → write-reads.Post κs a r s
-    → writtenSays r
-    ≡ says (first (writeRows (now (a .0)) (a .1 .0) (a .1 .1 .0) (a .1 .1 .1 .0) (length (now (a .1 .1 .1 .1 .0)))))
-    (length (fileOf (now (a .0)) (a .1 .0) (a .1 .1 .0) (a .1 .1 .1 .0)))
-write-says κs a r s p = ap (λ (x : Wrote). writtenSays (x .answer)) p ∙ written-says _ _ _ _ _
+pub write-says : {c : WriteCall} → Writes c
+    → writtenSays (c .answer)
+    ≡ says (first (writeRows (c .pixels) (c .width) (c .height) (c .maxval) (length (c .out)))) (length (fileOf (c .pixels) (c .width) (c .height) (c .maxval)))
+write-says ran = ap (λ (x : Wrote). writtenSays (x .answer)) (write-ends ran) ∙ table-says (write-table _ _ _ _ _)
 
 -- ---- a refusal keeps lent memory
 
 -- demand 1, "after a refusal all lent memory holds what it held before", of greys: the target
-pub greys-refusal-keeps : (κs : Lfts 2) (a : Dens κs greys.ps) (r : resT greys.r κs .Denot) (s : AtExit (endedOf 2 greys.ps greys.r) κs) (n : ℕ)
-    → read-greys.Post κs a r s → turnedSays r ≡ refused n → now (s .1 .1 .1 .1 .1 .0) ≡ now (a .1 .1 .1 .1 .1 .0)
-greys-refusal-keeps κs a r s n p q = greys-kept _ _ _ _ _ _ _ n (ap (λ y. greyedAs y (now (s .1 .1 .1 .1 .1 .0))) (sym (turned-refused r q)) ∙ p)
+pub greys-refusal-keeps : {g : GreysCall} (n : ℕ) → Greys g → turnedSays (g .answer) ≡ refused n → g .target′ ≡ g .target
+greys-refusal-keeps n ran q =
+    let x = greys-ends ran in
+    ap (λ (y : Greyed). y .target) (x ∙ table-kept (greys-table _ _ _ _ _ _) (sym (ap (λ (y : Greyed). turnedSays (y .answer)) x) ∙ q))
 
 -- the same of write: the output
-pub write-refusal-keeps : (κs : Lfts 2) (a : Dens κs write.ps) (r : resT write.r κs .Denot) (s : AtExit (endedOf 2 write.ps write.r) κs) (n : ℕ)
-    → write-reads.Post κs a r s → writtenSays r ≡ refused n → now (s .1 .1 .1 .1 .0) ≡ now (a .1 .1 .1 .1 .0)
-write-refusal-keeps κs a r s n p q = write-kept _ _ _ _ _ _ n (ap (λ y. wroteAs y (now (s .1 .1 .1 .1 .0))) (sym (written-refused r q)) ∙ p)
+pub write-refusal-keeps : {c : WriteCall} (n : ℕ) → Writes c → writtenSays (c .answer) ≡ refused n → c .out′ ≡ c .out
+write-refusal-keeps n ran q =
+    let x = write-ends ran in
+    ap (λ (y : Wrote). y .out) (x ∙ table-kept (write-table _ _ _ _ _) (sym (ap (λ (y : Wrote). writtenSays (y .answer)) x) ∙ q))
 
--- "A refusal hands back an empty part.": where read of these bytes, asked for the sizes, says a refusal, the raster is empty
-pub raster-refusal-empty : (κs : Lfts 1) (a : Dens κs raster.ps) (r : resT raster.r κs .Denot) (s : AtExit (endedOf 1 raster.ps raster.r) κs) (n : ℕ)
-    → read-raster.Post κs a r s → sizesSays (sizesOf (readOf (now (a .0)))) ≡ refused n → now r ≡ []
-raster-refusal-empty κs a r s n p q = p ∙ refused-part (now (a .0)) (read-refuses (readOf (now (a .0))) q)
+-- ---- the raster
+
+-- "Read is asked twice over the same bytes": for the sizes, z, and for the raster, k
+pub record ReadTwice (z : SizesCall) (k : RasterCall) : Type 0 where
+  pub sizes : ReadsSizes z
+  pub raster : ReadsRaster k
+  pub same : z .bytes ≡ k .bytes
+
+module _ {z : SizesCall} {k : RasterCall} (twice : ReadTwice z k) where
+  found : z .answer ≡ sizesOf (readOf (k .bytes))
+  found = sizes-ends (twice .sizes) ∙ ap (λ s. sizesOf (readOf s)) (twice .same)
+
+  -- "the raster handed back as that part of the caller's bytes": all that stands behind the header, as many bytes as the sizes and maxval ask
+  pub raster-exactly : {w h m : ℕ} → sizesSays (z .answer) ≡ accepted (w, h, m) → Header (k .bytes) w h m (k .part) × (length (k .part) ≡ rasterSize w h m)
+  raster-exactly q = rw (raster-ends (twice .raster)) (raster-behind (k .bytes) (sym (ap sizesSays found) ∙ q))
+
+  -- "A refusal hands back an empty part."
+  pub raster-refusal-empty : (n : ℕ) → sizesSays (z .answer) ≡ refused n → k .part ≡ []
+  raster-refusal-empty n q = raster-ends (twice .raster) ∙ refused-part (readOf (k .bytes)) (k .bytes) (sym (ap sizesSays found) ∙ q)
 
 -- ---- a film written and read back, call by call
 
--- one call of write: what it was handed, how many bytes it answered, and what it left
-module _ (κs : Lfts 2) (a : Dens κs write.ps) (r₀ : resT write.r κs .Denot) (s : AtExit (endedOf 2 write.ps write.r) κs) (n : ℕ)
-    (wrote : write-reads.Post κs a r₀ s) (bytes : writtenSays r₀ ≡ accepted n) where
-  -- those bytes hold the film
-  back : SameFilm (take n (now (s .1 .1 .1 .1 .0))) (now (a .0)) (a .1 .0) (a .1 .1 .0) (a .1 .1 .1 .0)
-  back = same-film _ _ _ _ _ _ n (ap (λ y. wroteAs y (now (s .1 .1 .1 .1 .0))) (sym (written-bytes r₀ bytes)) ∙ wrote)
+-- a film written and read back: write said n bytes, read was asked twice over those bytes, and greys were asked of what it handed back: the sizes and maxval,
+-- and bytes in which the raster stands from the start on
+pub record ReadBack (c : WriteCall) (n : ℕ) (z : SizesCall) (k : RasterCall) (g : GreysCall) : Type 0 where
+  pub writes : Writes c
+  pub written : writtenSays (c .answer) ≡ accepted n
+  pub reads : ReadTwice z k
+  pub file : k .bytes ≡ take n (c .out′)
+  pub turns : Greys g
+  pub sizes : sizesSays (z .answer) ≡ accepted (g .width, g .height, g .maxval)
+  pub raster : drop (g .start) (g .bytes) ≡ k .part
+  pub room : g .width * g .height ≤ length (g .target)
 
-  -- demand 2, "a film written and read back is the same film": read over those bytes answers the film's width, height and maxval
-  pub sizes-read-back : (κ : Lfts 1) (b : Dens κ sizes.ps) (r : resT sizes.r κ .Denot) (t : AtExit (endedOf 1 sizes.ps sizes.r) κ)
-      → now (b .0) ≡ take n (now (s .1 .1 .1 .1 .0)) → read-sizes.Post κ b r t → sizesSays r ≡ accepted (a .1 .0, a .1 .1 .0, a .1 .1 .1 .0)
-  unfolding sizesSays
-  sizes-read-back κ b r t e p = ap sizesSays (p ∙ (ap (λ x. sizesOf (readOf x)) e ∙ back .sizes))
+-- the raster stands so in the part that read handed back, from 0 on
+pub part-handed : (k : RasterCall) (g : GreysCall) → g .bytes ≡ k .part → g .start ≡ 0 → drop (g .start) (g .bytes) ≡ k .part
+part-handed k g part zero = rw (part, zero) refl
 
-  -- and greys of the part that read hands back, in a target with room, leave the film's greys
-  pub greys-read-back : (κ : Lfts 1) (b : Dens κ raster.ps) (r : resT raster.r κ .Denot) (t : AtExit (endedOf 1 raster.ps raster.r) κ)
-      (κ′ : Lfts 2) (g : Dens κ′ greys.ps) (r′ : resT greys.r κ′ .Denot) (t′ : AtExit (endedOf 2 greys.ps greys.r) κ′)
-      → now (b .0) ≡ take n (now (s .1 .1 .1 .1 .0)) → read-raster.Post κ b r t
-      → now (g .0) ≡ now r → g .1 .0 ≡ 0 → g .1 .1 .0 ≡ a .1 .0 → g .1 .1 .1 .0 ≡ a .1 .1 .0 → g .1 .1 .1 .1 .0 ≡ a .1 .1 .1 .0
-      → a .1 .0 * a .1 .1 .0 ≤ length (now (g .1 .1 .1 .1 .1 .0)) → read-greys.Post κ′ g r′ t′
-      → (turnedSays r′ ≡ accepted tt) × (now (t′ .1 .1 .1 .1 .1 .0) ≡ onto (now (g .1 .1 .1 .1 .1 .0)) (now (a .0)))
-  unfolding turnedSays
-  greys-read-back κ b r t κ′ g r′ t′ e p i z w h m l q =
-      let x : greyedAs r′ (now (t′ .1 .1 .1 .1 .1 .0)) ≡ greyedAs Turned.Done (onto (now (g .1 .1 .1 .1 .1 .0)) (now (a .0))) =
-      q ∙ (rw (i, p, e, z, w, h, m) (back .greys (now (g .1 .1 .1 .1 .1 .0)) l)) in
-      (ap (λ (y : Greyed). turnedSays (y .answer)) x, ap (λ (y : Greyed). y .target) x)
+-- and in the whole file, from where that part starts
+pub whole-handed : {k : RasterCall} (g : GreysCall) → ReadsRaster k → g .bytes ≡ k .bytes → g .start ≡ length (k .bytes) - length (k .part) → drop (g .start) (g .bytes) ≡ k .part
+whole-handed {k} g ran whole start = rw (whole, start, raster-ends ran) (go (readOf (k .bytes)) refl)
+  where
+    go : (x : Head) → readOf (k .bytes) ≡ x → drop (length (k .bytes) - length (rasterOf x (k .bytes))) (k .bytes) ≡ rasterOf x (k .bytes)
+    go (Head.Found w h m at) e =
+        let l : at ≤ length (k .bytes) = read-within (k .bytes) e in
+        let z : length (k .bytes) - length (drop at (k .bytes)) ≡ at = rw length-drop (omega arith) in
+        ap (λ i. drop i (k .bytes)) z
+    go (Head.Refused n) e = drop-of-length-le (k .bytes) {i = length (k .bytes) - 0} (omega arith)
+
+-- a film that write accepted, laying down n bytes
+module _ {c : WriteCall} {n : ℕ} (ran : Writes c) (written : writtenSays (c .answer) ≡ accepted n) where
+  laid : writtenSays (writeOf (c .pixels) (c .width) (c .height) (c .maxval) (c .out) .answer) ≡ accepted n
+  laid = sym (ap (λ (x : Wrote). writtenSays (x .answer)) (write-ends ran)) ∙ written
+
+  none : first (writeRows (c .pixels) (c .width) (c .height) (c .maxval) (length (c .out))) ≡ 0
+  none = written-none _ _ _ _ _ laid
+
+  file : take n (c .out′) ≡ fileOf (c .pixels) (c .width) (c .height) (c .maxval)
+  file = ap (λ (x : Wrote). take n (x .out)) (write-ends ran) ∙ written-file _ _ _ _ (c .out) laid
+
+  -- demand 2, "a film written and read back is the same film": read over those bytes says the film's width, height and maxval
+  pub sizes-read-back : {z : SizesCall} → ReadsSizes z → z .bytes ≡ take n (c .out′) → sizesSays (z .answer) ≡ accepted (c .width, c .height, c .maxval)
+  sizes-read-back read same =
+      ap sizesSays (sizes-ends read) ∙ ap (λ s. sizesSays (sizesOf (readOf s))) (same ∙ file) ∙ file-sizes _ _ _ _ (length (c .out)) none
+
+module _ {c : WriteCall} {n : ℕ} {z : SizesCall} {k : RasterCall} {g : GreysCall} (way : ReadBack c n z k g) where
+  bytes : k .bytes ≡ fileOf (c .pixels) (c .width) (c .height) (c .maxval)
+  bytes = way .file ∙ file (way .writes) (way .written)
+
+  -- the sizes and maxval that read says are the film's
+  same : {w h m : ℕ} → sizesSays (z .answer) ≡ accepted (w, h, m) → (w ≡ c .width) × (h ≡ c .height) × (m ≡ c .maxval)
+  same {w} {h} {m} q =
+      let e = sym q ∙ sizes-read-back (way .writes) (way .written) (way .reads .sizes) (way .reads .same ∙ way .file) in
+      let v : _≡_ {A = ℕ × ℕ × ℕ} (w, h, m) (c .width, c .height, c .maxval) = cc in
+      (ap (λ (x : ℕ × ℕ × ℕ). x .0) v, ap (λ (x : ℕ × ℕ × ℕ). x .1) v, ap (λ (x : ℕ × ℕ × ℕ). x .2) v)
+
+  wide : g .width ≡ c .width
+  wide = same (way .sizes) .0
+
+  high : g .height ≡ c .height
+  high = same (way .sizes) .1
+
+  deep : g .maxval ≡ c .maxval
+  deep = same (way .sizes) .2
+
+  -- and greys of what read handed back, the part alone or the whole file with the raster's start, leave the film's greys in a target with room
+  pub greys-read-back : (turnedSays (g .answer) ≡ accepted tt) × (g .target′ ≡ onto (g .target) (c .pixels))
+  greys-read-back =
+      let x = greys-ends (way .turns) in
+      let y =
+      file-greys (c .pixels) (c .width) (c .height) (c .maxval) (length (c .out)) (none (way .writes) (way .written)) (g .bytes) (g .start) (g .target)
+      (way .raster ∙ raster-ends (way .reads .raster) ∙ ap (λ s. rasterOf (readOf s) s) bytes) (rw (← wide, ← high) (way .room)) in
+      (ap (λ (a : Greyed). turnedSays (a .answer)) x ∙ rw (wide, high, deep) (y .0), ap (λ (a : Greyed). a .target) x ∙ rw (wide, high, deep) (y .1))
+
+  -- the same from the file's side: those greys, written with the sizes and maxval that read gave into any output with room, are the same bytes
+  pub same-bytes : {x : WriteCall} → Writes x → sizesSays (z .answer) ≡ accepted (x .width, x .height, x .maxval) → x .pixels ≡ take (x .width * x .height) (g .target′) → n ≤ length (x .out)
+      → (writtenSays (x .answer) ≡ accepted n) × (x .out′ ≡ onto (x .out) (take n (c .out′)))
+  same-bytes {x} again sizes pixels room =
+      let v = same sizes in
+      let p : x .pixels ≡ c .pixels =
+      pixels
+      ∙ ap (take (x .width * x .height)) (greys-read-back .1)
+      ∙ take-onto (g .target) (c .pixels) (x .width * x .height) (rw (v .0, v .1) (file-pixels (c .pixels) (c .width) (c .height) (c .maxval) (length (c .out)) written)) in
+      let e : wroteAs (x .answer) (x .out′) ≡ writeOf (c .pixels) (c .width) (c .height) (c .maxval) (x .out) = write-ends again ∙ rw (p, v .0, v .1, v .2) refl in
+      let count : length (fileOf (c .pixels) (c .width) (c .height) (c .maxval)) ≡ n = written-count _ _ _ _ (c .out) (laid (way .writes) (way .written)) in
+      let y = file-again (c .pixels) (c .width) (c .height) (c .maxval) (length (c .out)) written (x .out) (omega arith) in (
+        ap (λ (a : Wrote). writtenSays (a .answer)) e ∙ y .0 ∙ ap accepted count,
+        ap (λ (a : Wrote). a .out) e ∙ y .1 ∙ ap (onto (x .out)) (sym (file (way .writes) (way .written))),
+      )
+    where
+      written : first (writeRows (c .pixels) (c .width) (c .height) (c .maxval) (length (c .out))) ≡ 0
+      written = none (way .writes) (way .written)

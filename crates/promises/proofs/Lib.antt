@@ -2,11 +2,13 @@ pub mod Numbers
 pub mod Accepted
 pub mod Handed
 pub mod Reuse
+pub mod Runs
 pub mod Outcomes
 pub mod Demand1
 pub mod Demand2
 pub mod Windows
 pub mod Calls
 pub mod Demand3
+pub mod Clipping
 pub mod Files
 pub mod FileOutcomes

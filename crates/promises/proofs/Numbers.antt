@@ -6,7 +6,8 @@ use lib.Ieee.{ofBits}
 use Rattle.lists.specs.Lists.{tab, total}
 use Rattle.limit.specs.Limit.{isOne, limitOf, tooTight}
 use Rattle.clip.specs.Clip.{excess, share, left, walk, starts, clipped}
-use Rattle.tile.specs.Tile.{binOf, mappedOf, mappingOf}
+use Rattle.binning.specs.Binning.{binOf}
+use Rattle.tile.specs.Tile.{mappedOf, mappingOf}
 use Rattle.blend.specs.Blend.{placeOf, greyOf}
 use Rattle.promises.specs.Worked.{same, greyAt, holds, allHold, worked}
 

@@ -1,40 +1,69 @@
 -- Document 01, "How tight the promises are", of prepare, enhance and draw: "any two outcomes it allows are equal".
--- `Post` is the contract itself: of the arguments a, an answer r and the lent memory x at the end.
+-- Of every two runs of a call, by its contract, with the same arguments and the same in lent memory (Runs); more, with the same in what the call reads of them.
 -- Assumes nothing.
 use mathlib.Core.Path.{_≡_, sym, ap, _∙_}
-use contract.Lifetimes.{Lfts}
-use denote.Ref.{now}
-use denote.Triple.Clauses.{AtExit}
-use borrow.Fn.Kinds.{Dens, endedOf, resT}
-use Rattle.prepare.specs.Prepare.{Ended, Over}
-use Rattle.prepare.proofs.prepare.Kinds as prepare
-use Rattle.prepare.proofs.prepare.Reads as prepare-reads
-use Rattle.prepare.proofs.enhance.Kinds as enhance
-use Rattle.prepare.proofs.enhance.Reads as enhance-reads
-use Rattle.draw.specs.Draw.{Shows}
-use Rattle.draw.proofs.draw.Kinds as draw
-use Rattle.draw.proofs.draw.Reads as draw-reads
+use lib.ListN.{take}
+use Rattle.settings.specs.Settings.{entriesOf, keptOf, recordOf}
+use Rattle.prepare.specs.Prepare.{Ended, prepareOf, Over, enhanceOf}
+use Rattle.draw.specs.Draw.{Shows, drawOf}
+use Rattle.promises.proofs.Handed.{prepare-kept, enhance-kept, draw-kept, draw-kept-record, draw-front}
+use Rattle.promises.proofs.Runs.{PrepareCall, Prepares, prepare-given, prepare-read, prepare-ends, EnhanceCall, Enhances, enhance-given, enhance-read, enhance-ends, DrawCall, Draws, draw-given, draw-read, draw-ends}
+
+-- ---- what is read
+
+-- "Bins B: 2 to 4096. 0 means 128.": prepare answers and leaves the same for 0 as for 128
+pub prepare-alike : {p q : PrepareCall} → Prepares p → Prepares q → prepare-read p ≡ prepare-read q
+    → (p .answer ≡ q .answer) × (p .map′ ≡ q .map′) × (p .scratch′ ≡ q .scratch′)
+prepare-alike {p} {q} x y same =
+    let e =
+    prepare-ends x
+    ∙ sym (prepare-kept (p .film) (p .width) (p .height) (p .pixels) (p .settings) (p .map) (p .scratch))
+    ∙ ap (λ g. prepareOf (g .0) (g .1) (g .2) (g .3) (g .4) (g .5) (g .6)) same
+    ∙ prepare-kept (q .film) (q .width) (q .height) (q .pixels) (q .settings) (q .map) (q .scratch)
+    ∙ sym (prepare-ends y) in
+    (ap (λ (z : Ended). z .answer) e, ap (λ (z : Ended). z .map) e, ap (λ (z : Ended). z .scratch) e)
+
+-- and so does enhance
+pub enhance-alike : {e f : EnhanceCall} → Enhances e → Enhances f → enhance-read e ≡ enhance-read f
+    → (e .answer ≡ f .answer) × (e .pixels′ ≡ f .pixels′) × (e .map′ ≡ f .map′) × (e .scratch′ ≡ f .scratch′)
+enhance-alike {e} {f} x y same =
+    let k =
+    enhance-ends x
+    ∙ sym (enhance-kept (e .width) (e .height) (e .pixels) (e .settings) (e .map) (e .scratch))
+    ∙ ap (λ g. enhanceOf (g .0) (g .1) (g .2) (g .3) (g .4) (g .5)) same
+    ∙ enhance-kept (f .width) (f .height) (f .pixels) (f .settings) (f .map) (f .scratch)
+    ∙ sym (enhance-ends y) in
+    (ap (λ (z : Over). z .answer) k, ap (λ (z : Over). z .picture) k, ap (λ (z : Over). z .map) k, ap (λ (z : Over). z .scratch) k)
+
+-- what draw shows is what it shows of what it reads
+shown : (d : DrawCall)
+    → drawOf (d .film) (d .width) (d .height) (d .pixels) (keptOf (d .settings)) (recordOf (d .kept .film) (d .kept .width) (d .kept .height) (d .kept .settings)) (d .window)
+    (take (entriesOf (d .settings)) (d .map)) (d .out)
+    ≡ drawOf (d .film) (d .width) (d .height) (d .pixels) (d .settings) (d .kept) (d .window) (d .map) (d .out)
+shown d =
+    draw-kept (d .film) (d .width) (d .height) (d .pixels) (d .settings) _ (d .window) _ (d .out)
+    ∙ draw-kept-record (d .film) (d .width) (d .height) (d .pixels) (d .settings) (d .kept) (d .window) _ (d .out)
+    ∙ draw-front (d .film) (d .width) (d .height) (d .pixels) (d .settings) (d .kept) (d .window) (d .map) (d .out)
+
+-- and draw, where the same is so of the record, and of the map buffer nothing is read but the mappings' entries
+pub draw-alike : {d f : DrawCall} → Draws d → Draws f → draw-read d ≡ draw-read f → (d .answer ≡ f .answer) × (d .out′ ≡ f .out′)
+draw-alike {d} {f} x y same =
+    let e = draw-ends x ∙ sym (shown d) ∙ ap (λ g. drawOf (g .0) (g .1) (g .2) (g .3) (g .4) (g .5) (g .6) (g .7) (g .8)) same ∙ shown f ∙ sym (draw-ends y) in
+    (ap (λ (z : Shows). z .answer) e, ap (λ (z : Shows). z .out) e)
+
+-- ---- any two outcomes are equal
 
 -- prepare: one answer, one map buffer and one scratch at the end
-pub prepare-determined : (κs : Lfts 3) (a : Dens κs prepare.ps) (r r′ : resT prepare.r κs .Denot) (x x′ : AtExit (endedOf 3 prepare.ps prepare.r) κs)
-    → prepare-reads.Post κs a r x → prepare-reads.Post κs a r′ x′
-    → (r ≡ r′) × (now (x .1 .1 .1 .1 .1 .0) ≡ now (x′ .1 .1 .1 .1 .1 .0)) × (now (x .1 .1 .1 .1 .1 .1 .0) ≡ now (x′ .1 .1 .1 .1 .1 .1 .0))
-prepare-determined κs a r r′ x x′ p q =
-    let e = p ∙ sym q in
-    (ap (λ (y : Ended). y .answer) e, ap (λ (y : Ended). y .map) e, ap (λ (y : Ended). y .scratch) e)
+pub prepare-determined : {p q : PrepareCall} → Prepares p → Prepares q → prepare-given p ≡ prepare-given q
+    → (p .answer ≡ q .answer) × (p .map′ ≡ q .map′) × (p .scratch′ ≡ q .scratch′)
+prepare-determined x y same = prepare-alike x y (ap (λ g. (g .0, g .1, g .2, g .3, keptOf (g .4), g .5, g .6)) same)
 
 -- enhance: one answer, one picture, one map buffer and one scratch at the end
-pub enhance-determined : (κs : Lfts 3) (a : Dens κs enhance.ps) (r r′ : resT enhance.r κs .Denot) (x x′ : AtExit (endedOf 3 enhance.ps enhance.r) κs)
-    → enhance-reads.Post κs a r x → enhance-reads.Post κs a r′ x′
-    → (r ≡ r′) × (now (x .1 .1 .0) ≡ now (x′ .1 .1 .0)) × (now (x .1 .1 .1 .1 .0) ≡ now (x′ .1 .1 .1 .1 .0)) × (now (x .1 .1 .1 .1 .1 .0) ≡ now (x′ .1 .1 .1 .1 .1 .0))
-enhance-determined κs a r r′ x x′ p q =
-    let e = p ∙ sym q in
-    (ap (λ (y : Over). y .answer) e, ap (λ (y : Over). y .picture) e, ap (λ (y : Over). y .map) e, ap (λ (y : Over). y .scratch) e)
+pub enhance-determined : {e f : EnhanceCall} → Enhances e → Enhances f → enhance-given e ≡ enhance-given f
+    → (e .answer ≡ f .answer) × (e .pixels′ ≡ f .pixels′) × (e .map′ ≡ f .map′) × (e .scratch′ ≡ f .scratch′)
+enhance-determined x y same = enhance-alike x y (ap (λ g. (g .0, g .1, g .2, keptOf (g .3), g .4, g .5)) same)
 
 -- draw: one answer and one output at the end
-pub draw-determined : (κs : Lfts 3) (a : Dens κs draw.ps) (r r′ : resT draw.r κs .Denot) (x x′ : AtExit (endedOf 3 draw.ps draw.r) κs)
-    → draw-reads.Post κs a r x → draw-reads.Post κs a r′ x′
-    → (r ≡ r′) × (now (x .1 .1 .1 .1 .1 .1 .1 .1 .0) ≡ now (x′ .1 .1 .1 .1 .1 .1 .1 .1 .0))
-draw-determined κs a r r′ x x′ p q =
-    let e = p ∙ sym q in
-    (ap (λ (y : Shows). y .answer) e, ap (λ (y : Shows). y .out) e)
+pub draw-determined : {d f : DrawCall} → Draws d → Draws f → draw-given d ≡ draw-given f → (d .answer ≡ f .answer) × (d .out′ ≡ f .out′)
+draw-determined x y same =
+    draw-alike x y (ap (λ g. (g .0, g .1, g .2, g .3, keptOf (g .4), recordOf (g .5 .film) (g .5 .width) (g .5 .height) (g .5 .settings), g .6, take (entriesOf (g .4)) (g .7), g .8)) same)

@@ -1,7 +1,7 @@
 -- A film that prepare accepted: other buffers that are long enough are accepted too, and so is a window inside it with what prepare left.
 -- Assumes nothing.
 use Prim.Native.Nat.{ℕ, _+_, _*_, _≤_, _<_}
-use mathlib.Core.Bool.{Bool, true, false, not, _&&_}
+use mathlib.Core.Bool.{Bool, true, false, not, _&&_, cond}
 use mathlib.Core.List.{List, [], _∷_, _++_}
 use mathlib.Core.Path.{_≡_, refl, sym, ap, _∙_}
 use native.Mathlib.Nat.{mul-comm, mul-le-mul-right}
@@ -11,26 +11,26 @@ use lib.ListN.{length, take}
 use borrow.Author.Tests.{le-ltb, ne-eqb, eq-eqb}
 use Rattle.lists.specs.Lists.{onto, all}
 use Rattle.lists.proofs.Fills.{length-onto}
-use Rattle.refuse.specs.Refuse.{row, first}
+use Rattle.refuse.specs.Refuse.{row, first, accepted}
 use Rattle.refuse.proofs.Walk.{first-none, none-first, none-front, none-behind}
-use Rattle.tile.specs.Tile.{within, greysOf}
-use Rattle.tile.proofs.Greys.{greys-all}
+use Rattle.scan.specs.Scan.{within}
+use Rattle.tally.specs.Tally.{greysOf}
+use Rattle.tally.proofs.Greys.{greys-all}
 use Rattle.settings.specs.declared.Settings.{Settings}
 use Rattle.settings.specs.declared.MapRecord.{MapRecord}
 use Rattle.settings.specs.declared.Footer.{Footer}
 use Rattle.settings.specs.declared.Window.{Window}
-use Rattle.settings.specs.Settings.{binsOf, entriesOf, keptOf, recordOf, clipOne, sizeRows, gridRows, greyRows, roomRows, sharedRows}
+use Rattle.settings.specs.Settings.{binsOf, entriesOf, keptOf, clipOne, sizeRows, gridRows, greyRows, roomRows, sharedRows}
 use Rattle.settings.proofs.Ready.{shared-numbered, shared-room}
 use Rattle.render.specs.Render.{rectOf, whole}
-use Rattle.prepare.specs.declared.Prepared.the-variants as Prepared
-use Rattle.prepare.specs.Prepare.{mappings, prepareRows, stays, Ended, prepareOf, preparedOf, Work, TilesAsk}
+use Rattle.prepare.specs.Prepare.{mappings, prepareRows, preparedSays, Ended, prepareOf, preparedOf, Work, TilesAsk}
 use Rattle.prepare.proofs.Table.{table-numbered, table-over, work}
 use Rattle.prepare.proofs.Films.{length-mappings, mappings-within}
 use Rattle.prepare.proofs.Renders.{laid-front}
 use Rattle.draw.specs.Draw.{recordRows, windowRows, pixelRows, drawRows}
 use Rattle.draw.proofs.Laws.{bins-kept, own-record}
 use Rattle.draw.proofs.Tables.{draw-pixel}
-use Rattle.promises.proofs.Accepted.{prepare-accepts, prepare-done, prepare-work, prepare-hands}
+use Rattle.promises.proofs.Accepted.{prepare-accepts, prepare-work, prepare-done, prepare-record}
 use Rattle.promises.proofs.Handed.{kept-same}
 
 -- the same film with another map buffer that is long enough
@@ -78,21 +78,9 @@ window-greys p w h pic win whole across down g =
 
 -- ---- what prepare left
 
--- an answer has one footer
-pub prepared-foot : {r r′ : MapRecord} {foot foot′ : Footer} → Prepared.Done r foot ≡ Prepared.Done r′ foot′ → foot ≡ foot′
-prepared-foot e = cc
-
--- and one record
-prepared-record : {r r′ : MapRecord} {foot foot′ : Footer} → Prepared.Done r foot ≡ Prepared.Done r′ foot′ → r ≡ r′
-prepared-record e = cc
-
-module _ (film w h : ℕ) (pic : List ℕ) (s : Settings) (m t : List ℕ) {r : MapRecord} {foot : Footer} (done : prepareOf film w h pic s m t .answer ≡ Prepared.Done r foot) where
-  -- the record is the one of this film
-  pub left-record : recordOf film w h s ≡ r
-  left-record = prepared-record (prepare-hands film w h pic s m t done)
-
+module _ (film w h : ℕ) (pic : List ℕ) (s : Settings) (m t : List ℕ) {r : MapRecord} {foot : Footer} (done : preparedSays (prepareOf film w h pic s m t .answer) ≡ accepted (r, foot)) where
   -- at the factor 1.0 the map buffer stays; else it holds the mappings
-  pub left-map : prepareOf film w h pic s m t .map ≡ stays (clipOne (s .clip)) m (onto m (mappings w h pic s))
+  pub left-map : prepareOf film w h pic s m t .map ≡ cond (clipOne (s .clip)) m (onto m (mappings w h pic s))
   unfolding preparedOf
   left-map = ap (λ (x : Ended). x .map) (prepare-done film w h pic s m t done)
 
@@ -100,7 +88,7 @@ module _ (film w h : ℕ) (pic : List ℕ) (s : Settings) (m t : List ℕ) {r : 
   pub left-length : length (prepareOf film w h pic s m t .map) ≡ length m
   left-length = ap length left-map ∙ go (clipOne (s .clip))
     where
-      go : (b : Bool) → length (stays b m (onto m (mappings w h pic s))) ≡ length m
+      go : (b : Bool) → length (cond b m (onto m (mappings w h pic s))) ≡ length m
       go true = refl
       go false = length-onto m (mappings w h pic s) (omega (arith, length-mappings w h pic s, prepare-work film w h pic s m t done .ready .fitting))
 
@@ -110,11 +98,11 @@ module _ (film w h : ℕ) (pic : List ℕ) (s : Settings) (m t : List ℕ) {r : 
 
   -- the record's own settings are kept as the same
   pub left-settings : keptOf (r .settings) ≡ keptOf s
-  left-settings = ap (λ (x : MapRecord). keptOf (x .settings)) (sym left-record) ∙ kept-same s (keptOf s) refl refl (bins-kept s) refl refl refl
+  left-settings = ap (λ (x : MapRecord). keptOf (x .settings)) (sym (prepare-record film w h pic s m t done)) ∙ kept-same s (keptOf s) refl refl (bins-kept s) refl refl refl
 
   -- with a factor that is not 1.0 the mappings lie there
   pub left-laid : clipOne (s .clip) ≡ false → prepareOf film w h pic s m t .map ≡ onto m (mappings w h pic s)
-  left-laid one = left-map ∙ ap (λ b. stays b m (onto m (mappings w h pic s))) one
+  left-laid one = left-map ∙ ap (λ b. cond b m (onto m (mappings w h pic s))) one
 
   -- so what the tiles ask is met
   pub left-asks : clipOne (s .clip) ≡ false → TilesAsk w h pic s (length m) (length t)
@@ -141,6 +129,6 @@ module _ (film w h : ℕ) (pic : List ℕ) (s : Settings) (m t : List ℕ) {r : 
   draw-free win room wide high across down area =
       sym (draw-pixel film w h pic s r win (prepareOf film w h pic s m t .map) room {a = 0} {b = 0} {c = 0} {x = 0}
       (sym (ap (λ n. first (sharedRows w h (length pic) s n)) left-length ∙ rows-shared w h pic s (length m) (length t) (prepare-accepts film w h pic s m t done))) refl
-      (sym (ap (λ x. first (recordRows film w h s x)) (sym left-record) ∙ own-record film w h s (prepare-work film w h pic s m t done .ready .clip))) refl
+      (sym (ap (λ x. first (recordRows film w h s x)) (sym (prepare-record film w h pic s m t done)) ∙ own-record film w h s (prepare-work film w h pic s m t done .ready .clip))) refl
       (sym (window-free w h win room wide high across down area)) refl
       (sym (pixels-free win across down)))

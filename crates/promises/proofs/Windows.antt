@@ -2,51 +2,39 @@
 -- Assumes nothing.
 use Prim.Native.Nat.{ℕ, _+_, _*_, _≤_, _<_}
 use native.Mathlib.Omega.{arith}
-use mathlib.Core.Bool.{true, false}
+use mathlib.Core.Bool.{true, false, cond}
 use mathlib.Core.List.{List}
 use mathlib.Core.Path.{_≡_, refl, sym, ap, _∙_, subst}
-use lib.Ieee.{down}
 use lib.ListN.{length, getD, take}
-use Rattle.limit.specs.Limit.{accepted}
-use Rattle.tile.specs.Tile.{greysOf}
+use Rattle.refuse.specs.Refuse.{accepted}
+use Rattle.tally.specs.Tally.{greysOf}
 use Rattle.settings.specs.declared.Settings.{Settings}
 use Rattle.settings.specs.declared.MapRecord.{MapRecord}
 use Rattle.settings.specs.declared.Footer.{Footer}
 use Rattle.settings.specs.declared.Window.{Window}
 use Rattle.settings.specs.Settings.{binsOf, entriesOf, recordOf, clipOne}
-use Rattle.render.specs.Render.{renderOf, rectOf}
-use Rattle.prepare.specs.declared.Prepared.the-variants as Prepared
-use Rattle.prepare.specs.Prepare.{prepareOf, enhanceOf}
+use Rattle.render.specs.Render.{rectOf}
+use Rattle.prepare.specs.Prepare.{preparedSays, prepareOf, enhanceOf}
 use Rattle.draw.specs.declared.Drawn.the-variants.{Done}
-use Rattle.draw.specs.Draw.{drawnOf, Shows, showing, drawOf, Held, DrawReady}
+use Rattle.draw.specs.Draw.{drawnSays, Shows, showing, drawOf, Held, DrawReady}
 use Rattle.settings.proofs.Clips.{same-clip-one}
 use Rattle.render.proofs.Laws.{render-fields}
 use Rattle.draw.proofs.Laws.{bins-kept}
 use Rattle.draw.proofs.Tables.{draw-ready}
-use Rattle.draw.proofs.Works.{ends-well}
 use Rattle.promises.specs.Films.{ruleGrey, HandedOn}
-use Rattle.promises.proofs.Accepted.{prepare-work, draw-accepts}
-use Rattle.promises.proofs.Reuse.{left-record}
+use Rattle.promises.proofs.Accepted.{table-accepted, table-done, prepare-work, prepare-record, draw-table}
 use Rattle.promises.proofs.Demand2.{draw-agrees, drawn-is-enhanced, own-window, drawn-is-film}
 
--- ---- a window that is accepted
-
-module _ (film w h : ℕ) (pic : List ℕ) (s : Settings) (r : MapRecord) (win : Window) (m out : List ℕ) (drawn : drawOf film w h pic s r win m out .answer ≡ Done) where
-  -- it ends as the rules say
-  draw-done : drawOf film w h pic s r win m out
-      ≡ showing Done (drawnOf (clipOne (s .clip)) (greysOf pic w (rectOf win)) (renderOf w h s m win (greysOf pic w (rectOf win))))
-  draw-done = sym (ends-well film w h pic s r win m out (sym (draw-accepts film w h pic s r win m out drawn)) refl refl)
-
 -- a window that draw accepted, with the record that prepare made, the pixels as they were then, and the mappings that it left
-module _ (film w h : ℕ) (pic : List ℕ) (s : Settings) (m t : List ℕ) {r : MapRecord} {foot : Footer} (done : prepareOf film w h pic s m t .answer ≡ Prepared.Done r foot)
-    (film′ w′ h′ : ℕ) (s′ : Settings) (m′ : List ℕ) (win : Window) (out : List ℕ) (drawn : drawOf film′ w′ h′ pic s′ r win m′ out .answer ≡ Done)
+module _ (film w h : ℕ) (pic : List ℕ) (s : Settings) (m t : List ℕ) {r : MapRecord} {foot : Footer} (done : preparedSays (prepareOf film w h pic s m t .answer) ≡ accepted (r, foot))
+    (film′ w′ h′ : ℕ) (s′ : Settings) (m′ : List ℕ) (win : Window) (out : List ℕ) (drawn : drawnSays (drawOf film′ w′ h′ pic s′ r win m′ out .answer) ≡ accepted tt)
     (front : clipOne (s .clip) ≡ false → take (entriesOf s) m′ ≡ take (entriesOf s) (prepareOf film w h pic s m t .map)) where
   known : DrawReady film′ w′ h′ pic s′ r win m′ (length out)
-  known = draw-ready film′ w′ h′ pic s′ r win m′ (length out) (draw-accepts film′ w′ h′ pic s′ r win m′ out drawn)
+  known = draw-ready film′ w′ h′ pic s′ r win m′ (length out) (table-accepted (draw-table film′ w′ h′ pic s′ r win m′ out) drawn .0)
 
   -- it has the film's number and sizes, and its settings
   held : Held film′ w′ h′ s′ (recordOf film w h s)
-  held = subst (Held film′ w′ h′ s′) (sym (left-record film w h pic s m t done)) (known .held)
+  held = subst (Held film′ w′ h′ s′) (sym (prepare-record film w h pic s m t done)) (known .held)
 
   bins : binsOf s′ ≡ binsOf s
   bins = held .bins ∙ bins-kept s
@@ -71,10 +59,10 @@ module _ (film w h : ℕ) (pic : List ℕ) (s : Settings) (m t : List ℕ) {r : 
   -- and it is drawn as with the film's own number, sizes and settings
   pub accepted-same : drawOf film′ w′ h′ pic s′ r win m′ out ≡ drawOf film w h pic s r win m′ out
   accepted-same =
-      draw-done film′ w′ h′ pic s′ r win m′ out drawn
+      table-done (draw-table film′ w′ h′ pic s′ r win m′ out) drawn
       ∙ rw (held .wide, held .high, same-clip-one (s′ .clip) (s .clip) (known .shown .ready .clip) (prepare-work film w h pic s m t done .ready .clip) (held .clip))
-      (ap (λ ys. showing Done (drawnOf (clipOne (s .clip)) greys ys)) (render-fields w h s s′ m′ win greys (held .across) (held .down) bins (held .least) (held .most)))
-      ∙ sym (draw-done film w h pic s r win m′ out (ap (λ (x : Shows). x .answer) (draw-agrees film w h pic s m t done s m′ win out accepted-handed)))
+      (ap (λ ys. showing Done (cond (clipOne (s .clip)) greys ys)) (render-fields w h s s′ m′ win greys (held .across) (held .down) bins (held .least) (held .most)))
+      ∙ sym (table-done (draw-table film w h pic s r win m′ out) (draw-agrees film w h pic s m t done s m′ win out accepted-handed))
     where
       greys : List ℕ
       greys = greysOf pic w (rectOf win)
@@ -96,4 +84,4 @@ module _ (film w h : ℕ) (pic : List ℕ) (s : Settings) (m t : List ℕ) {r : 
   pub accepted-as-enhanced : (m₂ t₂ : List ℕ) → entriesOf s ≤ length m₂ → binsOf s ≤ length t₂ → (j i : ℕ) → j < win .height → i < win .width
       → getD (drawOf film′ w′ h′ pic s′ r win m′ out .out) (j * win .width + i) 0 ≡ getD (enhanceOf w h pic s m₂ t₂ .picture) ((win .top + j) * w + (win .left + i)) 0
   accepted-as-enhanced m₂ t₂ room scratch j i l k =
-      ap (λ (x : Shows). getD (x .out) (j * win .width + i) 0) accepted-same ∙ drawn-is-enhanced film w h pic s m t done s m′ win out accepted-handed m₂ t₂ room scratch .2 j i l k
+      ap (λ (x : Shows). getD (x .out) (j * win .width + i) 0) accepted-same ∙ drawn-is-enhanced film w h pic s m t done s m′ win out accepted-handed m₂ t₂ room scratch j i l k

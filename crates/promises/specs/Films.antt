@@ -1,4 +1,4 @@
--- What the promises speak of: the grey of a pixel by document 01's rule, the footer by the clip setting, what holds of each tile
+-- What the promises speak of: the grey of a pixel by document 01's rule, clipping that is on, the footer by the clip setting, what holds of each tile
 -- of an accepted film with clipping on, and fillings of the bins.
 -- w and h are the film's width and height, pic its pixels.
 -- Assumes nothing.
@@ -14,9 +14,12 @@ use Rattle.lists.specs.Lists.{total, all}
 use Rattle.refuse.specs.Refuse.{Row, row}
 use Rattle.limit.specs.declared.Clip.{Clip}
 use Rattle.limit.specs.declared.Clip.the-variants.{Off, Factor}
-use Rattle.limit.specs.Limit.{isOne, limitOf, usedOf}
+use Rattle.limit.specs.Limit.{isOne, AboveOne, limitOf, usedOf}
 use Rattle.clip.specs.Clip.{share}
-use Rattle.tile.specs.Tile.{within, binOf, greysOf, countsOf, mappedOf, tileCounts}
+use Rattle.scan.specs.Scan.{within}
+use Rattle.binning.specs.Binning.{binOf}
+use Rattle.tally.specs.Tally.{greysOf, countsOf}
+use Rattle.tile.specs.Tile.{mappedOf, tileCounts}
 use Rattle.settings.specs.declared.Settings.{Settings}
 use Rattle.settings.specs.declared.Footer.{Footer}
 use Rattle.settings.specs.declared.Window.{Window}
@@ -47,6 +50,19 @@ ruleGrey w h pic s x y =
     let value = tileValue w h pic s (getD pic (y * w + x) 0) in
     greyOf column row (value (row .lower) (column .lower)) (value (row .lower) (column .upper)) (value (row .upper) (column .lower)) (value (row .upper) (column .upper))
 
+-- ---- the clip setting
+
+-- "With clipping on (a factor above one)": the clip setting is the factor f, and f is above 1.0
+pub record ClippingOn (clip : Clip) (f : Float) : Type 0 where
+  pub factor : clip ≡ Factor f
+  pub above : AboveOne f
+
+-- "The clip setting is one of two: off, or a factor", which is "exactly 1.0" or above one
+pub data ClipCase (clip : Clip) : Type 0 where
+  clip-off : clip ≡ Off → ClipCase clip
+  clip-one : (f : Float) → clip ≡ Factor f → isOne f ≡ true → ClipCase clip
+  clip-on : (f : Float) → ClippingOn clip f → ClipCase clip
+
 -- ---- the footer
 
 -- a footer of L, the factor asked and the factor used
@@ -60,7 +76,7 @@ pub record FooterShows (clip : Clip) (n b : ℕ) (foot : Footer) : Type 0 where
   -- "Factor 1.0: L 0, both 1.0"
   pub unchanged : (f : Float) → clip ≡ Factor f → isOne f ≡ true → foot ≡ footer 0 one one
   -- "a footer record with L, the factor asked as f32 and the factor used as f64: L x B and N are each converted exactly and divided once"
-  pub above : (f : Float) → clip ≡ Factor f → isOne f ≡ false → foot ≡ footer (limitOf f n b) f (usedOf (limitOf f n b) b n)
+  pub above : (f : Float) → ClippingOn clip f → foot ≡ footer (limitOf f n b) f (usedOf (limitOf f n b) b n)
 
 -- ---- what a station hands on to draw
 
@@ -105,6 +121,12 @@ pub record TileSound (lo hi n b l : ℕ) (raw clipped : List ℕ) (entry : ℕ �
   -- and from Min to the first bin by at most as much
   pub begins : entry 0 ≤ lo + steepest lo hi n l
 
+-- "in every tile of a film": all of that of each tile, with the limit l and the map buffer m that holds the tiles' mappings
+abbrev pub FilmSound : ℕ → ℕ → List ℕ → Settings → ℕ → List ℕ → Type 0
+FilmSound w h pic s l m =
+    (k : ℕ) → k < s .across * s .down
+    → TileSound (s .min) (s .max) (tilePixels w h s) (binsOf s) l (rawCounts w h pic s k) (clippedCounts w h pic s k) (λ b. getD m (k * binsOf s + b) 0)
+
 -- the rows 1 to 13, which stand before the clip refusal in "01's order": `prepareRows` without its last row, so 12 and 13 stand here once more (Demand3: `rows-split`)
 unfoldable pub earlierRows : ℕ → ℕ → List ℕ → Settings → ℕ → ℕ → List Row
 earlierRows w h pic s room scratch =
@@ -119,3 +141,7 @@ pub record Filling (l b n : ℕ) : Type 0 where
   pub bins : length counts ≡ b
   pub under : (i : ℕ) → i < b → getD counts i 0 ≤ l
   pub holds : total counts ≡ n
+
+-- the same of the tiles of a film, with the limit of the factor f
+abbrev pub FilmFilling : ℕ → ℕ → Settings → Float → Type 0
+FilmFilling w h s f = Filling (limitOf f (tilePixels w h s) (binsOf s)) (binsOf s) (tilePixels w h s)

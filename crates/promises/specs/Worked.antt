@@ -9,7 +9,8 @@ use lib.Ieee.{ofBits, binary32}
 use Rattle.limit.specs.declared.Clip.the-variants.{Factor}
 use Rattle.limit.specs.Limit.{limitOf, tooTight}
 use Rattle.clip.specs.Clip.{clipped}
-use Rattle.tile.specs.Tile.{binOf, mappingOf}
+use Rattle.binning.specs.Binning.{binOf}
+use Rattle.tile.specs.Tile.{mappingOf}
 use Rattle.blend.specs.Blend.{placeOf, greyOf}
 
 -- two lists of numbers are the same

@@ -1,14 +1,14 @@
 -- Laws of refusal tables: a walk along the rows, tables one behind the other, and what an accepting table tells.
 -- Assumes nothing.
-use Prim.Native.Nat.{ℕ}
-use mathlib.Core.Bool.{Bool, true, false}
+use Prim.Native.Nat.{ℕ, suc, zero}
+use mathlib.Core.Bool.{Bool, true, false, cond}
 use mathlib.Core.List.{List, [], _∷_, _++_}
 use mathlib.Core.Logic.{_≢_, _↔_}
 use mathlib.Core.Path.{_≡_, refl, sym, _∙_}
 use native.Mathlib.Omega.{arith}
 use lib.Dec.{eqb}
 use borrow.Author.Tests.{eqb-true, eqb-false}
-use Rattle.refuse.specs.Refuse.{Row, row, pick, first, None, Numbered, Past}
+use Rattle.refuse.specs.Refuse.{Row, row, first, unless, None, Numbered, Past}
 
 -- ---- one row
 
@@ -76,10 +76,10 @@ numbered-append [] t h k = k
 numbered-append (row n b ∷ s) t h k = (h .0, numbered-append s t (h .1) k)
 
 -- two tables give the first one's number, and the second one's where the first gives 0
-pub first-append : (s t : List Row) → Numbered s → first (s ++ t) ≡ pick (eqb (first s) 0) (first t) (first s)
+pub first-append : (s t : List Row) → Numbered s → first (s ++ t) ≡ cond (eqb (first s) 0) (first t) (first s)
 first-append s t k = which (eqb (first s) 0) refl
   where
-    which : (b : Bool) → eqb (first s) 0 ≡ b → first (s ++ t) ≡ pick (eqb (first s) 0) (first t) (first s)
+    which : (b : Bool) → eqb (first s) 0 ≡ b → first (s ++ t) ≡ cond (eqb (first s) 0) (first t) (first s)
     which true e = rw e (first-behind s t (first-none s k (eqb-true (first s) 0 e)))
     which false e = rw e (first-front s t (eqb-false (first s) 0 e))
 
@@ -127,3 +127,10 @@ front s t {r} e h = e ∙ sym (first-front s t (λ z. h (e ∙ z)))
 -- the table in front gives 0, so what the rest answers is the whole one's
 pub behind : (s t : List Row) {r x : ℕ} → Numbered s → r ≡ first s → r ≡ 0 → x ≡ first t → x ≡ first (s ++ t)
 behind s t {r} {x} k e z q = q ∙ sym (first-behind s t (first-none s k (sym e ∙ z)))
+
+-- ---- what a number leaves
+
+-- a number other than 0 is a refusal
+pub unless-refused : {A : Type 0} (n : ℕ) (kept : ℕ → A) (done : A) → (n ≡ 0 → ⊥) → kept n ≡ unless n kept done
+unless-refused zero kept done z = absurd (z refl)
+unless-refused (suc n) kept done z = refl

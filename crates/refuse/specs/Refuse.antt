@@ -1,7 +1,7 @@
 -- Document 01, the refusal table: "The first that applies is given."
 -- Assumes nothing.
 use Prim.Native.Nat.{ℕ, zero, suc, _<_}
-use mathlib.Core.Bool.{Bool, true, false}
+use mathlib.Core.Bool.{Bool, false, cond}
 use mathlib.Core.List.{List, [], _∷_}
 use mathlib.Core.Path.{_≡_}
 
@@ -9,15 +9,15 @@ use mathlib.Core.Path.{_≡_}
 pub data Row : Type 0 where
   row : ℕ → Bool → Row
 
--- the number, where the row applies, else what the rows behind it give
-abbrev pub pick : Bool → ℕ → ℕ → ℕ
-pick true n rest = n
-pick false n rest = rest
-
 -- the number of the first row that applies, and 0 where none does
 unfoldable pub first : List Row → ℕ
 first [] = 0
-first (row n b ∷ rows) = pick b n (first rows)
+first (row n b ∷ rows) = cond b n (first rows)
+
+-- "A refusal returns its number alone": where a row applies, what its number leaves, and where none does, what the call does
+abbrev pub unless : {A : Type 0} → ℕ → (ℕ → A) → A → A
+unless zero kept done = done
+unless (suc n) kept done = kept (suc n)
 
 -- no row applies
 abbrev pub None : List Row → Type 0
@@ -40,5 +40,4 @@ pub data Says (A : Type 0) : Type 0 where
 
 -- what a call says where n is the number of the first row that applies
 abbrev pub says : {A : Type 0} → ℕ → A → Says A
-says zero v = accepted v
-says (suc n) v = refused (suc n)
+says n v = unless n refused (accepted v)

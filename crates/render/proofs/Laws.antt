@@ -14,14 +14,16 @@ use Rattle.lists.proofs.Fills.{length-joined, joined-cong, take-onto}
 use Rattle.lists.proofs.Blocks.{getD-joined, block-fits}
 use Rattle.lists.proofs.Windows.{getD-front}
 use Rattle.lists.proofs.Alls.{all-at, all-joined, all-tab}
-use Rattle.tile.specs.Tile.{within, binOf, greysOf}
-use Rattle.tile.proofs.Greys.{getD-greys}
+use Rattle.scan.specs.Scan.{within}
+use Rattle.binning.specs.Binning.{binOf}
+use Rattle.tally.specs.Tally.{greysOf}
+use Rattle.tally.proofs.Greys.{getD-greys}
 use Rattle.blend.specs.declared.Place.{Place}
 use Rattle.blend.specs.Blend.{greyOf}
 use Rattle.settings.specs.declared.Settings.{Settings}
 use Rattle.settings.specs.declared.Window.{Window}
 use Rattle.settings.specs.Settings.{binsOf, entriesOf, Ready}
-use Rattle.render.specs.Render.{mappedAt, pixelOf, renderedOf, renderOf, whole, rectOf, Mapped, Shown, PixelAsks}
+use Rattle.render.specs.Render.{mappedAt, pixelOf, renderedOf, renderOf, whole, rectOf, Fits, Mapped, Shown, PixelAsks}
 use Rattle.render.proofs.Pixels.{entry-index, pixel-bin, pixel-within}
 use Rattle.render.proofs.Rows.{pixel-asks}
 use Rattle.render.proofs.Strips.{strip, length-strip, render-strips}
@@ -129,36 +131,30 @@ front-onto s d m h = take-onto d (take (entriesOf s) m) (entriesOf s) (length-ta
 
 -- ---- what a call knows once no refusal applies
 
--- a number that is no remainder away from a product
-pub parts : (n k : ℕ) → n % k ≡ 0 → n ≡ n / k * k
-parts n k e = omega (arith, div-add-mod' n k)
-
 -- a factor of a number above 0 is above 0
-pub factor-some : (n q k : ℕ) → n ≡ q * k → 0 < n → 0 < q
+factor-some : (n q k : ℕ) → n ≡ q * k → 0 < n → 0 < q
 factor-some n zero k e h = omega (arith, zero-mul k)
 factor-some n (suc q) k e h = omega arith
 
--- a side of at most 4096 pixels, in 2 parts or more
-pub part-most : (n k : ℕ) → n ≤ 4096 → 2 ≤ k → n / k ≤ 2048
-part-most n k h l = div-le-of-le-mul k (omega (arith, mul-le-mul-right 2048 l))
+-- a side of 1 to 4096 pixels, in 2 to 16 parts with nothing left over
+part-fits : (n k : ℕ) → k ≤ 16 → 0 < n → n ≤ 4096 → 2 ≤ k → n % k ≡ 0 → Fits n k
+part-fits n k few some most two none =
+    let whole : n ≡ n / k * k = omega (arith, div-add-mod' n k) in
+    record { few = few; some = factor-some n (n / k) k whole some; most = div-le-of-le-mul k (omega (arith, mul-le-mul-right 2048 two)); whole = whole }
 
 -- settings that are not refused, and mappings from Min to Max in a buffer that is long enough: pixels can be rendered
 pub ready-mapped : {w h size : ℕ} {s : Settings} {room : ℕ} {m : List ℕ} → Ready w h size s room → length m ≡ room → all (within (s .min) (s .max)) (take (entriesOf s) m) ≡ true
     → Mapped w h s m
 ready-mapped {w} {h} {size} {s} {room} {m} ready e g =
     record {
-      acrossmost = ready .acrossmost;
-      downmost = ready .downmost;
-      range = omega (arith, ready .min);
-      most = ready .max;
-      bins = ready .bins;
-      binsmost = ready .binsmost;
-      wide = factor-some w (w / s .across) (s .across) (parts w (s .across) (ready .columns)) (ready .wide);
-      widest = part-most w (s .across) (ready .widest) (ready .across);
-      high = factor-some h (h / s .down) (s .down) (parts h (s .down) (ready .rows)) (ready .high);
-      highest = part-most h (s .down) (ready .highest) (ready .down);
-      columns = parts w (s .across) (ready .columns);
-      rows = parts h (s .down) (ready .rows);
-      room = rw e (ready .fitting);
-      greys = g;
+      maps =
+          record {
+            across = ready .acrossmost;
+            down = ready .downmost;
+            scale = record { order = omega (arith, ready .min); most = ready .max; some = ready .bins; few = ready .binsmost };
+            room = rw e (ready .fitting);
+            greys = g;
+          };
+      columns = part-fits w (s .across) (ready .acrossmost) (ready .wide) (ready .widest) (ready .across) (ready .columns);
+      rows = part-fits h (s .down) (ready .downmost) (ready .high) (ready .highest) (ready .down) (ready .rows);
     }

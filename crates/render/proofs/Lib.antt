@@ -1,5 +1,9 @@
 pub mod Pixels
 pub mod Runs
+pub mod Sections
 pub mod Rows
 pub mod Strips
 pub mod Laws
+pub mod Bins
+pub mod Pairs
+pub mod Weaving

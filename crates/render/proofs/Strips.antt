@@ -1,21 +1,21 @@
--- The turns of `render`: each row of a window is rendered in its place.
+-- The turns of `render_rows`: each row of a window is rendered in its place.
 -- Assumes nothing.
 use Prim.Native.Nat.{ℕ, _+_, _-_, _*_, _≤_, _<_}
 use mathlib.Core.List.{List}
-use mathlib.Core.Path.{_≡_, refl, sym, ap, ap₂, _∙_}
-use lib.ListN.{length, getD, take, drop, length-drop}
-use lib.Seq.{getD-take, getD-drop, length-take-le}
+use mathlib.Core.Path.{_≡_, refl, sym, ap, _∙_}
+use lib.ListN.{length, getD, take, drop}
 use native.Mathlib.Nat.{mul-le-mul-right}
 use native.Mathlib.Omega.{arith}
 use borrow.Rule.Slice.PartMut.{putMid}
 use Rattle.lists.specs.Lists.{tab, joined, blocks}
 use Rattle.lists.proofs.Tabs.{length-tab, tab-cong}
 use Rattle.lists.proofs.Blocks.{length-blocks, drop-blocks, blocks-step, blocks-end, block-fits}
-use Rattle.lists.proofs.Windows.{blocks-whole}
+use Rattle.lists.proofs.Windows.{blocks-whole, block, getD-block, length-block}
 use Rattle.lists.proofs.Alls.{all-drop, all-take}
 use Rattle.settings.specs.declared.Settings.{Settings}
 use Rattle.settings.specs.declared.Window.{Window}
-use Rattle.render.specs.Render.{renderedOf, rowOf, renderOf, Mapped, Shown, RowAsks}
+use Rattle.render.specs.Render.{renderedOf, rowPlace, rowOf, renderOf, Fits, Mapped, Shown, RowAsks}
+use Rattle.render.proofs.Sections.{place-among}
 
 -- row j of the window, rendered
 abbrev pub strip : ℕ → ℕ → Settings → List ℕ → Window → List ℕ → ℕ → List ℕ
@@ -36,43 +36,40 @@ module _ {w h : ℕ} {s : Settings} {m : List ℕ} {win : Window} {vs : List ℕ
   strip-room {j} l = block-fits (win .width) (win .height) l (omega (arith, asks .1 .size))
 
   -- before row j is rendered it is as it was
-  pub strip-part : {px : List ℕ} (j : ℕ) → px ≡ blocks (win .width) (strip w h s m win vs) vs j
-      → take (j * win .width + win .width - j * win .width) (drop (j * win .width) px) ≡ take (win .width) (drop (j * win .width) vs)
-  strip-part {px} j e =
-      let wide : j * win .width + win .width - j * win .width ≡ win .width = omega arith in
-      ap₂ take wide (ap (drop (j * win .width)) e ∙ drop-blocks (win .width) (strip w h s m win vs) vs j (λ i l. length-strip w h s m win vs i))
-
-  -- and has the window's width
-  pub length-part : {j : ℕ} → j < win .height → length (take (win .width) (drop (j * win .width) vs)) ≡ win .width
-  length-part {j} l = length-take-le (win .width) (drop (j * win .width) vs) (rw length-drop (omega (arith, strip-room l)))
+  strip-part : {px : List ℕ} (j : ℕ) → px ≡ blocks (win .width) (strip w h s m win vs) vs j → block px j (win .width) ≡ block vs j (win .width)
+  strip-part j e = ap (take (j * win .width + win .width - j * win .width)) (ap (drop (j * win .width)) e ∙ drop-blocks (win .width) (strip w h s m win vs) vs j (λ i l. length-strip w h s m win vs i))
 
   -- what rendering row j asks
   pub strip-asks : {px : List ℕ} {j : ℕ} → px ≡ blocks (win .width) (strip w h s m win vs) vs j → j < win .height
-      → RowAsks w h s m (win .left) (win .top + j) (take (j * win .width + win .width - j * win .width) (drop (j * win .width) px))
+      → Fits h (s .down) × (win .top + j < h) × RowAsks w s m (win .left) (rowPlace h s (win .top + j)) (block px j (win .width))
   strip-asks {px} {j} e l =
-      rw (strip-part j e)
-      record {
-        mapped = asks .0;
-        across = omega (arith, length-part l, asks .1 .across);
-        down = omega (arith, asks .1 .down);
-        greys = all-take _ (win .width) (drop (j * win .width) vs) (all-drop _ (j * win .width) vs (asks .1 .greys));
-      }
+      let below : win .top + j < h = omega (arith, asks .1 .down) in
+      rw (strip-part j e) (
+        asks .0 .rows,
+        below,
+        record {
+          maps = asks .0 .maps;
+          columns = asks .0 .columns;
+          across = omega (arith, length-block vs j (win .width) (strip-room l), asks .1 .across);
+          row = place-among (asks .0 .rows) below;
+          greys = all-take _ (j * win .width + win .width - j * win .width) (drop (j * win .width) vs) (all-drop _ (j * win .width) vs (asks .1 .greys));
+        },
+      )
 
   -- row j, rendered
-  pub strip-is : {j : ℕ} → j < win .height → rowOf w h s m (win .left) (win .top + j) (take (win .width) (drop (j * win .width) vs)) ≡ strip w h s m win vs j
-  unfolding rowOf
+  strip-is : {j : ℕ} → j < win .height → rowOf w s m (win .left) (rowPlace h s (win .top + j)) (block vs j (win .width)) ≡ strip w h s m win vs j
+  unfolding rowOf renderedOf
   strip-is {j} l =
-      ap (λ n. tab n (λ i. renderedOf w h s m (win .left + i) (win .top + j) (getD (take (win .width) (drop (j * win .width) vs)) i 0))) (length-part l)
-      ∙ tab-cong (win .width)
-      (λ i k. ap (renderedOf w h s m (win .left + i) (win .top + j)) (getD-take (win .width) (drop (j * win .width) vs) i 0 k ∙ getD-drop (j * win .width) vs i 0))
+      ap (λ n. tab n (λ i. renderedOf w h s m (win .left + i) (win .top + j) (getD (block vs j (win .width)) i 0))) (length-block vs j (win .width) (strip-room l))
+      ∙ tab-cong (win .width) (λ i k. ap (renderedOf w h s m (win .left + i) (win .top + j)) (getD-block vs j (win .width) i k))
 
   -- one row more
   pub strips-next : {px ys : List ℕ} {j : ℕ} → px ≡ blocks (win .width) (strip w h s m win vs) vs j → j < win .height
-      → ys ≡ rowOf w h s m (win .left) (win .top + j) (take (j * win .width + win .width - j * win .width) (drop (j * win .width) px))
+      → ys ≡ rowOf w s m (win .left) (rowPlace h s (win .top + j)) (block px j (win .width))
       → putMid (j * win .width) (j * win .width + win .width - j * win .width) px ys ≡ blocks (win .width) (strip w h s m win vs) vs (j + 1)
   strips-next {px} {ys} {j} e l q =
       blocks-step (win .width) (strip w h s m win vs) vs (λ i k. length-strip w h s m win vs i) e
-      (q ∙ ap (rowOf w h s m (win .left) (win .top + j)) (strip-part j e) ∙ strip-is l)
+      (q ∙ ap (rowOf w s m (win .left) (rowPlace h s (win .top + j))) (strip-part j e) ∙ strip-is l)
 
   -- the length stays
   pub strips-length : {px : List ℕ} {j : ℕ} → px ≡ blocks (win .width) (strip w h s m win vs) vs j → j ≤ win .height → length px ≡ length vs

@@ -1,19 +1,22 @@
 -- Document 01, "From mappings to grey": pixels of the rendered film, from mappings that lie tile by tile in a map buffer.
 -- w and h are the film's width and height, m the map buffer.
 -- Assumes nothing.
-use Prim.Native.Nat.{ℕ, _+_, _*_, _≤_, _<_}
+use Prim.Native.Nat.{ℕ, _+_, _-_, _*_, _/_, _≤_, _<_}
 use mathlib.Core.Bool.{true}
 use mathlib.Core.List.{List}
 use mathlib.Core.Path.{_≡_}
 use lib.ListN.{length, getD, take}
 use Rattle.lists.specs.Lists.{tab, joined, all}
-use Rattle.tile.specs.Tile.{binOf, within}
-use Rattle.tile.specs.declared.Rect.{Rect}
+use Rattle.scan.specs.Scan.{within}
+use Rattle.binning.specs.Binning.{binOf, factorOf}
+use Rattle.tally.specs.Tally.{Scale}
+use Rattle.tally.specs.declared.Rect.{Rect}
 use Rattle.blend.specs.declared.Place.{Place}
-use Rattle.blend.specs.Blend.{placeOf, greyOf, Sound, moved}
+use Rattle.blend.specs.Blend.{placeOf, greyOf, pairOf, sidesOf, Sound, moved, Run}
 use Rattle.settings.specs.declared.Settings.{Settings}
 use Rattle.settings.specs.declared.Window.{Window}
 use Rattle.settings.specs.Settings.{binsOf, entriesOf, tileWidth, tileHeight}
+use Rattle.render.specs.declared.Section.{Section}
 
 -- the mapped value of bin k of the tile in tile row j and tile column i: "tiles row by row, bins upward"
 unfoldable pub mappedAt : Settings → List ℕ → ℕ → ℕ → ℕ → ℕ
@@ -29,17 +32,61 @@ pixelOf s m column row v =
     (mappedAt s m (row .upper) (column .lower) k)
     (mappedAt s m (row .upper) (column .upper) k)
 
+-- the place of column x among the tiles across
+abbrev pub columnPlace : ℕ → Settings → ℕ → Place
+columnPlace w s x = placeOf (tileWidth w s) (s .across) x
+
+-- and of row y among the tiles down
+abbrev pub rowPlace : ℕ → Settings → ℕ → Place
+rowPlace h s y = placeOf (tileHeight h s) (s .down) y
+
 -- the rendered grey of the pixel in column x and row y, whose grey is v
 unfoldable pub renderedOf : ℕ → ℕ → Settings → List ℕ → ℕ → ℕ → ℕ → ℕ
-renderedOf w h s m x y v = pixelOf s m (placeOf (tileWidth w s) (s .across) x) (placeOf (tileHeight h s) (s .down) y) v
+renderedOf w h s m x y v = pixelOf s m (columnPlace w s x) (rowPlace h s y) v
 
--- a row of rendered pixels from column `left` on; vs are their greys
-unfoldable pub rowOf : ℕ → ℕ → Settings → List ℕ → ℕ → ℕ → List ℕ → List ℕ
-rowOf w h s m left y vs = tab (length vs) (λ i. renderedOf w h s m (left + i) y (getD vs i 0))
+-- a row of rendered pixels from column `left` on, at the row's place; vs are their greys
+unfoldable pub rowOf : ℕ → Settings → List ℕ → ℕ → Place → List ℕ → List ℕ
+rowOf w s m left row vs = tab (length vs) (λ i. pixelOf s m (columnPlace w s (left + i)) row (getD vs i 0))
 
 -- rendered pixels between the same tiles: vs are their greys, and the weights move along from the first one's place
 unfoldable pub runOf : Settings → List ℕ → Place → Place → List ℕ → List ℕ
 runOf s m column row vs = tab (length vs) (λ i. pixelOf s m (moved column i) row (getD vs i 0))
+
+-- ---- by pairs
+
+-- the entries of a row of tiles
+abbrev pub rowEntries : Settings → ℕ
+rowEntries s = s .across * binsOf s
+
+-- entry n of the pairs at a row's place: the mapped values n entries into the tiles above and below, each by the row's weight
+unfoldable pub pairAt : Settings → List ℕ → Place → ℕ → ℕ
+pairAt s m row n = pairOf row (getD m (row .lower * rowEntries s + n) 0) (getD m (row .upper * rowEntries s + n) 0)
+
+-- the pairs of two lists, entry by entry
+unfoldable pub pairsOf : Place → List ℕ → List ℕ → List ℕ
+pairsOf row low high = tab (length low) (λ n. pairOf row (getD low n 0) (getD high n 0))
+
+-- the bins of greys vs
+unfoldable pub binnedOf : Settings → List ℕ → List ℕ
+binnedOf s vs = tab (length vs) (λ i. binOf (s .min) (s .max) (binsOf s) (getD vs i 0))
+
+-- pixels of bins ks between the same tiles, from the pairs of each bin on the left and on the right
+unfoldable pub wovenOf : Place → Place → List ℕ → List ℕ → List ℕ → List ℕ
+wovenOf column row l r ks = tab (length ks) (λ i. sidesOf (moved column i) row (getD l (getD ks i 0) 0) (getD r (getD ks i 0) 0))
+
+-- the grey of a pixel of bin k from the pairs of the whole row, which lie tile by tile
+unfoldable pub wovenAt : Settings → List ℕ → Place → Place → ℕ → ℕ
+wovenAt s ps column row k = sidesOf column row (getD ps (column .lower * binsOf s + k) 0) (getD ps (column .upper * binsOf s + k) 0)
+
+-- such pixels between the same tiles, of bins ks
+unfoldable pub wovenRun : Settings → List ℕ → Place → Place → List ℕ → List ℕ
+wovenRun s ps column row ks = tab (length ks) (λ i. wovenAt s ps (moved column i) row (getD ks i 0))
+
+-- a row of such pixels from column `left` on
+unfoldable pub wovenRow : ℕ → Settings → List ℕ → ℕ → Place → List ℕ → List ℕ
+wovenRow w s ps left row ks = tab (length ks) (λ i. wovenAt s ps (columnPlace w s (left + i)) row (getD ks i 0))
+
+-- ---- a window
 
 -- "the window's pixels row by row": vs are the greys of the window's pixels, row by row
 unfoldable pub renderOf : ℕ → ℕ → Settings → List ℕ → Window → List ℕ → List ℕ
@@ -56,23 +103,26 @@ rectOf win = record { left = win .left; top = win .top; width = win .width; heig
 
 -- ---- what the functions ask
 
--- settings and mappings from which pixels can be rendered: grid, range and bins within document 01's bounds, tiles of a pixel at least,
--- and mapped values from Min to Max
-pub record Mapped (w h : ℕ) (s : Settings) (m : List ℕ) : Type 0 where
-  pub acrossmost : s .across ≤ 16
-  pub downmost : s .down ≤ 16
-  pub range : s .min ≤ s .max
-  pub most : s .max ≤ 4095
-  pub bins : 2 ≤ binsOf s
-  pub binsmost : binsOf s ≤ 4096
-  pub wide : 0 < tileWidth w s
-  pub widest : tileWidth w s ≤ 2048
-  pub high : 0 < tileHeight h s
-  pub highest : tileHeight h s ≤ 2048
-  pub columns : w ≡ tileWidth w s * s .across
-  pub rows : h ≡ tileHeight h s * s .down
+-- a side of whole tiles: 16 at most, each of 1 to 2048 pixels
+pub record Fits (side grid : ℕ) : Type 0 where
+  pub few : grid ≤ 16
+  pub some : 0 < side / grid
+  pub most : side / grid ≤ 2048
+  pub whole : side ≡ side / grid * grid
+
+-- settings and mappings: grid, range and bins within document 01's bounds, and mapped values from Min to Max
+pub record Maps (s : Settings) (m : List ℕ) : Type 0 where
+  pub across : s .across ≤ 16
+  pub down : s .down ≤ 16
+  pub scale : Scale (s .min) (s .max) (binsOf s)
   pub room : entriesOf s ≤ length m
   pub greys : all (within (s .min) (s .max)) (take (entriesOf s) m) ≡ true
+
+-- settings and mappings from which a film's pixels can be rendered
+pub record Mapped (w h : ℕ) (s : Settings) (m : List ℕ) : Type 0 where
+  pub maps : Maps s m
+  pub columns : Fits w (s .across)
+  pub rows : Fits h (s .down)
 
 -- a window inside the film, whose pixels' greys vs lie in Min to Max
 pub record Shown (w h : ℕ) (s : Settings) (win : Window) (vs : List ℕ) : Type 0 where
@@ -81,28 +131,78 @@ pub record Shown (w h : ℕ) (s : Settings) (win : Window) (vs : List ℕ) : Typ
   pub size : length vs ≡ win .height * win .width
   pub greys : all (within (s .min) (s .max)) vs ≡ true
 
--- what `pixel` asks: places among the tiles, a grey from Min to Max, and the mappings
+-- what `pixel` asks: places among the tiles, and a grey from Min to Max
 pub record PixelAsks (s : Settings) (m : List ℕ) (atcolumn atrow : Place) (v : ℕ) : Type 0 where
-  pub acrossmost : s .across ≤ 16
-  pub downmost : s .down ≤ 16
-  pub most : s .max ≤ 4095
-  pub bins : 2 ≤ binsOf s
-  pub binsmost : binsOf s ≤ 4096
-  pub room : entriesOf s ≤ length m
-  pub greys : all (within (s .min) (s .max)) (take (entriesOf s) m) ≡ true
+  pub maps : Maps s m
   pub column : Sound (s .across) 2048 atcolumn
   pub row : Sound (s .down) 2048 atrow
   pub grey : within (s .min) (s .max) v ≡ true
 
--- what `render_row` asks: settings and mappings, a row inside the film from column `left` on, and greys from Min to Max
-pub record RowAsks (w h : ℕ) (s : Settings) (m : List ℕ) (left y : ℕ) (vs : List ℕ) : Type 0 where
-  pub mapped : Mapped w h s m
-  pub across : left + length vs ≤ w
-  pub down : y < h
+-- what `weigh_run` asks: as `pixel`, of each grey, and no more pixels than the weight can move by
+pub record RunAsks (s : Settings) (m : List ℕ) (atcolumn atrow : Place) (vs : List ℕ) : Type 0 where
+  pub maps : Maps s m
+  pub column : Sound (s .across) 2048 atcolumn
+  pub row : Sound (s .down) 2048 atrow
+  pub room : length vs ≤ atcolumn .lowerweight
   pub greys : all (within (s .min) (s .max)) vs ≡ true
 
--- what `render_run` asks: what each pixel asks, no more pixels than the weight can move by, and greys from Min to Max
-pub record RunAsks (s : Settings) (m : List ℕ) (column row : Place) (vs : List ℕ) : Type 0 where
-  pub each : (v : ℕ) → within (s .min) (s .max) v ≡ true → PixelAsks s m column row v
-  pub room : length vs ≤ column .lowerweight
+-- what a row asks: a place among the tiles, pixels inside the film from column `left` on, and greys from Min to Max
+pub record RowAsks (w : ℕ) (s : Settings) (m : List ℕ) (left : ℕ) (atrow : Place) (vs : List ℕ) : Type 0 where
+  pub maps : Maps s m
+  pub columns : Fits w (s .across)
+  pub across : left + length vs ≤ w
+  pub row : Sound (s .down) 2048 atrow
   pub greys : all (within (s .min) (s .max)) vs ≡ true
+
+-- pixels from `at` on, of n: the first one's place, and where those between the same tiles end
+pub record Sectioned (w grid left at n : ℕ) (r : Section) : Type 0 where
+  pub column : r .column ≡ placeOf (w / grid) grid (left + at)
+  pub start : at < r .end
+  pub end : r .end ≤ n
+  pub run : Run (w / grid) grid (left + at) (r .column) (r .end - at)
+
+-- what `pair_up` asks: two lists of one length, whose values are mapped values
+pub record PairAsks (atrow : Place) (low high : List ℕ) (n : ℕ) : Type 0 where
+  pub row : Sound 16 2048 atrow
+  pub lowlength : length low ≡ n
+  pub highlength : length high ≡ n
+  pub lows : (k : ℕ) → k < n → getD low k 0 ≤ 4095
+  pub highs : (k : ℕ) → k < n → getD high k 0 ≤ 4095
+
+-- what bins in the places of greys ask
+pub record BinsAsks (s : Settings) (vs : List ℕ) (factor : ℕ) : Type 0 where
+  pub scale : Scale (s .min) (s .max) (binsOf s)
+  pub greys : all (within (s .min) (s .max)) vs ≡ true
+  pub by : factor ≡ factorOf (s .min) (s .max) (binsOf s)
+
+-- what `weave` asks: sound places, no more pixels than the weight can move by, and for each bin two pairs, no larger than pairs are
+pub record WeaveAsks (atcolumn atrow : Place) (l r ks : List ℕ) : Type 0 where
+  pub column : Sound 16 2048 atcolumn
+  pub row : Sound 16 2048 atrow
+  pub room : length ks ≤ atcolumn .lowerweight
+  pub onleft : (i : ℕ) → i < length ks → getD ks i 0 < length l
+  pub onright : (i : ℕ) → i < length ks → getD ks i 0 < length r
+  pub left : (k : ℕ) → k < length l → getD l k 0 ≤ atrow .span * 4095
+  pub right : (k : ℕ) → k < length r → getD r k 0 ≤ atrow .span * 4095
+
+-- the pairs of a row of tiles: room for each bin of each tile, and no pair larger than pairs are
+pub record Pairs (s : Settings) (ps : List ℕ) (atrow : Place) : Type 0 where
+  pub across : s .across ≤ 16
+  pub few : binsOf s ≤ 4096
+  pub row : Sound 16 2048 atrow
+  pub room : rowEntries s ≤ length ps
+  pub small : (n : ℕ) → n < rowEntries s → getD ps n 0 ≤ atrow .span * 4095
+
+-- what `weave_run` asks: a place among the tiles, bins, and no more pixels than the weight can move by
+pub record WeaveRunAsks (s : Settings) (ps : List ℕ) (atcolumn atrow : Place) (ks : List ℕ) : Type 0 where
+  pub pairs : Pairs s ps atrow
+  pub column : Sound (s .across) 2048 atcolumn
+  pub room : length ks ≤ atcolumn .lowerweight
+  pub bins : (i : ℕ) → i < length ks → getD ks i 0 < binsOf s
+
+-- what `weave_row` asks: pixels inside the film from column `left` on, and bins
+pub record WeaveRowAsks (w : ℕ) (s : Settings) (ps : List ℕ) (left : ℕ) (atrow : Place) (ks : List ℕ) : Type 0 where
+  pub pairs : Pairs s ps atrow
+  pub columns : Fits w (s .across)
+  pub across : left + length ks ≤ w
+  pub bins : (i : ℕ) → i < length ks → getD ks i 0 < binsOf s

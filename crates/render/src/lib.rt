@@ -1,37 +1,22 @@
 // Pixels of the rendered film from mappings: a row in place, and a window in place.
+ghost use mathlib.Core.Bool.{true};
 ghost use mathlib.Core.Path.{_≡_};
-ghost use Prim.Native.Nat.{_*_, _≤_, _<_};
+ghost use Prim.Native.Nat.{_+_, _*_, _≤_, _<_};
 ghost use lib.ListN.{length};
-ghost use Rattle.lists.specs.Lists.{all};
-ghost use Rattle.tile.specs.Tile.{within, factorOf};
-ghost use Rattle.blend.specs.Blend.{Factor};
+ghost use Rattle.lists.specs.Lists.{all, filled};
+ghost use Rattle.scan.specs.Scan.{within};
+ghost use Rattle.binning.specs.Binning.{factorOf};
+ghost use Rattle.tally.specs.Tally.{Scale};
+ghost use Rattle.blend.specs.Blend.{Sound, Inverse, moved};
 ghost use Rattle.settings.specs.Settings.{binsOf};
-ghost use Rattle.render.specs.Render.{mappedAt, pixelOf, runOf, rowOf, renderOf, Mapped, Shown, PixelAsks, RunAsks, RowAsks};
+ghost use Rattle.render.specs.Render.{mappedAt, pixelOf, rowPlace, rowOf, runOf, rowEntries, pairAt, pairsOf, binnedOf, wovenOf, wovenRun, wovenRow, renderOf, Fits, Maps, Mapped, Shown, PixelAsks, RunAsks, RowAsks, Sectioned, PairAsks, BinsAsks, WeaveAsks, WeaveRunAsks, WeaveRowAsks};
 use blend::Place;
 use settings::Settings;
 use settings::Window;
 
-// Whether all these greys lie in Min to Max.
-pub fn all_within(greys: &[u16], min: u32, max: u32) -> bool
-    ensures { λ r. ⌜ r ≡ all (within min max) (now (greys .entry)) ⌝ }
-{
-    let mut k = 0;
-    while k < greys.len() {
-        let v = greys[k] as u32;
-        if v < min {
-            return false;
-        }
-        if max < v {
-            return false;
-        }
-        k += 1;
-    }
-    true
-}
-
 // The mapped value of bin k of the tile in tile row j and tile column i.
 fn mapped(s: Settings, map: &[u16], j: u32, i: u32, k: u32) -> u32
-    requires { ⌜ (j < s .down) × (i < s .across) × (k < binsOf s) × (s .across ≤ 16) × (s .down ≤ 16) × (binsOf s ≤ 4096) × (s .across * s .down * binsOf s ≤ length (now map)) ⌝ }
+    requires { ⌜ Maps s (now map) × (j < s .down) × (i < s .across) × (k < binsOf s) ⌝ }
     ensures { λ r. ⌜ r ≡ mappedAt s (now (map .entry)) j i k ⌝ }
 {
     let tile = (j * s.across + i) as usize;
@@ -41,15 +26,51 @@ fn mapped(s: Settings, map: &[u16], j: u32, i: u32, k: u32) -> u32
 
 // The rendered grey of a pixel of grey v at these places; `by` stands for the division by the spans, `bin` for that by the bin width.
 fn pixel(s: Settings, map: &[u16], column: Place, row: Place, by: u64, bin: u32, v: u32) -> u32
-    requires { ⌜ PixelAsks s (now map) column row v × Factor (column .span * row .span) by × (bin ≡ factorOf (s .min) (s .max) (binsOf s)) ⌝ }
+    requires { ⌜ PixelAsks s (now map) column row v × Inverse (column .span * row .span) by × (bin ≡ factorOf (s .min) (s .max) (binsOf s)) ⌝ }
     ensures { λ r. ⌜ r ≡ pixelOf s (now (map .entry)) column row v ⌝ }
 {
-    let k = tile::bin_by(v, s.min, bin);
+    let k = binning::bin_by(v, s.min, bin);
     let a = mapped(s, map, row.lower, column.lower, k);
     let b = mapped(s, map, row.lower, column.upper, k);
     let c = mapped(s, map, row.upper, column.lower, k);
     let d = mapped(s, map, row.upper, column.upper, k);
     blend::grey_by(column, row, by, a, b, c, d)
+}
+
+// What stands for the division by the product of both spans.
+fn spans_factor(column: Place, row: Place) -> u64
+    requires { ⌜ Sound 16 2048 column × Sound 16 2048 row ⌝ }
+    ensures { λ r. ⌜ Inverse (column .span * row .span) r ⌝ }
+{
+    blend::factor((column.span as u64) * (row.span as u64))
+}
+
+// The place of the pixel i further along between the same tiles.
+fn along(column: Place, i: usize) -> Place
+    requires { ⌜ Sound 16 2048 column × (i ≤ column .lowerweight) ⌝ }
+    ensures { λ r. ⌜ r ≡ moved column i ⌝ }
+{
+    Place {
+        lower: column.lower,
+        upper: column.upper,
+        lowerweight: column.lowerweight - (i as u32),
+        upperweight: column.upperweight + (i as u32),
+        span: column.span,
+    }
+}
+
+// Renders pixels between the same tiles in place: from the first one's place the weights move along. Each pixel is weighed from its four tiles.
+fn weigh_run(pixels: &mut [u16], s: Settings, map: &[u16], column: Place, row: Place, bin: u32)
+    requires { ⌜ RunAsks s (now map) column row (now pixels) × (bin ≡ factorOf (s .min) (s .max) (binsOf s)) ⌝ }
+    ensures { λ _. ⌜ now (pixels .exit) ≡ runOf s (now (map .entry)) column row (now (pixels .entry)) ⌝ }
+{
+    let by = spans_factor(column, row);
+    let mut i = 0;
+    while i < pixels.len() {
+        let place = along(column, i);
+        pixels[i] = pixel(s, map, place, row, by, bin, pixels[i] as u32) as u16;
+        i += 1;
+    }
 }
 
 // The lesser of two lengths.
@@ -62,34 +83,201 @@ fn lesser(a: usize, b: usize) -> usize
     b
 }
 
-// Renders pixels between the same tiles in place: from the first one's place the weights move along.
-fn render_run(
-    pixels: &mut [u16],
-    s: Settings,
-    map: &[u16],
+// Pixels of a row that lie between the same tiles: the first one's place, and where they end.
+struct Section {
     column: Place,
-    row: Place,
-    by: u64,
-    bin: u32,
-)
-    requires { ⌜ RunAsks s (now map) column row (now pixels) × Factor (column .span * row .span) by × (bin ≡ factorOf (s .min) (s .max) (binsOf s)) ⌝ }
-    ensures { λ _. ⌜ now (pixels .exit) ≡ runOf s (now (map .entry)) column row (now (pixels .entry)) ⌝ }
+    end: usize,
+}
+
+// The section that starts at pixel `at` of a row of `len` pixels from column `left` on.
+fn section_from(width: u32, across: u32, left: u32, at: usize, len: usize) -> Section
+    requires { ⌜ Fits width across × (left + len ≤ width) × (at < len) ⌝ }
+    ensures { λ r. ⌜ Sectioned width across left at len r ⌝ }
+{
+    let side = width / across;
+    let x = left + (at as u32);
+    let column = blend::locate(side, across, x);
+    let run = blend::run(column, side, across, x) as usize;
+    let end = at + lesser(run, len - at);
+    Section { column, end }
+}
+
+// Renders a row's pixels in place, from column `left` on: each one is weighed from its four tiles.
+fn weighed_row(pixels: &mut [u16], left: u32, width: u32, s: Settings, map: &[u16], row: Place)
+    requires { ⌜ RowAsks width s (now map) left row (now pixels) ⌝ }
+    ensures { λ _. ⌜ now (pixels .exit) ≡ rowOf width s (now (map .entry)) left row (now (pixels .entry)) ⌝ }
+{
+    let bin = binning::bin_factor(s.min, s.max, settings::bins(s));
+    let len = pixels.len();
+    let mut at = 0;
+    while at < len {
+        let part = section_from(width, s.across, left, at, len);
+        let e = part.end;
+        weigh_run(&mut pixels[at..e], s, map, part.column, row, bin);
+        at = e;
+    }
+}
+
+// Puts each pixel's bin in its place, for at most 256 bins: the products stay in 32 bits, and more pixels go at once.
+fn bins_few(pixels: &mut [u16], s: Settings, bin: u32)
+    requires { ⌜ BinsAsks s (now pixels) bin × (binsOf s ≤ 256) ⌝ }
+    ensures { λ _. ⌜ now (pixels .exit) ≡ binnedOf s (now (pixels .entry)) ⌝ }
 {
     let mut i = 0;
     while i < pixels.len() {
-        let place = Place {
-            lower: column.lower,
-            upper: column.upper,
-            lowerweight: column.lowerweight - (i as u32),
-            upperweight: column.upperweight + (i as u32),
-            span: column.span,
-        };
-        pixels[i] = pixel(s, map, place, row, by, bin, pixels[i] as u32) as u16;
+        pixels[i] = binning::bin_few(pixels[i] as u32, s.min, bin) as u16;
         i += 1;
     }
 }
 
-// Renders pixels of row y in place, from column `left` on.
+// The same for any number of bins.
+fn bins_many(pixels: &mut [u16], s: Settings, bin: u32)
+    requires { ⌜ BinsAsks s (now pixels) bin ⌝ }
+    ensures { λ _. ⌜ now (pixels .exit) ≡ binnedOf s (now (pixels .entry)) ⌝ }
+{
+    let mut i = 0;
+    while i < pixels.len() {
+        pixels[i] = binning::bin_by(pixels[i] as u32, s.min, bin) as u16;
+        i += 1;
+    }
+}
+
+// Puts each pixel's bin in its place.
+fn bins_row(pixels: &mut [u16], s: Settings)
+    requires { ⌜ Scale (s .min) (s .max) (binsOf s) × (all (within (s .min) (s .max)) (now pixels) ≡ true) ⌝ }
+    ensures { λ _. ⌜ now (pixels .exit) ≡ binnedOf s (now (pixels .entry)) ⌝ }
+{
+    let bins = settings::bins(s);
+    let bin = binning::bin_factor(s.min, s.max, bins);
+    if 256 < bins {
+        bins_many(pixels, s, bin);
+        return;
+    }
+    bins_few(pixels, s, bin);
+}
+
+// The same place, its weights shown to fit 16 bits: the compiler then makes short products, more of them at once.
+fn narrow(place: Place) -> Place
+    requires { ⌜ Sound 16 2048 place ⌝ }
+    ensures { λ r. ⌜ r ≡ place ⌝ }
+{
+    Place {
+        lower: place.lower,
+        upper: place.upper,
+        lowerweight: place.lowerweight % 65536,
+        upperweight: place.upperweight % 65536,
+        span: place.span,
+    }
+}
+
+// The pairs of two lists of mapped values, by the row's weights.
+fn pair_up(low: &[u16], high: &[u16], row: Place, out: &mut [u32])
+    requires { ⌜ PairAsks row (now low) (now high) (length (now out)) ⌝ }
+    ensures { λ _. ⌜ now (out .exit) ≡ pairsOf row (now (low .entry)) (now (high .entry)) ⌝ }
+{
+    let place = narrow(row);
+    let mut k = 0;
+    while k < out.len() {
+        out[k] = blend::pair(place, low[k] as u32, high[k] as u32);
+        k += 1;
+    }
+}
+
+// The entries of a row of tiles.
+fn row_entries(s: Settings) -> usize
+    requires { ⌜ (s .across ≤ 16) × (binsOf s ≤ 4096) ⌝ }
+    ensures { λ r. ⌜ r ≡ rowEntries s ⌝ }
+{
+    (s.across * settings::bins(s)) as usize
+}
+
+// What the pixels of one row share: the pairs of each bin in each tile column. A row of tiles lies in the map in one piece.
+fn pair_row(s: Settings, map: &[u16], row: Place, pairs: &mut [u32])
+    requires { ⌜ Maps s (now map) × Sound (s .down) 2048 row × (rowEntries s ≤ length (now pairs)) ⌝ }
+    ensures { λ _. ⌜ now (pairs .exit) ≡ filled (pairAt s (now (map .entry)) row) (now (pairs .entry)) (rowEntries s) ⌝ }
+{
+    let each = row_entries(s);
+    let a = (row.lower as usize) * each;
+    let ae = a + each;
+    let c = (row.upper as usize) * each;
+    let ce = c + each;
+    pair_up(&map[a..ae], &map[c..ce], row, &mut pairs[..each]);
+}
+
+// Renders pixels between the same tiles, whose bins stand in their places, from the pairs on the left and on the right.
+fn weave(pixels: &mut [u16], left: &[u32], right: &[u32], column: Place, row: Place)
+    requires { ⌜ WeaveAsks column row (now left) (now right) (now pixels) ⌝ }
+    ensures { λ _. ⌜ now (pixels .exit) ≡ wovenOf column row (now (left .entry)) (now (right .entry)) (now (pixels .entry)) ⌝ }
+{
+    let by = spans_factor(column, row);
+    let mut i = 0;
+    while i < pixels.len() {
+        let k = pixels[i] as usize;
+        let place = along(column, i);
+        pixels[i] = blend::grey_sides(place, row, by, left[k], right[k]) as u16;
+        i += 1;
+    }
+}
+
+// The same from the pairs of the whole row. A tile's pairs are lent as a part: an offset added in the loop was measured to cost 0.4 ns a pixel.
+fn weave_run(pixels: &mut [u16], s: Settings, pairs: &[u32], column: Place, row: Place)
+    requires { ⌜ WeaveRunAsks s (now pairs) column row (now pixels) ⌝ }
+    ensures { λ _. ⌜ now (pixels .exit) ≡ wovenRun s (now (pairs .entry)) column row (now (pixels .entry)) ⌝ }
+{
+    let bins = settings::bins(s) as usize;
+    let l = (column.lower as usize) * bins;
+    let le = l + bins;
+    let r = (column.upper as usize) * bins;
+    let re = r + bins;
+    weave(pixels, &pairs[l..le], &pairs[r..re], column, row);
+}
+
+// Renders a row's pixels, whose bins stand in their places, from the row's pairs.
+fn weave_row(pixels: &mut [u16], left: u32, width: u32, s: Settings, pairs: &[u32], row: Place)
+    requires { ⌜ WeaveRowAsks width s (now pairs) left row (now pixels) ⌝ }
+    ensures { λ _. ⌜ now (pixels .exit) ≡ wovenRow width s (now (pairs .entry)) left row (now (pixels .entry)) ⌝ }
+{
+    let len = pixels.len();
+    let mut at = 0;
+    while at < len {
+        let part = section_from(width, s.across, left, at, len);
+        let e = part.end;
+        weave_run(&mut pixels[at..e], s, pairs, part.column, row);
+        at = e;
+    }
+}
+
+// The same as `weighed_row`: what the pixels of one bin share is worked out once for the row.
+fn paired_row(
+    pixels: &mut [u16],
+    left: u32,
+    width: u32,
+    s: Settings,
+    map: &[u16],
+    row: Place,
+    pairs: &mut [u32],
+)
+    requires { ⌜ RowAsks width s (now map) left row (now pixels) × (rowEntries s ≤ length (now pairs)) ⌝ }
+    ensures { λ _. ⌜ now (pixels .exit) ≡ rowOf width s (now (map .entry)) left row (now (pixels .entry)) ⌝ }
+{
+    pair_row(s, map, row, pairs);
+    bins_row(pixels, s);
+    weave_row(pixels, left, width, s, pairs, row);
+}
+
+// Whether the pairs of a row fit the room and pay: up to 8 for each of the row's pixels were measured to cost less than they save.
+fn pairs_pay(s: Settings, wide: usize, room: usize) -> bool
+    requires { ⌜ (s .across ≤ 16) × (binsOf s ≤ 4096) ⌝ }
+    ensures { λ r. ⌜ (r ≡ true → rowEntries s ≤ room) ⌝ }
+{
+    let entries = row_entries(s);
+    if room < entries {
+        return false;
+    }
+    entries / 8 <= wide
+}
+
+// Renders pixels of row y in place, from column `left` on; the pairs are room to work in.
 fn render_row(
     pixels: &mut [u16],
     left: u32,
@@ -98,28 +286,29 @@ fn render_row(
     height: u32,
     s: Settings,
     map: &[u16],
+    pairs: &mut [u32],
 )
-    requires { ⌜ RowAsks width height s (now map) left y (now pixels) ⌝ }
-    ensures { λ _. ⌜ now (pixels .exit) ≡ rowOf width height s (now (map .entry)) left y (now (pixels .entry)) ⌝ }
+    requires { ⌜ Fits height (s .down) × (y < height) × RowAsks width s (now map) left (rowPlace height s y) (now pixels) ⌝ }
+    ensures { λ _. ⌜ now (pixels .exit) ≡ rowOf width s (now (map .entry)) left (rowPlace height s y) (now (pixels .entry)) ⌝ }
 {
-    let side = width / s.across;
-    let high = height / s.down;
-    let row = blend::locate(high, s.down, y);
-    let by = blend::factor((side as u64) * (high as u64));
-    let bin = tile::bin_factor(s.min, s.max, settings::bins(s));
-    let mut at = 0;
-    while at < pixels.len() {
-        let x = left + (at as u32);
-        let column = blend::locate(side, s.across, x);
-        let run = blend::run(column, side, s.across, x) as usize;
-        let e = at + lesser(run, pixels.len() - at);
-        render_run(&mut pixels[at..e], s, map, column, row, by, bin);
-        at = e;
+    let row = blend::locate(height / s.down, s.down, y);
+    if pairs_pay(s, pixels.len(), pairs.len()) {
+        paired_row(pixels, left, width, s, map, row, pairs);
+        return;
     }
+    weighed_row(pixels, left, width, s, map, row);
 }
 
-// Renders a window's pixels in place, row by row.
-pub fn render(pixels: &mut [u16], win: Window, width: u32, height: u32, s: Settings, map: &[u16])
+// Renders a window's pixels in place, row by row; the pairs are room to work in.
+fn render_rows(
+    pixels: &mut [u16],
+    win: Window,
+    width: u32,
+    height: u32,
+    s: Settings,
+    map: &[u16],
+    pairs: &mut [u32],
+)
     requires { ⌜ Mapped width height s (now map) × Shown width height s win (now pixels) ⌝ }
     ensures { λ _. ⌜ now (pixels .exit) ≡ renderOf width height s (now (map .entry)) win (now (pixels .entry)) ⌝ }
 {
@@ -136,7 +325,17 @@ pub fn render(pixels: &mut [u16], win: Window, width: u32, height: u32, s: Setti
             height,
             s,
             map,
+            pairs,
         );
         j += 1;
     }
+}
+
+// Renders a window's pixels in place.
+pub fn render(pixels: &mut [u16], win: Window, width: u32, height: u32, s: Settings, map: &[u16])
+    requires { ⌜ Mapped width height s (now map) × Shown width height s win (now pixels) ⌝ }
+    ensures { λ _. ⌜ now (pixels .exit) ≡ renderOf width height s (now (map .entry)) win (now (pixels .entry)) ⌝ }
+{
+    let mut pairs = [0u32; 8192];
+    render_rows(pixels, win, width, height, s, map, &mut pairs);
 }

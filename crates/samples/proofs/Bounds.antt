@@ -1,39 +1,27 @@
--- Laws of `noneAbove`: what a loop that looks for a sample above maxval has found so far.
+-- Laws of `noneAbove`: what it says of each grey, and what a scan by the greatest sample has found so far.
 -- Assumes nothing.
-use Prim.Native.Nat.{ℕ, _+_, _≤_, _<_}
-use mathlib.Core.Bool.{Bool, true, false}
+use Prim.Native.Nat.{ℕ, _+_, _≤_, _<_, min, max}
+use mathlib.Core.Bool.{Bool, true, false, _&&_}
 use mathlib.Core.List.{List, [], _∷_}
 use mathlib.Core.Path.{_≡_, refl, sym, ap, _∙_}
-use lib.Dec.{leb}
+use lib.Dec.{leb, leb·zero}
 use lib.ListN.{length, take, getD}
 use native.Mathlib.Omega.{arith}
-use borrow.Author.Tests.{le-leb, lt-leb, leb-true, leb-false}
-use Rattle.lists.specs.Lists.{tab, all}
-use Rattle.lists.proofs.Tabs.{tab-suc, length-tab, getD-tab}
-use Rattle.lists.proofs.Alls.{all-at, all-both, all-end, all-from, all-not, all-one, all-pass, all-start}
-use Rattle.samples.specs.Samples.{isWide, sampleAt, unpacked, noneAbove}
+use borrow.Author.Tests.{le-leb, leb-true, leb-false}
+use Rattle.lists.specs.Lists.{all}
+use Rattle.lists.proofs.Tabs.{length-tab, getD-tab}
+use Rattle.lists.proofs.Alls.{all-at, all-from}
+use Rattle.scan.specs.Scan.{within}
+use Rattle.scan.proofs.Spans.{Spans, spans-next, spans-end}
+use Rattle.samples.specs.Samples.{isWide, sampleAt, unpacked, noneAbove, PackAsks}
 
 -- ---- of a list of greys
 
--- nothing was passed yet
-pub bound-start : (maxval : ℕ) (vs : List ℕ) → noneAbove maxval (take 0 vs) ≡ true
-unfolding noneAbove
-bound-start maxval vs = all-start (λ v. leb v maxval) vs
-
--- one grey more was passed
-pub bound-pass : (maxval : ℕ) (vs : List ℕ) (i : ℕ) → noneAbove maxval (take i vs) ≡ true → i < length vs → getD vs i 0 ≤ maxval → noneAbove maxval (take (i + 1) vs) ≡ true
-unfolding noneAbove
-bound-pass maxval vs i h l t = all-pass (λ v. leb v maxval) vs h l (le-leb (getD vs i 0) maxval t)
-
--- all greys were passed
-pub bound-end : (maxval : ℕ) (vs : List ℕ) (i : ℕ) → noneAbove maxval (take i vs) ≡ true → length vs ≤ i → noneAbove maxval vs ≡ true
-unfolding noneAbove
-bound-end maxval vs i h l = all-end (λ v. leb v maxval) vs h l
-
--- one above is enough
-pub bound-met : (maxval : ℕ) (vs : List ℕ) (i : ℕ) → i < length vs → maxval < getD vs i 0 → noneAbove maxval vs ≡ false
-unfolding noneAbove
-bound-met maxval vs i l t = all-not (λ v. leb v maxval) vs i 0 l (lt-leb (getD vs i 0) maxval t)
+-- none is above maxval where all lie in 0 to maxval
+pub none-within : (maxval : ℕ) (vs : List ℕ) → noneAbove maxval vs ≡ all (within 0 maxval) vs
+unfolding noneAbove all within
+none-within maxval [] = refl
+none-within maxval (x ∷ xs) = rw (leb·zero x) (ap (λ b. leb x maxval && b) (none-within maxval xs))
 
 -- no entry is above
 pub bound-at : (maxval : ℕ) (vs : List ℕ) → noneAbove maxval vs ≡ true → (i : ℕ) → i < length vs → getD vs i 0 ≤ maxval
@@ -45,10 +33,12 @@ pub bound-from : (maxval : ℕ) (vs : List ℕ) → ((i : ℕ) → i < length vs
 unfolding noneAbove
 bound-from maxval vs h = all-from (λ v. leb v maxval) vs 0 (λ i l. le-leb (getD vs i 0) maxval (h i l))
 
--- a grey that takes one byte is below 256
-pub narrow-fits : (maxval : ℕ) (vs : List ℕ) {two : Bool} → noneAbove maxval vs ≡ true → two ≡ isWide maxval → two ≡ false → (i : ℕ) → i < length vs → getD vs i 0 ≤ 255
+-- greys that take one byte each may be laid down as greys of at most 255
+pub narrow-asks : (maxval : ℕ) (vs : List ℕ) {len : ℕ} → isWide maxval ≡ false → PackAsks maxval vs len → PackAsks 255 vs len
 unfolding isWide
-narrow-fits maxval vs h w n i l = let m : maxval < 256 = leb-false 256 maxval (sym w ∙ n) in omega (arith, bound-at maxval vs h i l)
+narrow-asks maxval vs n h =
+    let m : maxval < 256 = leb-false 256 maxval n in
+    record { bounded = bound-from 255 vs (λ i l. omega (arith, bound-at maxval vs (h .bounded) i l)); room = rw n at (h .room) }
 
 -- ---- of the samples of a raster
 
@@ -62,22 +52,28 @@ pub getD-unpacked : (two : Bool) (bs : List ℕ) (n i : ℕ) → i < n → getD 
 unfolding unpacked
 getD-unpacked two bs n i l = getD-tab n (sampleAt two bs) i 0 l
 
+-- no byte is above 255
+pub bytes-bounded : (maxval : ℕ) (bs : List ℕ) (n : ℕ) → ((i : ℕ) → getD bs i 0 ≤ 255) → 255 ≤ maxval → noneAbove maxval (unpacked false bs n) ≡ true
+bytes-bounded maxval bs n h m =
+    bound-from maxval (unpacked false bs n) (λ i l. omega (arith, length-unpacked false bs n, h i, getD-unpacked false bs n i (omega (arith, length-unpacked false bs n))))
+
+-- a scan by the greatest sample: of the first i samples none is above maxval where w, the greatest of them, is not
+pub record Scanned (maxval : ℕ) (two : Bool) (bs : List ℕ) (n i w : ℕ) : Type 0 where
+  pub spans : Spans 0 maxval (take i (unpacked two bs n)) 0 w
+
 -- no sample was passed yet
-pub raster-start : (maxval : ℕ) (two : Bool) (bs : List ℕ) → noneAbove maxval (unpacked two bs 0) ≡ true
-unfolding noneAbove unpacked tab all
-raster-start maxval two bs = refl
+pub scanned-first : {maxval : ℕ} {two : Bool} {bs : List ℕ} {n : ℕ} → Scanned maxval two bs n 0 0
+unfolding all
+scanned-first {maxval} = record { spans = record { told = rw (leb·zero maxval) refl } }
 
 -- one sample more was passed
-pub raster-pass : (maxval : ℕ) (two : Bool) (bs : List ℕ) (i : ℕ) {v : ℕ} → noneAbove maxval (unpacked two bs i) ≡ true → v ≡ sampleAt two bs i → v ≤ maxval → noneAbove maxval (unpacked two bs (i + 1)) ≡ true
-unfolding noneAbove unpacked
-raster-pass maxval two bs i {v} h e t =
-    rw (tab-suc i (sampleAt two bs), ← e) (all-both (λ x. leb x maxval) (tab i (sampleAt two bs)) (v ∷ []) h (all-one (λ x. leb x maxval) (le-leb v maxval t)))
+pub scanned-next : {maxval : ℕ} {two : Bool} {bs : List ℕ} {n i v w : ℕ} → Scanned maxval two bs n i w → i < n → v ≡ sampleAt two bs i → Scanned maxval two bs n (i + 1) (max w v)
+scanned-next {maxval} {two} {bs} {n} {i} {v} h l e =
+    let q : min 0 v ≡ 0 = omega arith in
+    let g : getD (unpacked two bs n) i 0 ≡ v = getD-unpacked two bs n i l ∙ sym e in
+    record { spans = rw (g, q) at (spans-next 0 maxval (unpacked two bs n) {i = i} (h .spans) (rw length-unpacked l)) }
 
 -- all samples were passed
-pub raster-end : (maxval : ℕ) (two : Bool) (bs : List ℕ) (i : ℕ) {n : ℕ} → noneAbove maxval (unpacked two bs i) ≡ true → i ≤ n → n ≤ i → noneAbove maxval (unpacked two bs n) ≡ true
-raster-end maxval two bs i {n} h l m = let q : n ≡ i = omega arith in ap (λ k. noneAbove maxval (unpacked two bs k)) q ∙ h
-
--- one above is enough
-pub raster-met : (maxval : ℕ) (two : Bool) (bs : List ℕ) (n i : ℕ) {v : ℕ} → i < n → v ≡ sampleAt two bs i → maxval < v → noneAbove maxval (unpacked two bs n) ≡ false
-raster-met maxval two bs n i l e t =
-    bound-met maxval (unpacked two bs n) i (rw length-unpacked l) (rw (getD-unpacked two bs n i l, ← e) t)
+pub scanned-end : {maxval : ℕ} {two : Bool} {bs : List ℕ} {n i w : ℕ} → Scanned maxval two bs n i w → n ≤ i → leb w maxval ≡ noneAbove maxval (unpacked two bs n)
+scanned-end {maxval} {two} {bs} {n} {i} h l =
+    spans-end 0 maxval (unpacked two bs n) {i = i} (h .spans) (rw length-unpacked l) (omega arith) ∙ sym (none-within maxval (unpacked two bs n))

@@ -1,14 +1,14 @@
 -- A raster that is laid down sample by sample.
 -- Assumes nothing.
-use Prim.Native.Nat.{ℕ, _+_, _*_, _≤_, _<_}
-use mathlib.Core.Bool.{Bool}
+use Prim.Native.Nat.{ℕ, _+_, _*_, _≤_}
+use mathlib.Core.Bool.{Bool, true}
 use mathlib.Core.List.{List}
 use mathlib.Core.Path.{_≡_, _∙_}
 use lib.ListN.{length, getD}
 use Rattle.lists.specs.Lists.{blocks, onto, over}
 use Rattle.lists.proofs.Fills.{blocks-none, length-joined}
-use Rattle.lists.proofs.Blocks.{blocks-over, blocks-end, blocks-onto, block-fits}
-use Rattle.samples.specs.Samples.{sizeOf, bytesOf, packed}
+use Rattle.lists.proofs.Blocks.{blocks-over, blocks-end, blocks-onto}
+use Rattle.samples.specs.Samples.{isWide, sizeOf, bytesOf, packed, PackAsks}
 use Rattle.samples.proofs.Widths.{length-bytes}
 
 -- d with the first n greys laid down at its front
@@ -32,9 +32,9 @@ laid-end two vs d e h l =
     let f : ℕ → List ℕ = λ k. bytesOf two (getD vs k 0) in
     blocks-end (sizeOf two) f d e h l ∙ blocks-onto (sizeOf two) f d (length vs) (λ j l. length-bytes two (getD vs j 0))
 
--- room for all greys is room for grey i
-pub laid-fits : (two : Bool) (vs : List ℕ) (i : ℕ) {len : ℕ} → i < length vs → length vs * sizeOf two ≤ len → i * sizeOf two + sizeOf two ≤ len
-laid-fits two vs i l r = block-fits (sizeOf two) (length vs) l r
+-- room for greys that take two bytes each
+pub wide-room : {maxval : ℕ} {vs : List ℕ} {len : ℕ} → isWide maxval ≡ true → PackAsks maxval vs len → length vs * sizeOf true ≤ len
+wide-room n h = rw n at (h .room)
 
 -- greys laid down take as many bytes as samples times the bytes of one
 pub length-packed : (two : Bool) (vs : List ℕ) → length (packed two vs) ≡ length vs * sizeOf two

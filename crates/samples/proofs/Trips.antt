@@ -1,23 +1,20 @@
 -- Greys laid down and read again are the same greys, and a raster read and laid down again is the same raster.
 -- Assumes nothing.
-use Prim.Native.Nat.{ℕ, zero, suc, _+_, _*_, _/_, _%_, _≤_, _<_}
+use Prim.Native.Nat.{ℕ, zero, suc, _+_, _*_, _≤_, _<_}
 use mathlib.Core.Bool.{Bool, true, false}
 use mathlib.Core.List.{List, [], _∷_}
 use mathlib.Core.Path.{_≡_, refl, sym, ap, ap₂, _∙_}
 use lib.Arith.{digits-div, digits-mod}
-use lib.Dec.{leb}
 use lib.ListN.{length, take, getD}
 use lib.Seq.{take-suc, take-length, append-snoc}
 use native.Mathlib.Nat.{div-add-mod'}
 use native.Mathlib.Omega.{arith}
-use borrow.Author.Tests.{le-leb}
-use Rattle.lists.specs.Lists.{joined, all, every}
-use Rattle.lists.proofs.Tabs.{eq-tab, tab-all, every-all}
+use Rattle.lists.specs.Lists.{joined}
+use Rattle.lists.proofs.Tabs.{eq-tab, tab-all}
 use Rattle.lists.proofs.Fills.{joined-cong}
 use Rattle.lists.proofs.Blocks.{getD-joined, joined-ones}
-use Rattle.lists.proofs.Alls.{all-both, all-joined-every, all-one}
-use Rattle.samples.specs.Samples.{isWide, sizeOf, bytesOf, sampleAt, packed, unpacked, noneAbove}
-use Rattle.samples.proofs.Bounds.{bound-at, narrow-fits, length-unpacked, getD-unpacked}
+use Rattle.samples.specs.Samples.{sizeOf, bytesOf, sampleAt, packed, unpacked, noneAbove}
+use Rattle.samples.proofs.Bounds.{bound-at, length-unpacked, getD-unpacked}
 
 -- one byte a sample: the raster is the greys
 pub packed-narrow : (vs : List ℕ) → packed false vs ≡ vs
@@ -76,24 +73,3 @@ wide-again bs n e h =
 pub packed-unpacked : (two : Bool) (bs : List ℕ) (n : ℕ) → n * sizeOf two ≡ length bs → noneAbove 255 bs ≡ true → packed two (unpacked two bs n) ≡ bs
 packed-unpacked false bs n e h = packed-narrow (unpacked false bs n) ∙ narrow-again bs n e
 packed-unpacked true bs n e h = wide-again bs n e h
-
--- the bytes of a sample are bytes
-byte-fits : (two : Bool) (v : ℕ) → (two ≡ false → v ≤ 255) → v ≤ 65535 → all (λ x. leb x 255) (bytesOf two v) ≡ true
-byte-fits false v n m = all-one (λ x. leb x 255) (le-leb v 255 (n refl))
-byte-fits true v n m =
-    let h : v / 256 ≤ 255 = omega arith in
-    let l : v % 256 ≤ 255 = omega arith in
-    all-both (λ x. leb x 255) (v / 256 ∷ []) (v % 256 ∷ []) (all-one (λ x. leb x 255) (le-leb (v / 256) 255 h)) (all-one (λ x. leb x 255) (le-leb (v % 256) 255 l))
-
--- every byte of the greys laid down is a byte
-pub packed-bytes : (maxval : ℕ) (vs : List ℕ) → maxval ≤ 65535 → noneAbove maxval vs ≡ true → noneAbove 255 (packed (isWide maxval) vs) ≡ true
-unfolding noneAbove packed
-packed-bytes maxval vs m h =
-    all-joined-every (λ x. leb x 255) (length vs) (λ i. bytesOf (isWide maxval) (getD vs i 0)) ∙ every-all (length vs) (λ i. all (λ x. leb x 255) (bytesOf (isWide maxval) (getD vs i 0))) each
-  where
-    each : (i : ℕ) → i < length vs → all (λ x. leb x 255) (bytesOf (isWide maxval) (getD vs i 0)) ≡ true
-    each i l = byte-fits (isWide maxval) (getD vs i 0) (λ n. narrow-fits maxval vs h refl n i l) (omega (arith, bound-at maxval vs h i l))
-
--- a raster laid down and read again shows no sample above maxval
-pub packed-bounded : (maxval : ℕ) (two : Bool) (vs : List ℕ) → noneAbove maxval (unpacked two (packed two vs) (length vs)) ≡ noneAbove maxval vs
-packed-bounded maxval two vs = ap (noneAbove maxval) (unpacked-packed two vs)

@@ -1,20 +1,21 @@
 -- Laws of one and two bytes a sample.
 -- Assumes nothing.
-use Prim.Native.Nat.{ℕ, _+_, _*_, _≤_}
+use Prim.Native.Nat.{ℕ, _+_, _*_, _/_, _%_, _≤_}
 use mathlib.Core.Bool.{Bool, true, false}
 use mathlib.Core.Path.{_≡_, refl}
 use lib.ListN.{length}
-use Rattle.samples.specs.Samples.{sizeOf, bytesOf}
+use native.Mathlib.Omega.{arith}
+use Rattle.samples.specs.Samples.{sizeOf, bytesOf, UnpackAsks}
 
 -- a sample laid down has as many bytes as a sample takes
 pub length-bytes : (two : Bool) (v : ℕ) → length (bytesOf two v) ≡ sizeOf two
 length-bytes false v = refl
 length-bytes true v = refl
 
--- where the two bytes of sample i lie
-pub wide-within : {two : Bool} (i : ℕ) {len : ℕ} → two ≡ true → i * sizeOf two + sizeOf two ≤ len → i * 2 + 2 ≤ len
-wide-within i e h = rw e at h
+-- a number of two bytes with its bytes swapped
+pub swapped : (a b : ℕ) {w : ℕ} → a ≤ 255 → b ≤ 255 → w ≡ a + b * 256 → w % 256 * 256 + w / 256 ≡ a * 256 + b
+swapped a b h l e = omega arith
 
--- the same for one byte
-pub narrow-within : {two : Bool} (i : ℕ) {len : ℕ} → two ≡ false → i * sizeOf two + sizeOf two ≤ len → i * 1 + 1 ≤ len
-narrow-within i e h = rw e at h
+-- what is asked at a width is asked at the same width
+pub unpack-asks : {wide two : Bool} {count bytes target : ℕ} → UnpackAsks wide count bytes target → wide ≡ two → UnpackAsks two count bytes target
+unpack-asks h e = rw e at h

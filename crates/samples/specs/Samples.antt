@@ -48,8 +48,3 @@ pub record UnpackAsks (two : Bool) (count bytes target : ℕ) : Type 0 where
 pub record PackAsks (maxval : ℕ) (greys : List ℕ) (out : ℕ) : Type 0 where
   pub bounded : noneAbove maxval greys ≡ true
   pub room : length greys * sizeOf (isWide maxval) ≤ out
-
--- what laying sample i down asks: its bytes lie within the raster, and one byte holds the grey where it takes one
-pub record LayAsks (two : Bool) (i grey out : ℕ) : Type 0 where
-  pub within : i * sizeOf two + sizeOf two ≤ out
-  pub fits : two ≡ false → grey ≤ 255

@@ -12,8 +12,9 @@ use Rattle.lists.specs.Lists.{total, all}
 use Rattle.lists.proofs.Tabs.{length-tab, getD-tab}
 use Rattle.lists.proofs.Tallies.{total-next, total-next-le, total-take-le, total-take-mono}
 use Rattle.lists.proofs.Alls.{all-tab}
-use Rattle.tile.specs.Tile.{within, mappedOf, mappingOf}
-use Rattle.tile.proofs.Bins.{within-both}
+use Rattle.scan.specs.Scan.{within}
+use Rattle.tile.specs.Tile.{mappedOf, mappingOf}
+use Rattle.scan.proofs.Spans.{within-both}
 
 -- a quotient never falls as the dividend grows
 pub div-mono : (a b n : ℕ) → 0 < n → a ≤ b → a / n ≤ b / n

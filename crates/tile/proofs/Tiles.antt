@@ -16,10 +16,12 @@ use Rattle.limit.specs.Limit.{limitOf, accepted, LimitAsks}
 use Rattle.clip.specs.Clip.{clipped}
 use Rattle.clip.specs.Asks.{ClipAsks}
 use Rattle.clip.proofs.Laws.{length-clipped, total-clipped, clipped-most}
-use Rattle.tile.specs.Tile.{within, countsOf, clippedBy, mappedOf, mappingOf, tileCounts, tileMapping, greysOf, Holds, off, factor, ClipByAsks, MapAsks, TileAsks, TileMapped}
-use Rattle.tile.specs.declared.Rect.{Rect}
-use Rattle.tile.proofs.Greys.{length-greys}
-use Rattle.tile.proofs.Counts.{length-counts, total-counts}
+use Rattle.scan.specs.Scan.{within}
+use Rattle.tally.specs.Tally.{countsOf, greysOf}
+use Rattle.tile.specs.Tile.{clippedBy, mappedOf, mappingOf, tileCounts, tileMapping, Holds, off, factor, ClipByAsks, MapAsks, TileAsks, TileMapped}
+use Rattle.tally.specs.declared.Rect.{Rect}
+use Rattle.tally.proofs.Greys.{length-greys}
+use Rattle.tally.proofs.Counts.{length-counts, total-counts}
 use Rattle.tile.proofs.Mapped.{length-mapping, getD-mapping, mapping-within, mapped-mono, mapped-rise, mapped-first, mapped-last}
 
 -- ---- what a clip setting asks and gives

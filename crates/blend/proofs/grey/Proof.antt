@@ -17,32 +17,25 @@ use Rattle.blend.proofs.weigh.Reads as weigh-reads
 greatest : (c : tie.Start) → greyOf (c .args .column) (c .args .row) (c .args .a) (c .args .b) (c .args .c) (c .args .d) ≤ 4095
 greatest c = grey-most (c .pre .0) (c .pre .1) (c .pre .2) (c .pre .3) (c .pre .4) (c .pre .5)
 
--- src/lib.rt:111:9
 weigh-requires : tie.Need-weigh-requires
 weigh-requires c κs = c .pre
 
--- src/lib.rt:112:18
 cast-result : tie.Need-cast-result
 cast-result c = search needs
 
--- src/lib.rt:112:41
 cast-result-2 : tie.Need-cast-result-2
 cast-result-2 c = search needs
 
--- src/lib.rt:112:17
 mul-result : tie.Need-mul-result
 mul-result c = omega (arith, mul-le-mul (c .before .before .before .pre .0 .bound) (c .before .before .before .pre .1 .bound))
 
--- src/lib.rt:112:6
 div-result : tie.Need-div-result
 div-result c = spans-some (c .before .before .before .pre .0) (c .before .before .before .pre .1)
 
--- src/lib.rt:112:5
 cast-result-3 : tie.Need-cast-result-3
 unfolding greyOf
 cast-result-3 c = rw (c .before .before .weigh .ensures) (omega (arith, greatest (c .before .before .before)))
 
--- src/lib.rt:107:1
 returns : tie.Need-returns
 unfolding greyOf
 returns c = ap (λ n. n / (c .before .before .before .args .column .span * c .before .before .before .args .row .span)) (c .before .before .weigh .ensures)

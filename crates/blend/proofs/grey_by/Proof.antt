@@ -21,7 +21,7 @@ some : (c : tie.After-weigh) → 0 < c .before .before .args .factor
 some c = omega (arith, c .before .if1 .left)
 
 -- the product's bound
-room : (c : tie.After-weigh) → c .weigh .result * c .before .before .args .factor ≤ 4095 * 281474976972800
+room : (c : tie.After-weigh) → c .weigh .result * c .before .before .args .factor ≤ 4095 * 4503599628419072
 room c = factor-room _ _ _ (weighed c) (some c) (c .before .before .pre .2)
 
 -- the grey's bound
@@ -29,33 +29,27 @@ greatest : (c : tie.After-weigh) → greyOf (c .before .before .args .column) (c
 greatest c = grey-most (c .before .before .pre .0) (c .before .before .pre .1) (c .before .before .pre .3) (c .before .before .pre .4) (c .before .before .pre .5) (c .before .before .pre .6)
 
 -- the quotient is the grey
-divides : (c : tie.After-weigh) → c .weigh .result * c .before .before .args .factor / 281474976710656 ≡ greyOf (c .before .before .args .column) (c .before .before .args .row) (c .before .before .args .a) (c .before .before .args .b) (c .before .before .args .c) (c .before .before .args .d)
+divides : (c : tie.After-weigh) → c .weigh .result * c .before .before .args .factor / 4503599627370496 ≡ greyOf (c .before .before .args .column) (c .before .before .args .row) (c .before .before .args .a) (c .before .before .args .b) (c .before .before .args .c) (c .before .before .args .d)
 unfolding greyOf
 divides c =
     factor-divides _ _ _ (weighed c) (spans-some (c .before .before .pre .0) (c .before .before .pre .1)) (some c) (c .before .before .pre .2)
     ∙ ap (λ n. n / (c .before .before .args .column .span * c .before .before .args .row .span)) (c .weigh .ensures)
 
--- src/lib.rt:132:9
 grey-requires : tie.Need-grey-requires
 grey-requires c κs = (c .before .pre .0, c .before .pre .1, c .before .pre .3, c .before .pre .4, c .before .pre .5, c .before .pre .6)
 
--- src/lib.rt:132:9
 returns : tie.Need-returns
 returns c = c .grey .ensures
 
--- src/lib.rt:134:9
 weigh-requires : tie.Need-weigh-requires
 weigh-requires c κs = (c .before .pre .0, c .before .pre .1, c .before .pre .3, c .before .pre .4, c .before .pre .5, c .before .pre .6)
 
--- src/lib.rt:135:6
 mul-result : tie.Need-mul-result
 mul-result c = omega (arith, room c)
 
--- src/lib.rt:135:5
 cast-result : tie.Need-cast-result
 cast-result c = omega (arith, divides c, greatest c)
 
--- src/lib.rt:127:1
 returns-2 : tie.Need-returns-2
 returns-2 c = divides c
 

@@ -6,7 +6,7 @@ use native.Mathlib.Omega.{arith}
 use borrow.Author.Needs.{needs, scaled-fits}
 use borrow.Author.Tests.{not-true, not-false}
 use Rattle.lists.specs.Lists.{all, joined}
-use Rattle.tile.specs.Tile.{within}
+use Rattle.scan.specs.Scan.{within}
 use Rattle.draw.proofs.Frames.{line, line-room, line-part, lines-first, lines-next, lines-end, lines-not}
 use Rattle.draw.proofs.window_within.Statement.{statement}
 use Rattle.draw.proofs.window_within.Tie as tie

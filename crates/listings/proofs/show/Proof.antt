@@ -1,17 +1,27 @@
--- The text fits its array. Assumes nothing.
+-- `listings::show` is safe: the text fits its array.
+-- Assumes nothing.
 use mathlib.Core.Path.{sym}
 use lib.Seq.{length-take-le}
 use native.Mathlib.Omega.{arith}
-use Rattle.lister.proofs.Calls.{listing-short}
+use Rattle.lister.proofs.Calls.{list-fits}
 use borrow.Author.Needs.{needs}
 use Rattle.listings.proofs.show.Statement.{statement}
 use Rattle.listings.proofs.show.Tie as tie
+use Rattle.listings.proofs.show.Reads as reads
+use Rattle.listings.proofs.show.Lts as lts
+use Rattle.io.proofs.print_decimal.Reads as print-decimal-reads
+use Rattle.io.proofs.write_all.Reads as write-all-reads
+use Rattle.lister.proofs.laid.Reads as laid-reads
+use Rattle.lister.proofs.list.Reads as list-reads
 
 slice-aggregate-list : tie.Need-slice-aggregate-list
 slice-aggregate-list c = search needs
 
 list-requires : tie.Need-list-requires
 list-requires c κs = search needs
+
+laid-requires : tie.Need-laid-requires
+laid-requires c κs = search needs
 
 print-decimal-requires : tie.Need-print-decimal-requires
 print-decimal-requires c κs = search needs
@@ -23,10 +33,10 @@ write-all-requires : tie.Need-write-all-requires
 write-all-requires c κs = search needs
 
 array-share-prefix-text : tie.Need-array-share-prefix-text
-array-share-prefix-text c = omega (arith, listing-short _ (c .before .before .before .before .list .ensures .1))
+array-share-prefix-text c = omega (arith, list-fits _ _ (c .before .before .before .before .before .list .ensures), c .before .before .before .laid .ensures, c .before .before .before .before .before .list .kept .1 .0)
 
 slice-aggregate-write-all-2 : tie.Need-slice-aggregate-write-all-2
-slice-aggregate-write-all-2 c = sym (length-take-le _ _ (omega (arith, listing-short _ (c .before .before .before .before .before .list .ensures .1), c .before .before .before .before .before .list .kept .1 .0)))
+slice-aggregate-write-all-2 c = sym (length-take-le _ _ (omega (arith, list-fits _ _ (c .before .before .before .before .before .before .list .ensures), c .before .before .before .before .laid .ensures, c .before .before .before .before .before .before .list .kept .1 .0)))
 
 write-all-requires-2 : tie.Need-write-all-requires-2
 write-all-requires-2 c κs = search needs
@@ -40,6 +50,7 @@ show-spec =
     (tie.spec
     slice-aggregate-list
     list-requires
+    laid-requires
     print-decimal-requires
     slice-aggregate-write-all
     write-all-requires

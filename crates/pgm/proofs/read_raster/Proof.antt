@@ -1,5 +1,7 @@
--- The part behind the header. Assumes nothing.
+-- `pgm::read_raster` meets its contract: the part behind the header, its bytes and its place.
+-- Assumes nothing.
 use mathlib.Core.Path.{refl, sym, _∙_}
+use native.Mathlib.Nat.{zero-add}
 use Rattle.pgm.proofs.Tables.{read-within}
 use Rattle.pgm.proofs.Parts.{part-tail}
 use borrow.Author.Needs.{needs}
@@ -28,10 +30,10 @@ slice-aggregate-result : tie.Need-slice-aggregate-result
 slice-aggregate-result c = search needs
 
 returns : tie.Need-returns
-returns c = rw (← c .before .before .before .before .read .ensures, c .before .before .at .given .1) (part-tail (c .before .before .before .before .before .before .args .bytes .now) (c .before .before .at .given .0 .1 .1 .1 .0))
+returns c = rw (← c .before .before .before .before .read .ensures, c .before .before .at .given .1) (part-tail (c .before .before .before .before .before .before .args .bytes .now) (c .before .before .at .given .0 .1 .1 .1 .0), refl)
 
 returns-2 : tie.Need-returns-2
-returns-2 c = rw (← c .before .before .before .read .ensures, c .before .enum-told .given .1) refl
+returns-2 c = rw (← c .before .before .before .read .ensures, c .before .enum-told .given .1, zero-add) (refl, refl)
 
 pub read-raster-spec : {M : Type 1} → statement M
 read-raster-spec =

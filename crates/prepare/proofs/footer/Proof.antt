@@ -9,51 +9,39 @@ use Rattle.limit.proofs.judge.Reads as judge-reads
 use Rattle.limit.proofs.limit.Reads as limit-reads
 use Rattle.limit.proofs.used.Reads as used-reads
 
--- src/lib.rt:53:22
 enum-told : tie.Need-enum-told
 enum-told c = search needs
 
--- src/lib.rt:54:22
 enum-known-clip : tie.Need-enum-known-clip
 enum-known-clip c = search needs
 
--- src/lib.rt:55:17
 judge-requires : tie.Need-judge-requires
 judge-requires c κs = search needs
 
--- src/lib.rt:57:36
 enum-told-2 : tie.Need-enum-told-2
 enum-told-2 c = search needs
 
--- src/lib.rt:58:32
 enum-told-3 : tie.Need-enum-told-3
 enum-told-3 c = search needs
 
--- src/lib.rt:60:25
 enum-told-4 : tie.Need-enum-told-4
 enum-told-4 c = search needs
 
--- src/lib.rt:60:25
 limit-requires : tie.Need-limit-requires
 limit-requires c κs = limit-asks _ _ _ (c .before .before .before .before .before .before .pre) _ (c .before .before .before .before .clip .given .1) (sym (c .before .before .judge .ensures) ∙ c .enum-told4 .given .1)
 
--- src/lib.rt:61:25
 used-requires : tie.Need-used-requires
 used-requires c κs = used-asks _ _ _ (c .before .before .before .before .before .before .before .pre) _ (c .before .before .before .before .before .clip .given .1) (sym (c .before .before .before .judge .ensures) ∙ c .before .enum-told4 .given .1) (c .limit .ensures)
 
--- src/lib.rt:48:1
 returns : tie.Need-returns
 returns c = footer-off _ _ _ (c .before .before .pre) (c .enum-told .given .1)
 
--- src/lib.rt:48:1
 returns-2 : tie.Need-returns-2
 returns-2 c = absurd (not-refused _ _ _ (c .before .before .before .before .before .before .pre) _ (c .before .before .before .before .clip .given .1) (sym (c .before .before .judge .ensures) ∙ c .enum-told2 .given .1))
 
--- src/lib.rt:48:1
 returns-3 : tie.Need-returns-3
 returns-3 c = footer-one _ _ _ (c .before .before .before .before .before .before .pre) _ (c .before .before .before .before .clip .given .1) (sym (c .before .before .judge .ensures) ∙ c .enum-told3 .given .1)
 
--- src/lib.rt:48:1
 returns-4 : tie.Need-returns-4
 returns-4 c = footer-above _ _ _ (c .before .before .before .before .before .before .before .before .pre) _ (c .before .before .before .before .before .before .clip .given .1) (sym (c .before .before .before .before .judge .ensures) ∙ c .before .before .enum-told4 .given .1) (c .before .limit .ensures) (c .used .ensures)
 

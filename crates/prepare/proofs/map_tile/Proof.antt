@@ -9,55 +9,42 @@ use Rattle.prepare.proofs.tile_rect.Reads as tile-rect-reads
 use Rattle.settings.proofs.bins.Reads as bins-reads
 use Rattle.tile.proofs.mapping.Reads as mapping-reads
 
--- src/lib.rt:146:9
 tile-rect-requires : tie.Need-tile-rect-requires
 tile-rect-requires c κs = rect-asks (c .before .before .before .pre)
 
--- src/lib.rt:148:9
 bins-requires : tie.Need-bins-requires
 bins-requires c κs = search needs
 
--- src/lib.rt:149:16
 cast-each : tie.Need-cast-each
 cast-each c = search needs
 
--- src/lib.rt:150:13
 mul-a : tie.Need-mul-a
 mul-a c = omega (arith, tile-small (c .before .before .before .before .before .pre) (c .bins .ensures))
 
--- src/lib.rt:151:13
 add-e : tie.Need-add-e
 add-e c = omega (arith, tile-small (c .before .before .before .before .before .pre) (c .bins .ensures))
 
--- src/lib.rt:161:9
 mul-mapping : tie.Need-mul-mapping
 mul-mapping c = omega (arith, tile-small (c .before .before .before .before .before .before .pre) (c .before .bins .ensures))
 
--- src/lib.rt:161:9
 sub-mapping : tie.Need-sub-mapping
 sub-mapping c = search needs
 
--- src/lib.rt:161:9
 part-mapping-start : tie.Need-part-mapping-start
 part-mapping-start c = search needs
 
--- src/lib.rt:161:9
 part-mapping-end : tie.Need-part-mapping-end
 part-mapping-end c = tile-room (c .before .before .before .before .before .before .pre) (c .before .bins .ensures)
 
--- src/lib.rt:152:5
 mapping-requires : tie.Need-mapping-requires
 mapping-requires c κs = tile-asks (c .before .before .before .before .before .before .before .args .map .now) (c .before .before .before .before .before .before .before .pre) (c .before .before .before .tile-rect .ensures) (c .before .before .bins .ensures)
 
--- src/lib.rt:134:1
 same-length : tie.Need-same-length
 same-length c = search needs
 
--- src/lib.rt:134:1
 same-length-2 : tie.Need-same-length-2
 same-length-2 c = search needs
 
--- src/lib.rt:134:1
 returns : tie.Need-returns
 returns c = tile-done (c .before .before .before .before .before .before .before .before .before .before .before .before .pre) (c .before .before .before .before .before .before .before .before .tile-rect .ensures) (c .before .before .before .before .before .before .before .bins .ensures) (c .before .before .before .before .mapping .ensures)
 

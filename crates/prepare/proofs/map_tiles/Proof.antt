@@ -16,55 +16,42 @@ Inv-loop picture width height s map₀ scratch₀ tiles k₀ map scratch k = (k 
 abbrev μ-loop : tie.MeasureT-loop
 μ-loop picture width height s map₀ scratch₀ tiles k₀ map scratch k = tiles - k
 
--- src/lib.rt:177:18
 mul-tiles : tie.Need-mul-tiles Inv-loop μ-loop
 mul-tiles c = omega (arith, tiles-most (c .before .before .before .before .pre))
 
--- src/lib.rt:177:17
 cast-tiles : tie.Need-cast-tiles Inv-loop μ-loop
 cast-tiles c = omega (arith, tiles-most (c .before .before .before .before .pre))
 
--- src/lib.rt:179:5
 loop-holds : tie.Need-loop-holds Inv-loop μ-loop
 loop-holds c = (search needs, laid-first)
 
--- src/lib.rt:180:9
 map-tile-requires : tie.Need-map-tile-requires Inv-loop μ-loop
 map-tile-requires c κs = laid-asks (c .before .before .before .before .before .before .before .before .pre) (c .before .before .before .loop .inv .1) (search needs)
 
--- src/lib.rt:181:9
 add-k : tie.Need-add-k Inv-loop μ-loop
 add-k c = omega (arith, tiles-most (c .before .before .before .before .before .before .before .before .before .before .before .before .before .pre))
 
--- src/lib.rt:179:5
 loop-less : tie.Need-loop-less Inv-loop μ-loop
 loop-less c = search needs
 
--- src/lib.rt:179:5
 loop-again : tie.Need-loop-again Inv-loop μ-loop
 loop-again c = (search needs, laid-next (c .before .before .before .before .before .before .before .before .before .before .before .before .before .pre) (c .before .before .before .before .before .before .before .before .loop .inv .1) (c .before .before .before .before .map-tile .ensures))
 
--- src/lib.rt:183:27
 bins-requires : tie.Need-bins-requires Inv-loop μ-loop
 bins-requires c κs = search needs
 
--- src/lib.rt:183:27
 cast-each : tie.Need-cast-each Inv-loop μ-loop
 cast-each c = search needs
 
--- src/lib.rt:183:5
 clear-requires : tie.Need-clear-requires Inv-loop μ-loop
 clear-requires c κs = omega (arith, c .before .bins .ensures, c .before .before .before .loop .inv .1 .size, c .before .before .before .before .before .before .before .before .pre .work .bins)
 
--- src/lib.rt:166:1
 same-length : tie.Need-same-length Inv-loop μ-loop
 same-length c = laid-length (c .before .before .before .before .before .before .before .before .before .before .before .pre) (c .before .before .before .before .before .before .loop .inv .1) (search needs)
 
--- src/lib.rt:166:1
 same-length-2 : tie.Need-same-length-2 Inv-loop μ-loop
 same-length-2 c = search needs
 
--- src/lib.rt:166:1
 returns : tie.Need-returns Inv-loop μ-loop
 returns c = laid-end (c .before .before .before .before .before .before .before .before .before .before .before .pre) (c .before .before .before .before .before .before .loop .inv .1) (search needs) (search needs) (c .before .before .before .before .bins .ensures) (c .before .before .clear .ensures)
 

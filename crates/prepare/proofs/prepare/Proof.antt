@@ -15,67 +15,53 @@ use Rattle.settings.proofs.bins.Reads as bins-reads
 use Rattle.settings.proofs.clip_one.Reads as clip-one-reads
 use Rattle.settings.proofs.kept.Reads as kept-reads
 
--- src/lib.rt:198:9
 refusal-requires : tie.Need-refusal-requires
 refusal-requires c κs = search needs
 
--- src/lib.rt:200:9
 returns : tie.Need-returns
 returns c =
     ends-refused _ _ _ _ _ _ _ (c .before .refusal .ensures) (c .if1 .taken)
 
--- src/lib.rt:203:19
 div-pixels : tie.Need-div-pixels
 div-pixels c =
     omega (arith, asks-work _ _ _ _ _ _ (c .before .before .refusal .ensures) (c .before .if1 .left) .ready .across)
 
--- src/lib.rt:203:40
 div-pixels-2 : tie.Need-div-pixels-2
 div-pixels-2 c =
     omega (arith, asks-work _ _ _ _ _ _ (c .before .before .before .refusal .ensures) (c .before .before .if1 .left) .ready .down)
 
--- src/lib.rt:203:18
 mul-pixels : tie.Need-mul-pixels
 mul-pixels c =
     record { fits = lt-of-le-of-lt (tile-pixels-most (asks-work _ _ _ _ _ _ (c .before .before .before .refusal .ensures) (c .before .before .if1 .left) .ready)) (lit< tt) }
 
--- src/lib.rt:204:37
 bins-requires : tie.Need-bins-requires
 bins-requires c κs = search needs
 
--- src/lib.rt:204:9
 footer-requires : tie.Need-footer-requires
 footer-requires c κs =
     asks-footer _ _ _ _ _ _ (c .before .before .before .before .refusal .ensures) (c .before .before .before .if1 .left) (c .bins .ensures)
 
--- src/lib.rt:205:9
 kept-requires : tie.Need-kept-requires
 kept-requires c κs = search needs
 
--- src/lib.rt:212:8
 clip-one-requires : tie.Need-clip-one-requires
 clip-one-requires c κs = search needs
 
--- src/lib.rt:213:9
 returns-2 : tie.Need-returns-2
 returns-2 c =
     ends-one _ _ _ _ _ _ _ (c .before .before .before .before .before .before .before .before .refusal .ensures) (c .before .before .before .before .before .before .before .if1 .left) (c .before .before .before .before .bins .ensures) (c .before .before .before .footer .ensures) (c .before .before .kept .ensures)
     (c .before .clip-one .ensures) (c .if2 .taken)
 
--- src/lib.rt:215:5
 map-tiles-requires : tie.Need-map-tiles-requires
 map-tiles-requires c κs =
     asks-tiles _ _ _ _ _ _ (c .before .before .before .before .before .before .before .before .before .before .refusal .ensures) (c .before .before .before .before .before .before .before .before .before .if1 .left) (c .before .before .before .clip-one .ensures) (c .before .before .if2 .left)
 
--- src/lib.rt:187:1
 same-length : tie.Need-same-length
 same-length c = search needs
 
--- src/lib.rt:187:1
 same-length-2 : tie.Need-same-length-2
 same-length-2 c = search needs
 
--- src/lib.rt:187:1
 returns-3 : tie.Need-returns-3
 returns-3 c =
     ends-well _ _ _ _ _ _ _ (c .before .before .before .before .before .before .before .before .before .before .before .before .before .before .before .refusal .ensures) (c .before .before .before .before .before .before .before .before .before .before .before .before .before .before .if1 .left)

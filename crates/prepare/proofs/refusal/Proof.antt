@@ -11,69 +11,56 @@ use Rattle.prepare.proofs.refusal.Tie as tie
 use Rattle.prepare.proofs.refusal.Reads as reads
 use Rattle.prepare.proofs.refusal.Lts as lts
 use Rattle.prepare.proofs.too_tight.Reads as too-tight-reads
-use Rattle.render.proofs.all_within.Reads as all-within-reads
+use Rattle.scan.proofs.all_within.Reads as all-within-reads
 use Rattle.settings.proofs.bins.Reads as bins-reads
 use Rattle.settings.proofs.shared.Reads as shared-reads
 
--- src/lib.rt:98:9
 shared-requires : tie.Need-shared-requires
 shared-requires c κs = search needs
 
--- src/lib.rt:100:9
 returns : tie.Need-returns
 returns c =
     table-shared _ _ _ _ _ _ (c .before .shared .ensures) (c .if1 .taken)
 
--- src/lib.rt:102:9
 bins-requires : tie.Need-bins-requires
 bins-requires c κs = search needs
 
--- src/lib.rt:103:19
 cast-if2 : tie.Need-cast-if2
 cast-if2 c = search needs
 
--- src/lib.rt:104:9
 returns-2 : tie.Need-returns-2
 returns-2 c =
     table-scratch _ _ _ _ _ _ (c .before .before .before .shared .ensures) (c .before .before .if1 .left) (c .before .bins .ensures) (c .if2 .taken)
 
--- src/lib.rt:106:9
 all-within-requires : tie.Need-all-within-requires
 all-within-requires c κs = search needs
 
--- src/lib.rt:107:9
 returns-3 : tie.Need-returns-3
 returns-3 c =
     table-greys _ _ _ _ _ _ (c .before .before .before .before .before .shared .ensures) (c .before .before .before .before .if1 .left) (c .before .before .before .bins .ensures) (c .before .before .if2 .left) (sym (c .before .all-within .ensures) ∙ not-true _ (c .if3 .taken))
 
--- src/lib.rt:110:19
 div-pixels : tie.Need-div-pixels
 div-pixels c =
     let r = ready _ _ _ _ _ (sym (c .before .before .before .before .before .before .shared .ensures) ∙ c .before .before .before .before .before .if1 .left) in omega (arith, r .across)
 
--- src/lib.rt:110:40
 div-pixels-2 : tie.Need-div-pixels-2
 div-pixels-2 c =
     let r = ready _ _ _ _ _ (sym (c .before .before .before .before .before .before .before .shared .ensures) ∙ c .before .before .before .before .before .before .if1 .left) in omega (arith, r .down)
 
--- src/lib.rt:110:18
 mul-pixels : tie.Need-mul-pixels
 mul-pixels c =
     let r = ready _ _ _ _ _ (sym (c .before .before .before .before .before .before .before .shared .ensures) ∙ c .before .before .before .before .before .before .if1 .left) in
     record { fits = lt-of-le-of-lt (tile-pixels-most r) (lit< tt) }
 
--- src/lib.rt:111:8
 too-tight-requires : tie.Need-too-tight-requires
 too-tight-requires c κs =
     tight-asks (ready _ _ _ _ _ (sym (c .before .before .before .before .before .before .before .shared .ensures) ∙ c .before .before .before .before .before .before .if1 .left)) (c .before .before .before .before .before .bins .ensures)
 
--- src/lib.rt:112:9
 returns-4 : tie.Need-returns-4
 returns-4 c =
     table-tight _ _ _ _ _ _ (c .before .before .before .before .before .before .before .before .before .shared .ensures) (c .before .before .before .before .before .before .before .before .if1 .left) (c .before .before .before .before .before .before .before .bins .ensures) (c .before .before .before .before .before .before .if2 .left)
     (sym (c .before .before .before .before .before .all-within .ensures) ∙ not-false _ (c .before .before .before .before .if3 .left)) (sym (c .before .too-tight .ensures) ∙ c .if4 .taken)
 
--- src/lib.rt:88:1
 returns-5 : tie.Need-returns-5
 returns-5 c =
     table-over _ _ _ _ _ _ (c .before .before .before .before .before .before .before .before .before .shared .ensures) (c .before .before .before .before .before .before .before .before .if1 .left) (c .before .before .before .before .before .before .before .bins .ensures) (c .before .before .before .before .before .before .if2 .left)

@@ -10,49 +10,39 @@ use Rattle.prepare.proofs.tile_rect.Tie as tie
 use Rattle.prepare.proofs.tile_rect.Reads as reads
 use Rattle.prepare.proofs.tile_rect.Lts as lts
 
--- src/lib.rt:122:18
 cast-across : tie.Need-cast-across
 cast-across c = search needs
 
--- src/lib.rt:123:14
 div-w : tie.Need-div-w
 div-w c = search needs
 
--- src/lib.rt:123:13
 cast-w : tie.Need-cast-w
 cast-w c = omega (arith, div-le-self (c .before .before .args .width) (c .before .before .args .s .across))
 
--- src/lib.rt:124:14
 div-h : tie.Need-div-h
 div-h c = search needs
 
--- src/lib.rt:124:13
 cast-h : tie.Need-cast-h
 cast-h c = omega (arith, div-le-self (c .before .before .before .args .height) (c .before .before .before .args .s .down))
 
--- src/lib.rt:126:15
 rem-t9 : tie.Need-rem-t9
 rem-t9 c = search needs
 
--- src/lib.rt:126:15
 mul-t10 : tie.Need-mul-t10
 mul-t10 c =
     let a : c .before .before .before .args .k % c .before .before .before .args .s .across ≤ 255 = omega (arith, mod-le (c .before .before .before .args .k) (c .before .before .before .args .s .across)) in
     let b : c .before .before .before .args .width / c .before .before .before .args .s .across ≤ 4294967295 = omega (arith, div-le-self (c .before .before .before .args .width) (c .before .before .before .args .s .across)) in
     record { fits = lt-of-le-of-lt (mul-le-mul a b) (lit< tt) }
 
--- src/lib.rt:127:14
 div-t11 : tie.Need-div-t11
 div-t11 c = search needs
 
--- src/lib.rt:127:14
 mul-t12 : tie.Need-mul-t12
 mul-t12 c =
     let a : c .before .before .before .args .k / c .before .before .before .args .s .across ≤ 255 = omega (arith, div-le-self (c .before .before .before .args .k) (c .before .before .before .args .s .across)) in
     let b : c .before .before .before .args .height / c .before .before .before .args .s .down ≤ 4294967295 = omega (arith, div-le-self (c .before .before .before .args .height) (c .before .before .before .args .s .down)) in
     record { fits = lt-of-le-of-lt (mul-le-mul a b) (lit< tt) }
 
--- src/lib.rt:118:1
 returns : tie.Need-returns
 unfolding tileRect
 returns c = refl

@@ -10,55 +10,42 @@ use Rattle.prepare.proofs.too_tight.Lts as lts
 use Rattle.limit.proofs.judge.Reads as judge-reads
 use Rattle.limit.proofs.limit.Reads as limit-reads
 
--- src/lib.rt:32:22
 enum-told : tie.Need-enum-told
 enum-told c = search needs
 
--- src/lib.rt:33:22
 enum-known-clip : tie.Need-enum-known-clip
 enum-known-clip c = search needs
 
--- src/lib.rt:34:17
 judge-requires : tie.Need-judge-requires
 judge-requires c κs = search needs
 
--- src/lib.rt:36:36
 enum-told-2 : tie.Need-enum-told-2
 enum-told-2 c = search needs
 
--- src/lib.rt:37:32
 enum-told-3 : tie.Need-enum-told-3
 enum-told-3 c = search needs
 
--- src/lib.rt:39:25
 enum-told-4 : tie.Need-enum-told-4
 enum-told-4 c = search needs
 
--- src/lib.rt:39:25
 limit-requires : tie.Need-limit-requires
 limit-requires c κs = limit-asks _ _ _ (c .before .before .before .before .before .before .pre) _ (c .before .before .before .before .clip .given .1) (sym (c .before .before .judge .ensures) ∙ c .enum-told4 .given .1)
 
--- src/lib.rt:40:22
 cast-result : tie.Need-cast-result
 cast-result c = search needs
 
--- src/lib.rt:40:21
 mul-result : tie.Need-mul-result
 mul-result c = record { fits = lt-of-le-of-lt (used-asks _ _ _ (c .before .before .before .before .before .before .before .pre) _ (c .before .before .before .before .before .clip .given .1) (sym (c .before .before .before .judge .ensures) ∙ c .before .enum-told4 .given .1) (c .limit .ensures) .exact) (lit< tt) }
 
--- src/lib.rt:27:1
 returns : tie.Need-returns
 returns c = tight-off _ _ _ (c .before .before .pre) (c .enum-told .given .1)
 
--- src/lib.rt:27:1
 returns-2 : tie.Need-returns-2
 returns-2 c = absurd (not-refused _ _ _ (c .before .before .before .before .before .before .pre) _ (c .before .before .before .before .clip .given .1) (sym (c .before .before .judge .ensures) ∙ c .enum-told2 .given .1))
 
--- src/lib.rt:27:1
 returns-3 : tie.Need-returns-3
 returns-3 c = tight-one _ _ _ (c .before .before .before .before .before .before .pre) _ (c .before .before .before .before .clip .given .1) (sym (c .before .before .judge .ensures) ∙ c .enum-told3 .given .1)
 
--- src/lib.rt:27:1
 returns-4 : tie.Need-returns-4
 returns-4 c = tight-above _ _ _ (c .before .before .before .before .before .before .before .pre) _ (c .before .before .before .before .before .clip .given .1) (sym (c .before .before .before .judge .ensures) ∙ c .before .enum-told4 .given .1) (c .limit .ensures)
 

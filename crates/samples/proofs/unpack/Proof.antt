@@ -1,62 +1,35 @@
+-- `samples::unpack` meets its contract: the loop of the raster's own width does.
 -- Assumes nothing.
-use Prim.Native.Nat.{_≤_, _-_}
-use mathlib.Core.Path.{_≡_, refl, _∙_}
-use lib.ListN.{length, length-set}
-use native.Mathlib.Omega.{arith}
 use borrow.Author.Needs.{needs}
-use Rattle.lists.specs.Lists.{filled}
-use Rattle.lists.proofs.Fills.{filled-none, filled-step, filled-end, filled-onto}
-use Rattle.lists.proofs.Blocks.{block-fits}
-use Rattle.samples.specs.Samples.{sampleAt, sizeOf, unpacked}
+use Rattle.samples.proofs.Widths.{unpack-asks}
 use Rattle.samples.proofs.unpack.Statement.{statement}
 use Rattle.samples.proofs.unpack.Tie as tie
 
-abbrev Inv-loop : tie.InvT-loop
-Inv-loop bytes wide count target₀ i₀ target i = (i ≤ count) × (count ≤ length target₀) × (length target ≡ length target₀) × (target ≡ filled (sampleAt wide bytes) target₀ i)
+unpack-pairs-requires : tie.Need-unpack-pairs-requires
+unpack-pairs-requires c κs = unpack-asks (c .before .before .before .before .pre) (c .before .if1 .taken)
 
-abbrev μ-loop : tie.MeasureT-loop
-μ-loop bytes wide count target₀ i₀ target i = count - i
-
-loop-holds : tie.Need-loop-holds Inv-loop μ-loop
-loop-holds c = (search needs, search needs, refl, filled-none _ _)
-
-sample-requires : tie.Need-sample-requires Inv-loop μ-loop
-sample-requires c κs = let a = c .before .before .before .before .args in block-fits (sizeOf (a .wide)) (a .count) (search needs) (omega arith)
-
-mul-target : tie.Need-mul-target Inv-loop μ-loop
-mul-target c = search needs
-
-slice-write-target : tie.Need-slice-write-target Inv-loop μ-loop
-slice-write-target c = search needs
-
-add-i : tie.Need-add-i Inv-loop μ-loop
-add-i c = search needs
-
-loop-less : tie.Need-loop-less Inv-loop μ-loop
-loop-less c = search needs
-
-loop-again : tie.Need-loop-again Inv-loop μ-loop
-loop-again c = (search needs, search needs, rw length-set (search needs), filled-step _ _ (c .before .before .loop .inv .3) (search needs) (c .sample .ensures))
-
-same-length : tie.Need-same-length Inv-loop μ-loop
+same-length : tie.Need-same-length
 same-length c = search needs
 
-returns : tie.Need-returns Inv-loop μ-loop
-unfolding unpacked
-returns c = filled-end _ _ (c .before .loop .inv .3) (search needs) (search needs) ∙ filled-onto _ _ _
+returns : tie.Need-returns
+returns c = rw (c .before .before .before .before .if1 .taken) (c .before .before .unpack-pairs .ensures)
+
+unpack-bytes-requires : tie.Need-unpack-bytes-requires
+unpack-bytes-requires c κs = unpack-asks (c .before .before .before .before .pre) (c .before .if1 .left)
+
+same-length-2 : tie.Need-same-length-2
+same-length-2 c = search needs
+
+returns-2 : tie.Need-returns-2
+returns-2 c = rw (c .before .before .before .before .if1 .left) (c .before .before .unpack-bytes .ensures)
 
 pub unpack-spec : {M : Type 1} → statement M
 unpack-spec =
     tie.close
     (tie.spec
-    Inv-loop
-    μ-loop
-    loop-holds
-    sample-requires
-    mul-target
-    slice-write-target
-    add-i
-    loop-less
-    loop-again
+    unpack-pairs-requires
     same-length
-    returns)
+    returns
+    unpack-bytes-requires
+    same-length-2
+    returns-2)

@@ -6,12 +6,10 @@ use Rattle.settings.proofs.bins.Tie as tie
 use Rattle.settings.proofs.bins.Reads as reads
 use Rattle.settings.proofs.bins.Lts as lts
 
--- src/lib.rt:46:9
 returns : tie.Need-returns
 unfolding binsOf
 returns c = rw (eq-eqb _ _ (c .if1 .taken)) refl
 
--- src/lib.rt:42:1
 returns-2 : tie.Need-returns-2
 unfolding binsOf
 returns-2 c = rw (ne-eqb _ _ (c .if1 .left)) refl

@@ -7,45 +7,35 @@ use Rattle.settings.proofs.clip_bad.Reads as reads
 use Rattle.settings.proofs.clip_bad.Lts as lts
 use Rattle.limit.proofs.judge.Reads as judge-reads
 
--- src/lib.rt:71:22
 enum-told : tie.Need-enum-told
 enum-told c = search needs
 
--- src/lib.rt:72:22
 enum-known-clip : tie.Need-enum-known-clip
 enum-known-clip c = search needs
 
--- src/lib.rt:73:17
 judge-requires : tie.Need-judge-requires
 judge-requires c κs = search needs
 
--- src/lib.rt:75:36
 enum-told-2 : tie.Need-enum-told-2
 enum-told-2 c = search needs
 
--- src/lib.rt:76:32
 enum-told-3 : tie.Need-enum-told-3
 enum-told-3 c = search needs
 
--- src/lib.rt:77:34
 enum-told-4 : tie.Need-enum-told-4
 enum-told-4 c = search needs
 
--- src/lib.rt:67:1
 returns : tie.Need-returns
 returns c = search needs
 
--- src/lib.rt:67:1
 returns-2 : tie.Need-returns-2
 returns-2 c =
     bad-refused _ _ (c .before .before .before .before .clip .given .1) (sym (c .before .before .judge .ensures) ∙ c .enum-told2 .given .1)
 
--- src/lib.rt:67:1
 returns-3 : tie.Need-returns-3
 returns-3 c =
     bad-one _ _ (c .before .before .before .before .clip .given .1) (sym (c .before .before .judge .ensures) ∙ c .enum-told3 .given .1)
 
--- src/lib.rt:67:1
 returns-4 : tie.Need-returns-4
 returns-4 c =
     bad-above _ _ (c .before .before .before .before .clip .given .1) (sym (c .before .before .judge .ensures) ∙ c .enum-told4 .given .1)

@@ -9,36 +9,29 @@ use Rattle.settings.proofs.grey_refusal.Reads as reads
 use Rattle.settings.proofs.grey_refusal.Lts as lts
 use Rattle.settings.proofs.clip_bad.Reads as clip-bad-reads
 
--- src/lib.rt:168:9
 returns : tie.Need-returns
 unfolding first greyRows
 returns c = rw (lt-ltb _ _ (c .if1 .taken)) refl
 
--- src/lib.rt:171:9
 returns-2 : tie.Need-returns-2
 unfolding first greyRows
 returns-2 c = rw (le-ltb _ _ (c .before .before .if1 .left), le-leb _ _ (c .if2 .taken)) refl
 
--- src/lib.rt:174:9
 returns-3 : tie.Need-returns-3
 unfolding first greyRows
 returns-3 c = rw (le-ltb _ _ (c .before .before .before .before .if1 .left), lt-leb _ _ (c .before .before .if2 .left), eq-eqb _ _ (c .if3 .taken)) refl
 
--- src/lib.rt:177:9
 returns-4 : tie.Need-returns-4
 unfolding first greyRows
 returns-4 c = rw (le-ltb _ _ (c .before .before .before .before .before .before .if1 .left), lt-leb _ _ (c .before .before .before .before .if2 .left), ne-eqb _ _ (c .before .before .if3 .left), lt-ltb _ _ (c .if4 .taken)) refl
 
--- src/lib.rt:180:8
 clip-bad-requires : tie.Need-clip-bad-requires
 clip-bad-requires c κs = search needs
 
--- src/lib.rt:181:9
 returns-5 : tie.Need-returns-5
 unfolding first greyRows
 returns-5 c = rw (le-ltb _ _ (c .before .before .before .before .before .before .before .before .if1 .left), lt-leb _ _ (c .before .before .before .before .before .before .if2 .left), ne-eqb _ _ (c .before .before .before .before .if3 .left), le-ltb _ _ (c .before .before .if4 .left), sym (c .before .clip-bad .ensures) ∙ c .if5 .taken) refl
 
--- src/lib.rt:164:1
 returns-6 : tie.Need-returns-6
 unfolding first greyRows
 returns-6 c = rw (le-ltb _ _ (c .before .before .before .before .before .before .before .before .if1 .left), lt-leb _ _ (c .before .before .before .before .before .before .if2 .left), ne-eqb _ _ (c .before .before .before .before .if3 .left), le-ltb _ _ (c .before .before .if4 .left), sym (c .before .clip-bad .ensures) ∙ c .if5 .left) refl

@@ -8,45 +8,36 @@ use Rattle.settings.proofs.grid_refusal.Tie as tie
 use Rattle.settings.proofs.grid_refusal.Reads as reads
 use Rattle.settings.proofs.grid_refusal.Lts as lts
 
--- src/lib.rt:143:9
 returns : tie.Need-returns
 unfolding first gridRows
 returns c = rw (lt-ltb _ _ (c .if1 .taken)) refl
 
--- src/lib.rt:146:9
 returns-2 : tie.Need-returns-2
 unfolding first gridRows
 returns-2 c = rw (le-ltb _ _ (c .before .before .if1 .left), lt-ltb _ _ (c .if2 .taken)) refl
 
--- src/lib.rt:149:9
 returns-3 : tie.Need-returns-3
 unfolding first gridRows
 returns-3 c = rw (le-ltb _ _ (c .before .before .before .before .if1 .left), le-ltb _ _ (c .before .before .if2 .left), lt-ltb _ _ (c .if3 .taken)) refl
 
--- src/lib.rt:152:9
 returns-4 : tie.Need-returns-4
 unfolding first gridRows
 returns-4 c = rw (le-ltb _ _ (c .before .before .before .before .before .before .if1 .left), le-ltb _ _ (c .before .before .before .before .if2 .left), le-ltb _ _ (c .before .before .if3 .left), lt-ltb _ _ (c .if4 .taken)) refl
 
--- src/lib.rt:154:8
 rem-if5 : tie.Need-rem-if5
 rem-if5 c = search needs
 
--- src/lib.rt:155:9
 returns-5 : tie.Need-returns-5
 unfolding first gridRows
 returns-5 c = rw (le-ltb _ _ (c .before .before .before .before .before .before .before .before .if1 .left), le-ltb _ _ (c .before .before .before .before .before .before .if2 .left), le-ltb _ _ (c .before .before .before .before .if3 .left), le-ltb _ _ (c .before .before .if4 .left), ne-eqb _ _ (c .if5 .taken)) refl
 
--- src/lib.rt:157:8
 rem-if6 : tie.Need-rem-if6
 rem-if6 c = search needs
 
--- src/lib.rt:158:9
 returns-6 : tie.Need-returns-6
 unfolding first gridRows
 returns-6 c = rw (le-ltb _ _ (c .before .before .before .before .before .before .before .before .before .before .if1 .left), le-ltb _ _ (c .before .before .before .before .before .before .before .before .if2 .left), le-ltb _ _ (c .before .before .before .before .before .before .if3 .left), le-ltb _ _ (c .before .before .before .before .if4 .left), eq-eqb _ _ (c .before .before .if5 .left), ne-eqb _ _ (c .if6 .taken)) refl
 
--- src/lib.rt:139:1
 returns-7 : tie.Need-returns-7
 unfolding first gridRows
 returns-7 c = rw (le-ltb _ _ (c .before .before .before .before .before .before .before .before .before .before .if1 .left), le-ltb _ _ (c .before .before .before .before .before .before .before .before .if2 .left), le-ltb _ _ (c .before .before .before .before .before .before .if3 .left), le-ltb _ _ (c .before .before .before .before .if4 .left), eq-eqb _ _ (c .before .before .if5 .left), eq-eqb _ _ (c .if6 .left)) refl

@@ -6,11 +6,9 @@ use Rattle.settings.proofs.kept.Reads as reads
 use Rattle.settings.proofs.kept.Lts as lts
 use Rattle.settings.proofs.bins.Reads as bins-reads
 
--- src/lib.rt:59:15
 bins-requires : tie.Need-bins-requires
 bins-requires c κs = search needs
 
--- src/lib.rt:52:1
 returns : tie.Need-returns
 returns c = rw (c .bins .ensures) refl
 

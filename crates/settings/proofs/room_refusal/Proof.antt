@@ -12,27 +12,21 @@ use Rattle.settings.proofs.room_refusal.Reads as reads
 use Rattle.settings.proofs.room_refusal.Lts as lts
 use Rattle.settings.proofs.bins.Reads as bins-reads
 
--- src/lib.rt:192:18
 cast-across : tie.Need-cast-across
 cast-across c = search needs
 
--- src/lib.rt:193:16
 cast-down : tie.Need-cast-down
 cast-down c = search needs
 
--- src/lib.rt:194:16
 bins-requires : tie.Need-bins-requires
 bins-requires c κs = search needs
 
--- src/lib.rt:194:16
 cast-each : tie.Need-cast-each
 cast-each c = search needs
 
--- src/lib.rt:195:15
 mul-if1 : tie.Need-mul-if1
 mul-if1 c = record { fits = lt-of-le-of-lt (mul-le-mul (c .before .before .before .pre .0) (c .before .before .before .pre .1)) (lit< tt) }
 
--- src/lib.rt:195:15
 mul-if1-2 : tie.Need-mul-if1-2
 mul-if1-2 c =
     record {
@@ -42,12 +36,10 @@ mul-if1-2 c =
           (lit< tt);
     }
 
--- src/lib.rt:196:9
 returns : tie.Need-returns
 unfolding first roomRows
 returns c = rw (← c .before .bins .ensures, lt-ltb _ _ (c .if1 .taken)) refl
 
--- src/lib.rt:188:1
 returns-2 : tie.Need-returns-2
 unfolding first roomRows
 returns-2 c = rw (← c .before .bins .ensures, le-ltb _ _ (c .if1 .left)) refl

@@ -6,46 +6,36 @@ use Rattle.settings.proofs.same_clip.Tie as tie
 use Rattle.settings.proofs.same_clip.Reads as reads
 use Rattle.settings.proofs.same_clip.Lts as lts
 
--- src/lib.rt:105:22
 enum-told : tie.Need-enum-told
 enum-told c = search needs
 
--- src/lib.rt:106:26
 enum-told-2 : tie.Need-enum-told-2
 enum-told-2 c = search needs
 
--- src/lib.rt:107:32
 enum-told-3 : tie.Need-enum-told-3
 enum-told-3 c = search needs
 
--- src/lib.rt:109:22
 enum-known-a : tie.Need-enum-known-a
 enum-known-a c = search needs
 
--- src/lib.rt:110:26
 enum-told-4 : tie.Need-enum-told-4
 enum-told-4 c = search needs
 
--- src/lib.rt:111:26
 enum-known-b : tie.Need-enum-known-b
 enum-known-b c = search needs
 
--- src/lib.rt:101:1
 returns : tie.Need-returns
 unfolding sameClip
 returns c = rw (c .before .before .enum-told .given .1, c .enum-told2 .given .1) refl
 
--- src/lib.rt:101:1
 returns-2 : tie.Need-returns-2
 unfolding sameClip
 returns-2 c = rw (c .before .before .enum-told .given .1, c .enum-told3 .given .1) refl
 
--- src/lib.rt:101:1
 returns-3 : tie.Need-returns-3
 unfolding sameClip
 returns-3 c = rw (c .before .before .before .a .given .1, c .enum-told4 .given .1) refl
 
--- src/lib.rt:101:1
 returns-4 : tie.Need-returns-4
 unfolding sameClip
 returns-4 c = rw (c .before .before .before .before .a .given .1, c .before .b .given .1) refl

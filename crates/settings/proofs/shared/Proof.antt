@@ -10,40 +10,32 @@ use Rattle.settings.proofs.grid_refusal.Reads as grid-refusal-reads
 use Rattle.settings.proofs.room_refusal.Reads as room-refusal-reads
 use Rattle.settings.proofs.size_refusal.Reads as size-refusal-reads
 
--- src/lib.rt:205:9
 size-refusal-requires : tie.Need-size-refusal-requires
 size-refusal-requires c κs = search needs
 
--- src/lib.rt:207:9
 returns : tie.Need-returns
 returns c = shared-size _ _ _ _ _ (c .before .size-refusal .ensures) (c .if1 .taken)
 
--- src/lib.rt:209:9
 grid-refusal-requires : tie.Need-grid-refusal-requires
 grid-refusal-requires c κs = search needs
 
--- src/lib.rt:211:9
 returns-2 : tie.Need-returns-2
 returns-2 c =
     shared-grid _ _ _ _ _ (c .before .before .before .size-refusal .ensures) (c .before .before .if1 .left) (c .before .grid-refusal .ensures) (c .if2 .taken)
 
--- src/lib.rt:213:9
 grey-refusal-requires : tie.Need-grey-refusal-requires
 grey-refusal-requires c κs = search needs
 
--- src/lib.rt:215:9
 returns-3 : tie.Need-returns-3
 returns-3 c =
     shared-grey _ _ _ _ _ (c .before .before .before .before .before .size-refusal .ensures) (c .before .before .before .before .if1 .left)
     (c .before .before .before .grid-refusal .ensures) (c .before .before .if2 .left) (c .before .grey-refusal .ensures) (c .if3 .taken)
 
--- src/lib.rt:217:5
 room-refusal-requires : tie.Need-room-refusal-requires
 room-refusal-requires c κs =
     let g = grid-most _ _ _ (sym (c .before .before .before .grid-refusal .ensures) ∙ c .before .before .if2 .left) in
     (g .0, g .1, grey-most _ (sym (c .before .grey-refusal .ensures) ∙ c .if3 .left))
 
--- src/lib.rt:202:1
 returns-4 : tie.Need-returns-4
 returns-4 c =
     shared-room _ _ _ _ _ (c .before .before .before .before .before .before .size-refusal .ensures) (c .before .before .before .before .before .if1 .left)

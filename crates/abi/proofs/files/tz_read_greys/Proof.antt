@@ -6,31 +6,24 @@ use Rattle.abi.proofs.files.tz_read_greys.Reads as reads
 use Rattle.abi.proofs.files.tz_read_greys.Lts as lts
 use Rattle.pgm.proofs.read_greys.Reads as read-greys-reads
 
--- src/files.rt:51:9
 read-greys-requires : tie.Need-read-greys-requires
 read-greys-requires c κs = search needs
 
--- src/files.rt:53:25
 enum-told : tie.Need-enum-told
 enum-told c = search needs
 
--- src/files.rt:54:25
 enum-known-answer : tie.Need-enum-known-answer
 enum-known-answer c = search needs
 
--- src/files.rt:40:1
 same-length : tie.Need-same-length
 same-length c = search needs
 
--- src/files.rt:40:1
 returns : tie.Need-returns
 returns c = greys-done _ (c .before .before .before .before .read-greys .ensures) (c .enum-told .given .1)
 
--- src/files.rt:40:1
 same-length-2 : tie.Need-same-length-2
 same-length-2 c = search needs
 
--- src/files.rt:40:1
 returns-2 : tie.Need-returns-2
 returns-2 c = greys-refused _ (c .before .before .before .before .before .read-greys .ensures) (c .before .answer .given .1)
 

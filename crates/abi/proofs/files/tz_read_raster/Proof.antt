@@ -10,33 +10,26 @@ use Rattle.abi.proofs.files.tz_read_raster.Lts as lts
 use Rattle.pgm.proofs.read_raster.Reads as read-raster-reads
 use Rattle.pgm.proofs.read_sizes.Reads as read-sizes-reads
 
--- src/files.rt:28:9
 read-sizes-requires : tie.Need-read-sizes-requires
 read-sizes-requires c κs = search needs
 
--- src/files.rt:31:17
 enum-told : tie.Need-enum-told
 enum-told c = search needs
 
--- src/files.rt:31:17
 read-raster-requires : tie.Need-read-raster-requires
 read-raster-requires c κs = search needs
 
--- src/files.rt:33:22
 sub-t9 : tie.Need-sub-t9
 sub-t9 c =
     let s = now (c .before .before .before .before .before .args .bytes) in
-    raster-size (readOf s) s (c .before .before .before .read-sizes .ensures) (c .before .enum-told .given .1) (c .read-raster .ensures)
+    raster-size (readOf s) s (c .before .before .before .read-sizes .ensures) (c .before .enum-told .given .1) (c .read-raster .ensures .0)
 
--- src/files.rt:36:24
 enum-known-answer : tie.Need-enum-known-answer
 enum-known-answer c = search needs
 
--- src/files.rt:24:1
 returns : tie.Need-returns
-returns c = raster-found _ _ _ refl (c .before .before .before .before .read-sizes .ensures) (c .before .before .enum-told .given .1) (c .before .read-raster .ensures)
+returns c = raster-found _ _ _ refl (c .before .before .before .before .read-sizes .ensures) (c .before .before .enum-told .given .1) (c .before .read-raster .ensures .0)
 
--- src/files.rt:24:1
 returns-2 : tie.Need-returns-2
 returns-2 c = raster-refused _ _ _ (c .before .before .before .read-sizes .ensures) (c .before .answer .given .1)
 

@@ -6,23 +6,18 @@ use Rattle.abi.proofs.files.tz_read_sizes.Reads as reads
 use Rattle.abi.proofs.files.tz_read_sizes.Lts as lts
 use Rattle.pgm.proofs.read_sizes.Reads as read-sizes-reads
 
--- src/files.rt:14:9
 read-sizes-requires : tie.Need-read-sizes-requires
 read-sizes-requires c κs = search needs
 
--- src/files.rt:16:22
 enum-known-answer : tie.Need-enum-known-answer
 enum-known-answer c = search needs
 
--- src/files.rt:20:24
 enum-known-answer-2 : tie.Need-enum-known-answer-2
 enum-known-answer-2 c = search needs
 
--- src/files.rt:10:1
 returns : tie.Need-returns
 returns c = sizes-found _ _ (c .before .before .before .before .read-sizes .ensures) (c .before .before .answer .given .1)
 
--- src/files.rt:10:1
 returns-2 : tie.Need-returns-2
 returns-2 c = sizes-refused _ _ (c .before .before .before .read-sizes .ensures) (c .before .answer2 .given .1)
 

@@ -6,31 +6,24 @@ use Rattle.abi.proofs.files.tz_write.Reads as reads
 use Rattle.abi.proofs.files.tz_write.Lts as lts
 use Rattle.pgm.proofs.write.Reads as write-reads
 
--- src/files.rt:69:9
 write-requires : tie.Need-write-requires
 write-requires c κs = search needs
 
--- src/files.rt:71:24
 enum-known-answer : tie.Need-enum-known-answer
 enum-known-answer c = search needs
 
--- src/files.rt:75:26
 enum-known-answer-2 : tie.Need-enum-known-answer-2
 enum-known-answer-2 c = search needs
 
--- src/files.rt:58:1
 same-length : tie.Need-same-length
 same-length c = search needs
 
--- src/files.rt:58:1
 returns : tie.Need-returns
 returns c = written-bytes _ _ (c .before .before .before .before .before .write .ensures) (c .before .answer .given .1)
 
--- src/files.rt:58:1
 same-length-2 : tie.Need-same-length-2
 same-length-2 c = search needs
 
--- src/files.rt:58:1
 returns-2 : tie.Need-returns-2
 returns-2 c = written-refused _ _ (c .before .before .before .before .before .write .ensures) (c .before .answer2 .given .1)
 

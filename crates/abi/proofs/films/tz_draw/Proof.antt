@@ -8,39 +8,30 @@ use Rattle.abi.proofs.flat.record_from.Reads as record-from-reads
 use Rattle.abi.proofs.flat.settings_from.Reads as settings-from-reads
 use Rattle.draw.proofs.draw.Reads as draw-reads
 
--- src/films.rt:110:9
 settings-from-requires : tie.Need-settings-from-requires
 settings-from-requires c κs = search needs
 
--- src/films.rt:111:9
 record-from-requires : tie.Need-record-from-requires
 record-from-requires c κs = search needs
 
--- src/films.rt:118:9
 draw-requires : tie.Need-draw-requires
 draw-requires c κs = search needs
 
--- src/films.rt:120:24
 enum-told : tie.Need-enum-told
 enum-told c = search needs
 
--- src/films.rt:121:24
 enum-known-answer : tie.Need-enum-known-answer
 enum-known-answer c = search needs
 
--- src/films.rt:86:1
 same-length : tie.Need-same-length
 same-length c = search needs
 
--- src/films.rt:86:1
 returns : tie.Need-returns
 returns c = rw (← c .before .before .before .before .before .before .before .settings-from .ensures, ← c .before .before .before .before .before .before .record-from .ensures) (drawn-done _ (c .before .before .before .before .draw .ensures) (c .enum-told .given .1))
 
--- src/films.rt:86:1
 same-length-2 : tie.Need-same-length-2
 same-length-2 c = search needs
 
--- src/films.rt:86:1
 returns-2 : tie.Need-returns-2
 returns-2 c = rw (← c .before .before .before .before .before .before .before .before .settings-from .ensures, ← c .before .before .before .before .before .before .before .record-from .ensures) (drawn-refused _ (c .before .before .before .before .before .draw .ensures) (c .before .answer .given .1))
 

@@ -7,51 +7,39 @@ use Rattle.abi.proofs.films.tz_enhance.Lts as lts
 use Rattle.abi.proofs.flat.settings_from.Reads as settings-from-reads
 use Rattle.prepare.proofs.enhance.Reads as enhance-reads
 
--- src/films.rt:73:9
 settings-from-requires : tie.Need-settings-from-requires
 settings-from-requires c κs = search needs
 
--- src/films.rt:74:9
 enhance-requires : tie.Need-enhance-requires
 enhance-requires c κs = search needs
 
--- src/films.rt:76:24
 enum-known-answer : tie.Need-enum-known-answer
 enum-known-answer c = search needs
 
--- src/films.rt:82:27
 enum-known-answer-2 : tie.Need-enum-known-answer-2
 enum-known-answer-2 c = search needs
 
--- src/films.rt:53:1
 same-length : tie.Need-same-length
 same-length c = search needs
 
--- src/films.rt:53:1
 same-length-2 : tie.Need-same-length-2
 same-length-2 c = search needs
 
--- src/films.rt:53:1
 same-length-3 : tie.Need-same-length-3
 same-length-3 c = search needs
 
--- src/films.rt:53:1
 returns : tie.Need-returns
 returns c = rw (← c .before .before .before .before .before .before .before .before .before .before .before .before .before .settings-from .ensures) (enhanced-done _ _ (c .before .before .before .before .before .before .before .before .before .enhance .ensures) (c .before .answer .given .1))
 
--- src/films.rt:53:1
 same-length-4 : tie.Need-same-length-4
 same-length-4 c = search needs
 
--- src/films.rt:53:1
 same-length-5 : tie.Need-same-length-5
 same-length-5 c = search needs
 
--- src/films.rt:53:1
 same-length-6 : tie.Need-same-length-6
 same-length-6 c = search needs
 
--- src/films.rt:53:1
 returns-2 : tie.Need-returns-2
 returns-2 c = rw (← c .before .before .before .before .before .before .before .before .before .before .before .before .before .settings-from .ensures) (enhanced-refused _ _ (c .before .before .before .before .before .before .before .before .before .enhance .ensures) (c .before .answer2 .given .1))
 

@@ -9,51 +9,39 @@ use Rattle.abi.proofs.flat.put_record.Reads as put-record-reads
 use Rattle.abi.proofs.flat.settings_from.Reads as settings-from-reads
 use Rattle.prepare.proofs.prepare.Reads as prepare-reads
 
--- src/films.rt:36:9
 settings-from-requires : tie.Need-settings-from-requires
 settings-from-requires c κs = search needs
 
--- src/films.rt:37:9
 prepare-requires : tie.Need-prepare-requires
 prepare-requires c κs = search needs
 
--- src/films.rt:39:24
 enum-known-answer : tie.Need-enum-known-answer
 enum-known-answer c = search needs
 
--- src/films.rt:40:13
 put-record-requires : tie.Need-put-record-requires
 put-record-requires c κs = search needs
 
--- src/films.rt:43:21
 clip-factor-requires : tie.Need-clip-factor-requires
 clip-factor-requires c κs = search needs
 
--- src/films.rt:49:27
 enum-known-answer-2 : tie.Need-enum-known-answer-2
 enum-known-answer-2 c = search needs
 
--- src/films.rt:13:1
 same-length : tie.Need-same-length
 same-length c = search needs
 
--- src/films.rt:13:1
 same-length-2 : tie.Need-same-length-2
 same-length-2 c = search needs
 
--- src/films.rt:13:1
 returns : tie.Need-returns
 returns c = rw (← c .before .before .before .before .before .before .before .before .before .before .before .before .before .before .settings-from .ensures) (prepared-done _ _ _ _ (c .before .before .before .before .before .before .before .before .before .before .before .prepare .ensures) (c .before .before .before .before .before .answer .given .1) (c .before .before .put-record .ensures) (c .clip-factor .ensures))
 
--- src/films.rt:13:1
 same-length-3 : tie.Need-same-length-3
 same-length-3 c = search needs
 
--- src/films.rt:13:1
 same-length-4 : tie.Need-same-length-4
 same-length-4 c = search needs
 
--- src/films.rt:13:1
 returns-2 : tie.Need-returns-2
 returns-2 c = rw (← c .before .before .before .before .before .before .before .before .before .before .settings-from .ensures) (prepared-refused _ _ _ _ (c .before .before .before .before .before .before .before .prepare .ensures) (c .before .answer2 .given .1))
 

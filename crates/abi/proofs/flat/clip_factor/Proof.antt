@@ -6,20 +6,16 @@ use Rattle.abi.proofs.flat.clip_factor.Tie as tie
 use Rattle.abi.proofs.flat.clip_factor.Reads as reads
 use Rattle.abi.proofs.flat.clip_factor.Lts as lts
 
--- src/flat.rt:30:22
 enum-told : tie.Need-enum-told
 enum-told c = search needs
 
--- src/flat.rt:31:22
 enum-known-clip : tie.Need-enum-known-clip
 enum-known-clip c = search needs
 
--- src/flat.rt:26:1
 returns : tie.Need-returns
 unfolding ofBits
 returns c = rw (c .enum-told .given .1) refl
 
--- src/flat.rt:26:1
 returns-2 : tie.Need-returns-2
 returns-2 c = search needs
 

@@ -5,11 +5,9 @@ use Rattle.abi.proofs.flat.clip_from.Tie as tie
 use Rattle.abi.proofs.flat.clip_from.Reads as reads
 use Rattle.abi.proofs.flat.clip_from.Lts as lts
 
--- src/flat.rt:12:9
 returns : tie.Need-returns
 returns c = search needs
 
--- src/flat.rt:8:1
 returns-2 : tie.Need-returns-2
 returns-2 c = clip-some _ _ (c .if1 .left)
 

@@ -6,11 +6,9 @@ use Rattle.abi.proofs.flat.put_record.Reads as reads
 use Rattle.abi.proofs.flat.put_record.Lts as lts
 use Rattle.abi.proofs.flat.clip_number.Reads as clip-number-reads
 
--- src/flat.rt:71:9
 clip-number-requires : tie.Need-clip-number-requires
 clip-number-requires c κs = search needs
 
--- src/flat.rt:57:1
 returns : tie.Need-returns
 returns c = rw (c .before .clip-number .ensures) refl
 

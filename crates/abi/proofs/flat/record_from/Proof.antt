@@ -6,47 +6,36 @@ use Rattle.abi.proofs.flat.record_from.Reads as reads
 use Rattle.abi.proofs.flat.record_from.Lts as lts
 use Rattle.abi.proofs.flat.settings_from.Reads as settings-from-reads
 
--- src/flat.rt:79:9
 element-copy-out-settings-from : tie.Need-element-copy-out-settings-from
 element-copy-out-settings-from c = search needs
 
--- src/flat.rt:80:9
 element-copy-out-settings-from-2 : tie.Need-element-copy-out-settings-from-2
 element-copy-out-settings-from-2 c = search needs
 
--- src/flat.rt:81:9
 element-copy-out-settings-from-3 : tie.Need-element-copy-out-settings-from-3
 element-copy-out-settings-from-3 c = search needs
 
--- src/flat.rt:82:9
 element-copy-out-settings-from-4 : tie.Need-element-copy-out-settings-from-4
 element-copy-out-settings-from-4 c = search needs
 
--- src/flat.rt:83:9
 element-copy-out-settings-from-5 : tie.Need-element-copy-out-settings-from-5
 element-copy-out-settings-from-5 c = search needs
 
--- src/flat.rt:84:9
 element-copy-out-settings-from-6 : tie.Need-element-copy-out-settings-from-6
 element-copy-out-settings-from-6 c = search needs
 
--- src/flat.rt:78:9
 settings-from-requires : tie.Need-settings-from-requires
 settings-from-requires c κs = search needs
 
--- src/flat.rt:88:15
 element-copy-out-t6 : tie.Need-element-copy-out-t6
 element-copy-out-t6 c = search needs
 
--- src/flat.rt:89:16
 element-copy-out-t21 : tie.Need-element-copy-out-t21
 element-copy-out-t21 c = search needs
 
--- src/flat.rt:90:17
 element-copy-out-t18 : tie.Need-element-copy-out-t18
 element-copy-out-t18 c = search needs
 
--- src/flat.rt:75:1
 returns : tie.Need-returns
 returns c = rw (c .before .before .before .settings-from .ensures) refl
 

@@ -6,11 +6,9 @@ use Rattle.abi.proofs.flat.settings_from.Reads as reads
 use Rattle.abi.proofs.flat.settings_from.Lts as lts
 use Rattle.abi.proofs.flat.clip_from.Reads as clip-from-reads
 
--- src/flat.rt:46:9
 clip-from-requires : tie.Need-clip-from-requires
 clip-from-requires c κs = search needs
 
--- src/flat.rt:35:1
 returns : tie.Need-returns
 returns c = rw (c .clip-from .ensures) refl
 

@@ -1,0 +1,157 @@
+#include "calls.h"
+
+#include <stdio.h>
+#include <stdlib.h>
+#include <string.h>
+
+#include "clahe1994.h"
+
+#define FILM 7u
+
+void end(const char *why, long number)
+{
+    fprintf(stderr, "bench: %s (%ld)\n", why, number);
+    exit(1);
+}
+
+static void *room(size_t bytes)
+{
+    void *at = malloc(bytes);
+    if (at == NULL)
+        end("no memory for so many bytes", (long)bytes);
+    memset(at, 0, bytes);
+    return at;
+}
+
+void open_bench(struct bench *b, const struct subject *of)
+{
+    uint32_t side = of->side, window = side < of->window ? side : of->window;
+    memset(b, 0, sizeof *b);
+    b->of = *of;
+    b->pixels = (size_t)side * side;
+    b->sizes = (tz_sizes){side, side, of->bits == 8 ? 255 : 4095};
+    b->settings = (tz_settings){of->grid, of->grid, of->bins, 0, b->sizes.maxval, 1, 3.0f};
+    b->window = (tz_window){(side - window) / 2, (side - window) / 2, window, window};
+    b->area = (size_t)window * window;
+    b->film = room(2 * b->pixels);
+    b->picture = room(2 * b->pixels);
+    b->drawn = room(2 * b->pixels);
+    b->map = room(2 * tz_map_entries(&b->settings));
+    b->scratch = room(4 * tz_scratch_entries(&b->settings));
+    b->file = room(tz_write_bytes(side, side));
+    film_draw(b->film, of->kind, side, of->bits);
+}
+
+void close_bench(struct bench *b)
+{
+    free(b->film);
+    free(b->picture);
+    free(b->drawn);
+    free(b->map);
+    free(b->scratch);
+    free(b->file);
+}
+
+/* ---- the calls ---- */
+
+void lay_out(struct bench *b) { memcpy(b->picture, b->film, 2 * b->pixels); }
+
+long call_enhance(struct bench *b)
+{
+    return tzofnadir_enhance(b->of.side, b->of.side, b->picture, b->pixels, &b->settings, b->map,
+                             tz_map_entries(&b->settings), b->scratch, tz_scratch_entries(&b->settings), &b->footer);
+}
+
+static long prepare_by(struct bench *b, const tz_settings *s)
+{
+    return tzofnadir_prepare(FILM, b->of.side, b->of.side, b->film, b->pixels, s, b->map, tz_map_entries(s),
+                             b->scratch, tz_scratch_entries(s), &b->record, &b->footer);
+}
+
+long call_prepare(struct bench *b) { return prepare_by(b, &b->settings); }
+
+long call_scan(struct bench *b)
+{
+    uint16_t *last = &b->film[b->pixels - 1], was = *last;
+    *last = (uint16_t)(b->settings.max + 1);
+    long answer = call_prepare(b);
+    *last = was;
+    return answer == TZ_PIXEL_OUTSIDE ? 0 : answer == 0 ? -1 : answer;
+}
+
+long call_unclipped(struct bench *b)
+{
+    tz_settings off = b->settings;
+    off.clip = 0;
+    return prepare_by(b, &off);
+}
+
+long call_draw(struct bench *b)
+{
+    return tzofnadir_draw(FILM, b->of.side, b->of.side, b->film, b->pixels, &b->settings, &b->record, &b->window,
+                          b->map, tz_map_entries(&b->settings), b->drawn, b->area);
+}
+
+long call_write(struct bench *b)
+{
+    return tzofnadir_write(b->film, b->pixels, &b->sizes, b->file, tz_write_bytes(b->of.side, b->of.side),
+                           &b->file_len);
+}
+
+long call_read(struct bench *b)
+{
+    tz_sizes sizes;
+    tz_part part;
+    uint32_t refusal = tzofnadir_read_sizes(b->file, b->file_len, &sizes);
+    if (refusal == TZ_DONE)
+        refusal = tzofnadir_read_raster(b->file, b->file_len, &part);
+    if (refusal == TZ_DONE)
+        refusal = tzofnadir_read_greys(b->file, b->file_len, part.start, &sizes, b->picture, b->pixels);
+    return refusal;
+}
+
+long call_1994(struct bench *b)
+{
+    const tz_settings *s = &b->settings;
+    return clahe1994(b->picture, b->of.side, b->of.side, s->min, s->max, s->across, s->down, s->bins, s->factor);
+}
+
+long call_copy(struct bench *b)
+{
+    memcpy(b->drawn, b->film, 2 * b->pixels);
+    return 0;
+}
+
+/* ---- the check ---- */
+
+static void must(const char *call, long answer)
+{
+    if (answer != 0)
+        end(call, answer);
+}
+
+static void check_file(struct bench *b)
+{
+    must("write", call_write(b));
+    must("read", call_read(b));
+    if (memcmp(b->picture, b->film, 2 * b->pixels) != 0)
+        end("a film written and read back is another", b->of.side);
+}
+
+static void check_window(struct bench *b)
+{
+    must("prepare", call_prepare(b));
+    must("draw", call_draw(b));
+    lay_out(b);
+    must("enhance", call_enhance(b));
+    for (uint32_t y = 0; y < b->window.height; y++)
+        if (memcmp(b->drawn + (size_t)y * b->window.width,
+                   b->picture + (size_t)(b->window.top + y) * b->of.side + b->window.left, 2 * b->window.width) != 0)
+            end("a drawn row is not enhance's", y);
+}
+
+void check(struct bench *b)
+{
+    check_file(b);
+    check_window(b);
+}

@@ -1,0 +1,68 @@
+/* A film with its settings and all the memory that the calls want, and the calls that are measured on it. */
+#ifndef CALLS_H
+#define CALLS_H
+
+#include <stddef.h>
+#include <stdint.h>
+
+#include "film.h"
+#include "tzofnadir.h"
+
+/* What a bench is opened for. The range is 0 to maxval and the factor 3.0. */
+struct subject {
+    enum kind kind;
+    uint32_t side, bits;
+    uint32_t grid, bins;
+    uint32_t window; /* the side of the drawn window; the film's own where that is less */
+};
+
+struct bench {
+    struct subject of;
+    size_t pixels;
+    tz_sizes sizes;
+    tz_settings settings;
+    tz_window window;
+    size_t area;       /* the window's pixels */
+    uint16_t *film;    /* as made */
+    uint16_t *picture; /* what is rendered in place */
+    uint16_t *drawn;   /* what is drawn or copied */
+    uint16_t *map;
+    uint32_t *scratch;
+    uint8_t *file; /* the film as raw PGM */
+    size_t file_len;
+    tz_record record;
+    tz_footer footer;
+};
+
+/* Says why on the standard error, and ends the program. */
+__attribute__((noreturn)) void end(const char *why, long number);
+
+void open_bench(struct bench *b, const struct subject *of);
+void close_bench(struct bench *b);
+
+/* Lays the film out anew, where it is rendered in place. */
+void lay_out(struct bench *b);
+
+/*
+ * Each call answers 0 where it ended as it should.
+ * scan:      prepare of the film with its last pixel outside the range. That is known when all pixels were looked at,
+ *            and nothing else is done. It is as it should be if prepare refuses with 13.
+ * unclipped: prepare with clip off. Its record is not that of the settings: draw wants prepare before it.
+ */
+long call_enhance(struct bench *b);
+long call_prepare(struct bench *b);
+long call_scan(struct bench *b);
+long call_unclipped(struct bench *b);
+long call_draw(struct bench *b);
+long call_write(struct bench *b);
+long call_read(struct bench *b);
+long call_1994(struct bench *b);
+long call_copy(struct bench *b);
+
+/*
+ * What is measured is worth nothing if it is wrong. Ends the program where a film written and read back is another, or a
+ * drawn window is not enhance's. Leaves enhance's picture in `picture`.
+ */
+void check(struct bench *b);
+
+#endif

@@ -1,0 +1,17 @@
+/* The films that are measured, drawn by a fixed generator: the same on every machine. */
+#ifndef FILM_H
+#define FILM_H
+
+#include <stdint.h>
+
+enum kind { NOISY, CALM, KINDS };
+
+const char *film_name(enum kind kind);
+
+/* Draws a square film of 8 or 12 bits into `film`, row by row. */
+void film_draw(uint16_t *film, enum kind kind, uint32_t side, uint32_t bits);
+
+/* Of the pixels that have a left neighbour, the share that lies in its bin, where a bin is `wide` greys from 0 on. */
+double film_share(const uint16_t *film, uint32_t side, uint32_t wide);
+
+#endif

@@ -1,0 +1,19 @@
+use borrow.Author.Needs.{needs}
+use Rattle.binning.specs.Binning.{binBy}
+use Rattle.binning.proofs.bin_few.Statement.{statement}
+use Rattle.binning.proofs.bin_few.Tie as tie
+use Rattle.binning.proofs.bin_few.Reads as reads
+use Rattle.binning.proofs.bin_few.Lts as lts
+
+sub-result : tie.Need-sub-result
+sub-result c = search needs
+
+mul-result : tie.Need-mul-result
+mul-result c = search needs
+
+returns : tie.Need-returns
+unfolding binBy
+returns c = search needs
+
+pub bin-few-spec : {M : Type 1} → statement M
+bin-few-spec = tie.close (tie.spec sub-result mul-result returns)

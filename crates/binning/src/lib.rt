@@ -1,0 +1,28 @@
+// The bin of a grey.
+ghost use mathlib.Core.Path.{_≡_};
+ghost use Prim.Native.Nat.{_-_, _*_, _≤_, _<_};
+ghost use Rattle.binning.specs.Binning.{factorOf, binBy};
+
+// The factor that stands for one over the bin width, so that no grey is divided.
+pub fn bin_factor(min: u32, max: u32, bins: u32) -> u32
+    requires { ⌜ (min ≤ max) × (max ≤ 4095) × (0 < bins) ⌝ }
+    ensures { λ r. ⌜ r ≡ factorOf min max bins ⌝ }
+{
+    16777216 / (1 + (max - min) / bins) + 1
+}
+
+// The bin of a grey by the factor: one product and one division by 2^24, which is a shift.
+pub fn bin_by(grey: u32, min: u32, factor: u32) -> u32
+    requires { ⌜ (min ≤ grey) × (grey ≤ 4095) ⌝ }
+    ensures { λ r. ⌜ r ≡ binBy min factor grey ⌝ }
+{
+    ((grey - min) as u64 * factor as u64 / 16777216) as u32
+}
+
+// The same for at most 256 bins, where the product stays in 32 bits: more greys go at once.
+pub fn bin_few(grey: u32, min: u32, factor: u32) -> u32
+    requires { ⌜ (min ≤ grey) × (grey ≤ 4095) × ((grey - min) * factor < 4294967296) ⌝ }
+    ensures { λ r. ⌜ r ≡ binBy min factor grey ⌝ }
+{
+    (grey - min) * factor / 16777216
+}

@@ -1,0 +1,98 @@
+-- Document 00, demand 3, call by call: "in every tile of a film that prepare or enhance accepts", with the limit that the footer hands back, and when the clip refusal is given.
+-- Of every run of the calls by their contracts (Runs); a name with ′ is lent memory at the end.
+-- Assumes nothing.
+use mathlib.Core.List.{[], _∷_}
+use mathlib.Core.Logic.{_↔_}
+use mathlib.Core.Path.{_≡_, refl, sym, ap, _∙_}
+use lib.Ieee.{Float}
+use lib.ListN.{length}
+use Rattle.refuse.specs.Refuse.{row, first, accepted, refused}
+use Rattle.limit.specs.declared.Clip.the-variants.{Factor}
+use Rattle.limit.specs.declared.Judged.{Judged}
+use Rattle.limit.specs.declared.Judged.the-variants.{Refused, One, Above}
+use Rattle.limit.specs.Limit.{judgedNumber, judgedSays}
+use Rattle.limit.proofs.Laws.{one-accepted, judged-exactly}
+use Rattle.settings.specs.declared.MapRecord.{MapRecord}
+use Rattle.settings.specs.declared.Footer.{Footer}
+use Rattle.settings.specs.Settings.{binsOf, tilePixels, clipBad}
+use Rattle.prepare.specs.Prepare.{preparedSays, enhancedSays, Ended, prepareOf, Over, enhanceOf}
+use Rattle.promises.specs.Films.{ClippingOn, ClipCase, FooterShows, FilmSound, earlierRows, FilmFilling}
+use Rattle.promises.proofs.Accepted.{says-refused, refused-says, prepare-work, enhance-work}
+use Rattle.promises.proofs.Demand1.{prepare-says, enhance-says}
+use Rattle.promises.proofs.Demand3.{tiles-sound, tiles-sound-enhance, footer-shows, footer-shows-enhance, clip-cases, clip-refusal}
+use Rattle.promises.proofs.Runs.{PrepareCall, Prepares, prepare-ends, EnhanceCall, Enhances, enhance-ends, JudgeCall, Judges, judge-ends}
+
+-- ---- every tile
+
+-- a film that prepare accepted, answering this footer
+module _ {p : PrepareCall} {r : MapRecord} {foot : Footer} (ran : Prepares p) (done : preparedSays (p .answer) ≡ accepted (r, foot)) where
+  prepared : preparedSays (prepareOf (p .film) (p .width) (p .height) (p .pixels) (p .settings) (p .map) (p .scratch) .answer) ≡ accepted (r, foot)
+  prepared = sym (ap (λ (z : Ended). preparedSays (z .answer)) (prepare-ends ran)) ∙ done
+
+  -- "a footer record with L, the factor asked as f32 and the factor used as f64": what it shows, by the clip setting
+  pub prepared-footer : FooterShows (p .settings .clip) (tilePixels (p .width) (p .height) (p .settings)) (binsOf (p .settings)) foot
+  prepared-footer = footer-shows _ _ _ _ _ (p .map) (p .scratch) prepared
+
+  -- which is off, exactly 1.0, or a factor above one
+  pub prepared-clip : ClipCase (p .settings .clip)
+  prepared-clip = clip-cases (prepare-work _ _ _ _ _ (p .map) (p .scratch) prepared)
+
+  -- "With clipping on (a factor above one), in every tile of a film that prepare .. accepts": with the limit of the footer, and the map entries that prepare left
+  pub prepared-tiles-sound : {f : Float} → ClippingOn (p .settings .clip) f → FilmSound (p .width) (p .height) (p .pixels) (p .settings) (foot .limit) (p .map′)
+  prepared-tiles-sound {f} on =
+      rw (ap (λ (z : Footer). z .limit) (prepared-footer .above f on), ap (λ (z : Ended). z .map) (prepare-ends ran))
+      (tiles-sound _ _ _ _ _ (p .map) (p .scratch) prepared on)
+
+-- a film that enhance accepted, answering this footer
+module _ {e : EnhanceCall} {foot : Footer} (ran : Enhances e) (done : enhancedSays (e .answer) ≡ accepted foot) where
+  enhanced : enhancedSays (enhanceOf (e .width) (e .height) (e .pixels) (e .settings) (e .map) (e .scratch) .answer) ≡ accepted foot
+  enhanced = sym (ap (λ (z : Over). enhancedSays (z .answer)) (enhance-ends ran)) ∙ done
+
+  -- "the same .. footer"
+  pub enhanced-footer : FooterShows (e .settings .clip) (tilePixels (e .width) (e .height) (e .settings)) (binsOf (e .settings)) foot
+  enhanced-footer = footer-shows-enhance _ _ _ _ (e .map) (e .scratch) enhanced
+
+  -- by a clip setting that is off, exactly 1.0, or a factor above one
+  pub enhanced-clip : ClipCase (e .settings .clip)
+  enhanced-clip = clip-cases (enhance-work _ _ _ _ (e .map) (e .scratch) enhanced)
+
+  -- "With clipping on (a factor above one), in every tile of a film that .. enhance accepts"
+  pub enhanced-tiles-sound : {f : Float} → ClippingOn (e .settings .clip) f → FilmSound (e .width) (e .height) (e .pixels) (e .settings) (foot .limit) (e .map′)
+  enhanced-tiles-sound {f} on =
+      rw (ap (λ (z : Footer). z .limit) (enhanced-footer .above f on), ap (λ (z : Over). z .map) (enhance-ends ran))
+      (tiles-sound-enhance _ _ _ _ (e .map) (e .scratch) enhanced on)
+
+-- ---- the clip refusal
+
+-- "Where the factor is above one and no earlier refusal of 01's order applies, prepare and enhance give the clip refusal exactly when no filling of the bins,
+-- none above the limit, could hold the tile's pixels.": of prepare
+pub prepare-says-clip : {p : PrepareCall} {f : Float} → Prepares p → ClippingOn (p .settings .clip) f
+    → first (earlierRows (p .width) (p .height) (p .pixels) (p .settings) (length (p .map)) (length (p .scratch))) ≡ 0
+    → (preparedSays (p .answer) ≡ refused 14) ↔ (FilmFilling (p .width) (p .height) (p .settings) f → ⊥)
+prepare-says-clip {p} ran on earlier =
+    let law = clip-refusal (p .width) (p .height) (p .pixels) (p .settings) (length (p .map)) (length (p .scratch)) earlier on in
+    ((λ e. law .0 (says-refused _ _ (sym (prepare-says ran) ∙ e))), (λ none. prepare-says ran ∙ refused-says _ _ (law .1 none)))
+
+-- and of enhance
+pub enhance-says-clip : {e : EnhanceCall} {f : Float} → Enhances e → ClippingOn (e .settings .clip) f
+    → first (earlierRows (e .width) (e .height) (e .pixels) (e .settings) (length (e .map)) (length (e .scratch))) ≡ 0
+    → (enhancedSays (e .answer) ≡ refused 14) ↔ (FilmFilling (e .width) (e .height) (e .settings) f → ⊥)
+enhance-says-clip {e} ran on earlier =
+    let law = clip-refusal (e .width) (e .height) (e .pixels) (e .settings) (length (e .map)) (length (e .scratch)) earlier on in
+    ((λ q. law .0 (says-refused _ _ (sym (enhance-says ran) ∙ q))), (λ none. enhance-says ran ∙ refused-says _ _ (law .1 none)))
+
+-- ---- the judgement of a factor
+
+-- what limit's judgement says of a factor is so: "factor NaN, infinite, below 1.0 or above 1024.0", "exactly 1.0", or above 1.0
+pub judge-says : {c : JudgeCall} → Judges c → judgedSays (c .answer) (c .factor)
+judge-says {c} ran = judged-exactly (c .factor) (c .answer) .0 (sym (judge-ends ran))
+
+-- and its number is that of the row of 10
+pub judge-number : {c : JudgeCall} → Judges c → judgedNumber (c .answer) ≡ first (row 10 (clipBad (Factor (c .factor))) ∷ [])
+unfolding first
+judge-number {c} ran = go (c .answer) (judge-says ran)
+  where
+    go : (j : Judged) → judgedSays j (c .factor) → judgedNumber j ≡ first (row 10 (clipBad (Factor (c .factor))) ∷ [])
+    go Refused s = rw s refl
+    go One s = rw (one-accepted (c .factor) s) refl
+    go Above s = rw (s .0) refl

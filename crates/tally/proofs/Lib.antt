@@ -1,0 +1,5 @@
+pub mod Counts
+pub mod Rows
+pub mod Fours
+pub mod Greys
+pub mod Turns
