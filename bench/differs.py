@@ -240,7 +240,7 @@ def rendered(work, ours):
 # --- films -------------------------------------------------------------------------------------------------------
 
 def film(side, bits):
-    """The film that draw_film of bench.c draws."""
+    """The noisy film that bench/film.c draws."""
     state = 20 * side + bits
     middle, half = side // 2, side // 6
     picture = []
@@ -306,7 +306,7 @@ def picture_of_second(case):
 
 def film_of_bench(case):
     """The film as bench/run left it, or None."""
-    path = os.path.join(TOP, "target", "bench", "%d-%s.pgm" % (case.side, case.bits))
+    path = os.path.join(TOP, "target", "bench", "%d-%s-noisy.pgm" % (case.side, case.bits))
     if case.bits is None or not os.path.exists(path):
         return None
     size = 1 if case.settings.max < 256 else 2
