@@ -1,14 +1,19 @@
 """Faults put into a compiled program one at a time: does the set find each?
 
-faults.py PROGRAM IN.ll ROOM [CRATE]    tries the faults, of one crate if it is named
+faults.py ROOM not PROGRAM .. -- CRATE ..     tries the faults of all crates but the named ones
+faults.py ROOM of PROGRAM .. -- CRATE ..      tries the faults of the named crates
+
+ROOM has each program's module, PROGRAM.ll. The faults are those of the first program; what it does not find is tried with
+the others that have the same function.
 
 In each function of the library, one at a time: a comparison is moved by one (< to <=, = to not equal), a sum becomes a
 difference, a product a sum, a quotient a remainder, and each number that stands in a comparison, in reckoning, in a
 stored value, a returned one or an argument becomes the next one. (The compiler's own checks for a division by 0 and the
-tags of enums are left alone.) A fault is found if the program crashes, does not end in ten seconds or prints anything but
+tags of enums are left alone.) A fault is found if a program crashes, does not end in ten seconds or prints anything but
 its stored output.
 """
 
+import os
 import re
 import subprocess
 import sys
@@ -31,8 +36,6 @@ FLAGS = re.compile(r" (?:nuw|nsw|inbounds|exact)(?= )|, !range !\d+|, !noundef !
 
 TAG = re.compile(r"^  store i8 \d+, ptr ")
 
-SLOW = re.compile(r'^(define .*@"\w+::(?:run_\w+|main)"\(.*\)) #0 \{$')
-
 
 def faults(line):
     """The lines that may stand in a line's place, each with one fault."""
@@ -51,54 +54,73 @@ def faults(line):
 
 
 def candidates(lines):
-    """All faults: the function, the line's place and the line that takes its place."""
-    place = 0
+    """All faults: the function, the line's place in the function and the line that takes its place."""
     for name, body in branches.functions(lines):
         # a function that returns nothing to the machine fills in an answer's tag
         tagged = body and body[0].startswith("define internal void")
-        for line, following in zip(body, body[1:] + [""]):
+        for place, (line, following) in enumerate(zip(body, body[1:] + [""])):
             skipped = "label %trap" in following or (tagged and TAG.match(line))
             if branches.ours(name) and not skipped:
                 for fault in faults(line):
-                    yield name, place, fault
-            place += 1
+                    yield name, place, line, fault
 
 
 def plain(text):
-    """The module without what the compiler may take for granted of right code, and with the tables left uncompiled."""
-    lines = [SLOW.sub(r"\1 #99 {", FLAGS.sub("", line)) for line in text]
-    return lines + ["attributes #99 = { noinline optnone nounwind }\n"]
+    """The module without what the compiler may take for granted of right code."""
+    return [FLAGS.sub("", line) for line in text]
 
 
-def ran(lines, room, expected):
-    """Whether the program prints what it should."""
-    with open(room + "/fault.ll", "w", encoding="utf-8") as out:
-        out.writelines(lines)
-    subprocess.run(["cover/native", room + "/fault.ll", room + "/fault"], check=True, capture_output=True)
-    try:
-        done = subprocess.run([room + "/fault"], capture_output=True, timeout=10, check=False)
-    except subprocess.TimeoutExpired:
-        return False
-    return done.returncode == 0 and done.stdout == expected
+class Program:
+    """A program's module, what it reads and what it must print."""
+
+    def __init__(self, name, room):
+        self.room = room
+        with open(f"{room}/{name}.ll", encoding="utf-8") as text:
+            self.lines = plain(text)
+        self.starts, place = {}, 0
+        for function, body in branches.functions(self.lines):
+            self.starts[function] = place
+            place += len(body)
+        self.read = f"crates/{name}/stdin" if os.path.exists(f"crates/{name}/stdin") else os.devnull
+        with open(f"crates/{name}/stdout", "rb") as stored:
+            self.expected = stored.read()
+
+    def ran(self, lines):
+        """Whether the program prints what it should."""
+        with open(self.room + "/fault.ll", "w", encoding="utf-8") as out:
+            out.writelines(lines)
+        subprocess.run(["cover/native", self.room + "/fault.ll", self.room + "/fault"], check=True, capture_output=True)
+        try:
+            with open(self.read, "rb") as read:
+                done = subprocess.run([self.room + "/fault"], stdin=read, capture_output=True, timeout=10, check=False)
+        except subprocess.TimeoutExpired:
+            return False
+        return done.returncode == 0 and done.stdout == self.expected
+
+    def misses(self, name, place, line, fault):
+        """Whether the program prints what it should with a fault in it, or has not the line."""
+        at = self.starts.get(name, len(self.lines)) + place
+        if at >= len(self.lines) or self.lines[at] != line:
+            return True
+        return self.ran(self.lines[:at] + [fault] + self.lines[at + 1:])
 
 
-def main(program, source, room, crate=None):
+def main(room, how, *words):
     """Tries the faults and tells which are not found."""
-    with open(source, encoding="utf-8") as text:
-        lines = plain(text)
-    with open(f"crates/{program}/stdout", "rb") as stored:
-        expected = stored.read()
-    assert ran(lines, room, expected), "the program without a fault"
+    names, crates = words[:words.index("--")], words[words.index("--") + 1:]
+    programs = [Program(name, room) for name in names]
+    for program in programs:
+        assert program.ran(program.lines), "a program without a fault"
     tried, missed = {}, 0
-    for name, place, fault in candidates(lines):
+    for name, place, line, fault in candidates(programs[0].lines):
         own = name.split("::")[0]
-        if crate in (None, own):
+        if (own in crates) == (how == "of"):
             tried[own] = tried.get(own, 0) + 1
-            if ran(lines[:place] + [fault] + lines[place + 1:], room, expected):
+            if all(program.misses(name, place, line, fault) for program in programs):
                 missed += 1
-                print(f"not found: {name}: {lines[place].strip()}  ->  {fault.strip()}", flush=True)
+                print(f"not found: {name}: {line.strip()}  ->  {fault.strip()}", flush=True)
     print(", ".join(f"{own} {number}" for own, number in sorted(tried.items())))
-    print(f"{program}: {sum(tried.values())} tried, {sum(tried.values()) - missed} found", flush=True)
+    print(f"{' and '.join(names)}: {sum(tried.values())} tried, {sum(tried.values()) - missed} found", flush=True)
 
 
 if __name__ == "__main__":

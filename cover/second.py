@@ -20,13 +20,13 @@ RECKONED = {ast.Add: ast.Sub, ast.Sub: ast.Add, ast.Mult: ast.Add, ast.FloorDiv:
             ast.Div: ast.Mult, ast.LShift: ast.RShift, ast.RShift: ast.LShift, ast.BitAnd: ast.BitOr, ast.BitOr: ast.BitAnd}
 
 LARGE = 10000
-FILMS_LENGTH = 5
+LENGTH = 6
 
 
 def small(line):
-    """Whether a line of FILMS.md is no row of a large film."""
-    words = line.split("#")[0].split()
-    return len(words) != 22 or int(words[FILMS_LENGTH], 0) <= LARGE
+    """Whether a line of the set is no row of a large film."""
+    words = line.split()
+    return words[0] != "F" or int(words[LENGTH], 0) <= LARGE
 
 
 def faulty(node):
@@ -70,8 +70,9 @@ def main():
     with tempfile.TemporaryDirectory() as above:
         room = above + "/second"
         shutil.copytree(f"{top}/second", room)
-        shutil.copytree(f"{top}/crates/listings/src", above + "/crates/listings/src")
-        with open(f"{top}/second/FILMS.md", encoding="utf-8") as text, open(f"{room}/FILMS.md", "w", encoding="utf-8") as out:
+        shutil.copytree(f"{top}/crates/listing_set/src", above + "/crates/listing_set/src")
+        os.mkdir(above + "/crates/films")
+        with open(f"{top}/crates/films/stdin", encoding="ascii") as text, open(f"{above}/crates/films/stdin", "w", encoding="ascii") as out:
             out.writelines(line for line in text if small(line))
         right, tried, missed = prints(room), 0, 0
         assert right, "the programs without a fault"

@@ -1,5 +1,6 @@
-"""Holds PROMISES.md to the repository: each theorem and definition that it names stands in the module that it names, each
-function is there, and each must-fail edit is named.
+"""Holds the papers to the repository. PROMISES.md: each theorem and definition that it names stands in the module that it
+names, each function is there, and each must-fail edit is named. RULES.md and CHANGING.md: what they name as `crate: name`
+stands in that crate. crates.txt: each crate names what it uses itself.
 
 Run: python3 -B docs/check.py
 """
@@ -13,6 +14,9 @@ TOP = os.path.dirname(os.path.dirname(os.path.abspath(__file__)))
 STATED = re.compile(r"^ *(?:(?:pub|unfoldable|abbrev|record|data) )*([^\s:(){}]+)(?: \([^)]*\))* :\s", re.M)
 # a part of a cell: a crate's name may stand before the module's, and the module's before its names
 PART = re.compile(r"^(?:`(?P<crate>\w+)` )?(?P<module>[A-Z]\w*): ")
+
+# a crate that holds a value of another's type without naming anything of it
+REACHED = {"listing_program": {"pgm"}}
 
 
 def read(path):
@@ -53,6 +57,41 @@ def missing(part, stated, known):
             if not any(name in own for own in where.values())]
 
 
+def papers(stated):
+    """What RULES.md and CHANGING.md name as `crate: name` and is not there."""
+    own = {}
+    for (crate, _), names in stated.items():
+        own.setdefault(crate, set()).update(names)
+    calls = functions()
+    return [f"{paper}: {crate}: {name} is not there"
+            for paper in ("RULES.md", "CHANGING.md")
+            for crate, name in re.findall(r"`([a-z_]+): ([^`]+)`", read("docs/" + paper))
+            if name not in own.get(crate, ()) and f"{crate}::{name}" not in calls]
+
+
+def uses(crate):
+    """The crates that a crate's own files name."""
+    named = set()
+    for path in glob.glob(f"{TOP}/crates/{crate}/**/*", recursive=True):
+        if path.endswith(".rt"):
+            named.update(re.findall(r"(?<![:\w])([a-z_]+)::", re.sub("//.*", "", read(path))))
+        if path.endswith((".rt", ".antt")):
+            named.update(re.findall(r"Rattle·([a-z_]+)\.", read(path)))
+    return named - {crate}
+
+
+def listed():
+    """Where crates.txt and what the crates use differ."""
+    lines = [line.split(":") for line in read("crates.txt").split("\n") if line and not line.startswith("#")]
+    crates = {name for name, _ in lines} | {"io", "libc"}
+    faults = []
+    for name, rest in lines:
+        wanted = (uses(name) & crates) | REACHED.get(name, set())
+        faults += [f"crates.txt: {name} uses {other} and does not name it" for other in sorted(wanted - set(rest.split()))]
+        faults += [f"crates.txt: {name} names {other} and does not use it" for other in sorted(set(rest.split()) - wanted)]
+    return faults
+
+
 def main():
     """Says what is named and not there, and what is there and not named."""
     edits = {f"{path.split('/')[-3]}/{os.path.basename(path)[:-len('.edit')]}" for path in glob.glob(TOP + "/crates/*/must-fail/*.edit")}
@@ -61,11 +100,12 @@ def main():
     known = set().union(*stated.values(), functions(), {crate for crate, _ in stated})
     named = set(re.findall(r"`([^`]+/[^`]+)`", "\n".join(row[5] for row in rows)))
     parts = [part for row in rows for cell in row[2:4] for part in cell.split("; ")]
-    faults = [fault for part in parts for fault in missing(part, stated, known)]
-    faults += [f"{name} is named and is no edit" for name in sorted(named - edits)]
-    faults += [f"{name} is an edit and is not named" for name in sorted(edits - named)]
+    faults = ["PROMISES.md: " + fault for part in parts for fault in missing(part, stated, known)]
+    faults += [f"PROMISES.md: {name} is named and is no edit" for name in sorted(named - edits)]
+    faults += [f"PROMISES.md: {name} is an edit and is not named" for name in sorted(edits - named)]
+    faults += papers(stated) + listed()
     for fault in faults:
-        print("PROMISES.md:", fault, file=sys.stderr)
+        print(fault, file=sys.stderr)
     print(f"PROMISES.md names {len(edits & named)} of {len(edits)} must-fail edits, and in {len(parts)} places what carries a promise")
     sys.exit(1 if faults else 0)
 

@@ -1,7 +1,7 @@
 """The film set of FILMS.md, run through the second program.
 
 Run: python3 second/films.py   prints the text that FILMS.md describes.
-The tables are read from FILMS.md, next to this file.
+The rows are read from crates/films/stdin, which the proved programs read too.
 
 The generator (no random source): g -> (g * 1103515245 + 12345) mod 2^31,
 started at the row's seed.  The digest of a buffer: h = 7, then
@@ -14,40 +14,46 @@ import sys
 sys.dont_write_bytecode = True
 
 import clahe
+import listing
 import pgm
 
 SMALL = 64
 
-FILM_COLUMNS = ("no film kind width height length lo hi seed across down bins min max clip "
-                "factor maplen scratchlen pokeat pokeval fillbase fillmod").split()
-DRAW_COLUMNS = ("no case film left top width height outlen field value "
-                "pixat pixval mapat mapval").split()
-WRITE_COLUMNS = ("no kind width height length lo hi seed maxval outlen "
-                 "pokeat pokeval target").split()
+COLUMNS = {
+    "F": ("no film width height kind length lo hi seed pokeat pokeval across down bins min max clip "
+          "factor maplen scratchlen fillbase fillmod").split(),
+    "D": ("no film width height case outlen left top field value "
+          "pixat pixval mapat mapval").split(),
+    "R": "no target count".split(),
+    "G": "no target count start width height maxval".split(),
+    "W": ("no maxval width height kind length lo hi seed pokeat pokeval "
+          "outlen target").split(),
+    "L": "no outlen count".split(),
+}
+
+# The rows that list bytes behind their columns.
+LISTS = "RGL"
 
 RECORD_FIELDS = 10
 
+# How many bytes a listing asks for.
+LISTING_ROOM = 512
 
-def tables():
-    """The rows of FILMS.md, by the name of their block."""
-    found = {}
-    name = None
-    path = os.path.join(os.path.dirname(os.path.abspath(__file__)), "FILMS.md")
-    with open(path, encoding="utf-8") as text:
+
+def rows():
+    """The rows of the set: each a letter, a dictionary of its columns, and the bytes that it lists."""
+    found = []
+    path = os.path.join(os.path.dirname(os.path.abspath(__file__)), "..", "crates", "films", "stdin")
+    with open(path, encoding="ascii") as text:
         for line in text:
-            if line.startswith("```"):
-                name = None if name is not None else line[3:].strip()
-                continue
-            row = line.split("#")[0].split()
-            if name is not None and row:
-                found.setdefault(name, []).append([int(number, 0) for number in row])
+            words = line.split("#")[0].split()
+            if words:
+                letter, numbers = words[0], [int(word, 0) for word in words[1:]]
+                columns = COLUMNS[letter]
+                row, listed = dict(zip(columns, numbers)), bytes(numbers[len(columns):])
+                assert len(row) == len(columns) and len(listed) == (row["count"] if letter in LISTS else 0), line
+                found.append((letter, row, listed))
     return found
-
-
-def named(columns, row):
-    """A row as a dictionary of its columns."""
-    assert len(columns) == len(row), row
-    return dict(zip(columns, row))
 
 
 # --- the film rule and the fills -------------------------------------------
@@ -172,7 +178,7 @@ def record_fields(record):
             s.max, 0 if s.clip is None else 1, "%08x" % (s.clip or 0)]
 
 
-# --- the five tables --------------------------------------------------------
+# --- the six tables --------------------------------------------------------
 
 def run_film(text, row):
     """One row of the table films."""
@@ -206,7 +212,7 @@ def run_film(text, row):
     text.small("i", no, picture)
 
     if not isinstance(prepared, int) and drawn == 0 and not isinstance(enhanced, int):
-        text.line("K", no, 1 if output == picture else 0)
+        text.line("K", no, 1 if digest(output) == digest(picture) else 0)
 
 
 def run_draw(text, row, films):
@@ -256,20 +262,18 @@ def reading_steps(text, no, data, target_length):
     return target if answer == 0 else None
 
 
-def run_file(text, row):
+def run_file(text, row, data):
     """One row of the table files."""
-    no, target_length, count = row[:3]
-    reading_steps(text, no, bytes(row[3:3 + count]), target_length)
+    reading_steps(text, row["no"], data, row["target"])
 
 
-def run_greys(text, row):
+def run_greys(text, row, data):
     """One row of the table greys."""
-    no, start, width, height, maxval, target_length, count = row[:7]
-    data = bytes(row[7:7 + count])
-    target = target_fill(target_length)
-    text.line("H", no, pgm.greys(data, start, width, height, maxval, target))
-    text.digests("h", no, data, target)
-    text.small("u", no, target)
+    target = target_fill(row["target"])
+    answer = pgm.greys(data, row["start"], row["width"], row["height"], row["maxval"], target)
+    text.line("H", row["no"], answer)
+    text.digests("h", row["no"], data, target)
+    text.small("u", row["no"], target)
 
 
 def run_write(text, row):
@@ -286,26 +290,38 @@ def run_write(text, row):
     if not isinstance(answer, int):
         target = reading_steps(text, no, bytes(out[:answer[1]]), row["target"])
         if target is not None:
-            text.line("K", no, 1 if target[:len(picture)] == picture else 0)
+            text.line("K", no, 1 if digest(target[:len(picture)]) == digest(picture) else 0)
+
+
+def run_list(text, row, data):
+    """One row of the table listings."""
+    out, listed = out_fill(row["outlen"]), listing.listing(data)
+    if len(out) < LISTING_ROOM:
+        text.line("L", row["no"], 27)
+    else:
+        out[:len(listed)] = listed
+        text.line("L", row["no"], 0, len(listed))
+    text.digests("l", row["no"], data, out)
 
 
 def run():
     """The whole text."""
-    found = tables()
+    found = rows()
+    films = {row["no"]: row for letter, row, _ in found if letter == "F"}
     text = Text()
-    films = {}
-    for numbers in found["films"]:
-        row = named(FILM_COLUMNS, numbers)
-        films[row["no"]] = row
-        run_film(text, row)
-    for numbers in found["draws"]:
-        run_draw(text, named(DRAW_COLUMNS, numbers), films)
-    for numbers in found["files"]:
-        run_file(text, numbers)
-    for numbers in found["greys"]:
-        run_greys(text, numbers)
-    for numbers in found["writes"]:
-        run_write(text, named(WRITE_COLUMNS, numbers))
+    for letter, row, listed in found:
+        if letter == "F":
+            run_film(text, row)
+        elif letter == "D":
+            run_draw(text, row, films)
+        elif letter == "R":
+            run_file(text, row, listed)
+        elif letter == "G":
+            run_greys(text, row, listed)
+        elif letter == "W":
+            run_write(text, row)
+        else:
+            run_list(text, row, listed)
     return "".join(line + "\n" for line in text.lines)
 
 

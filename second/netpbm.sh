@@ -13,7 +13,6 @@ if ! pgmnoise -randomseed=1 -maxval=4095 1 1 > /dev/null 2>&1; then
 fi
 station/build
 PYTHONDONTWRITEBYTECODE=1 PYTHONPATH=second exec python3 - << 'END'
-import re
 import subprocess
 import sys
 
@@ -35,11 +34,9 @@ def agree(what, ours, netpbm):
     agreed += 1
 
 
-# 1. The files that the program `outside` reads: the bytes in its source, and what it prints of them.
-source = open("crates/outside/src/files.rt").read()
-stored = {}
-for command, body in re.findall(r"// (pgm[^\n]*)\npub const \w+: \[u8; \d+\] = \[(.*?)\];", source, re.S):
-    stored[command] = bytes(int(n) for n in re.findall(r"\d+", body))
+# 1. The files that the program `outside` reads: the bytes of its input, a line behind each command, and what it prints of them.
+given = open("crates/outside/stdin").read().split("\n")
+stored = {command: bytes(int(n) for n in numbers.split()) for command, numbers in zip(given[::2], given[1::2])}
 printed = open("crates/outside/stdout").read()
 for command, data in stored.items():
     if tool(command) != data:

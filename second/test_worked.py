@@ -3,6 +3,7 @@
 Run: python3 second/test_worked.py   (prints the number of checks)
 """
 
+import os
 import struct
 import sys
 
@@ -162,6 +163,22 @@ def files():
     same(target, WORKED_FILM + [5, 5])
 
 
+def larges():
+    """Numbers of films that no program of the toolchain has room for: sums above 32 bits, and the largest tile whose
+    division the library makes a product. The program `numbers` prints them; what it must print is held to the rules here."""
+    path = os.path.join(os.path.dirname(os.path.abspath(__file__)), "..", "crates", "numbers", "stdout")
+    with open(path, encoding="ascii") as text:
+        stored = dict(line.rstrip("\n").split("\t") for line in text)
+    wanted = clahe.mapping_of([2048 * 2048 - 1, 1], 0, 4095, 2048 * 2048)[0]
+    same(stored["2048 by 2048 pixels: the mapped value"], str(wanted))
+    settings = clahe.Settings(2, 2, 8, 0, 4095, None)
+    maps = [4095] * 24 + [4094] + [4095] * 7
+    for side, past, where in ((2048, 1, ""), (1024, 1, ""), (2048, 1024, ", midway")):
+        wanted = clahe.grey_at(side // 2 + past, side // 2 + past, 0, 2 * side, 2 * side, settings, maps)
+        for how in ("one pixel", "many pixels"):
+            same(stored["%d by %d pixels%s: %s" % (side, side, where, how)], str(wanted))
+
+
 if __name__ == "__main__":
     limits()
     clips()
@@ -170,4 +187,5 @@ if __name__ == "__main__":
     footers()
     listings()
     files()
+    larges()
     print("%d checks hold" % checks)

@@ -1,7 +1,7 @@
 /*
  * tzofnadir.h: contrast-limited local histogram equalization for weld radiographs, for C.
  *
- * The functions named tz_.. are in the archive that `rt staticlib abi` writes (target/staticlib/libabi.a).
+ * The functions named tz_.. are in the archive that station/build makes, target/lib/libtzofnadir.a.
  * They are proved: each call ends with the answer that the rules give, for any numbers and any contents of the
  * buffers. The functions named tzofnadir_.. stand in front of them and take structs. They do nothing else.
  *

@@ -1,4 +1,3 @@
-pub mod Handed
 pub mod Runs
 pub mod Outcomes
 pub mod Ways

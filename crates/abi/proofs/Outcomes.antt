@@ -17,12 +17,12 @@ use Rattle.header.specs.declared.Head.{Head}
 use Rattle.header.specs.declared.Head.the-variants as Head
 use Rattle.pgm.specs.declared.Written.the-variants as Written
 use Rattle.pgm.specs.Pgm.{readOf, sizesOf, sizesSays, turnedSays, turnedOf, writtenSays, wroteAs, writeOf}
-use Rattle.lister.specs.Lister.{listingOf, textRows, listOf}
+use Rattle.listing.specs.Listing.{listingOf, textRows, listOf}
 use Rattle.promises.proofs.Accepted.{ByTable, prepare-table, enhance-table, draw-table}
 use Rattle.promises.proofs.Files.{greys-table, write-table}
-use Rattle.abi.specs.Flat.{recordFrom}
-use Rattle.abi.specs.Films.{FlatPrepared, flatPrepared, FlatEnhanced, flatEnhanced, FlatDrawn, flatDrawn}
-use Rattle.abi.specs.Files.{Answer, answered, flatSizes, flatRaster, flatGreys, FlatWritten, writtenAs, flatWritten}
+use Rattle.flat.specs.Flat.{recordFrom}
+use Rattle.flat.specs.Films.{FlatPrepared, flatPrepared, FlatEnhanced, flatEnhanced, FlatDrawn, flatDrawn}
+use Rattle.flat.specs.Files.{Answer, answered, flatSizes, flatRaster, flatGreys, FlatWritten, writtenAs, flatWritten}
 use Rattle.abi.proofs.Runs.{TzPrepareCall, TzPrepares, tz-prepare-given, tz-prepare-ends, TzEnhanceCall, TzEnhances, tz-enhance-given, tz-enhance-ends, TzDrawCall, TzDraws, tz-draw-given, tz-draw-ends, TzSizesCall, TzReadsSizes, tz-sizes-given, tz-sizes-ends, TzRasterCall, TzReadsRaster, tz-raster-given, tz-raster-ends, TzGreysCall, TzGreys, tz-greys-given, tz-greys-ends, TzWriteCall, TzWrites, tz-write-given, tz-write-ends, TzListingCall, TzLists, tz-listing-given, tz-listing-ends}
 
 -- ---- what a returned number tells

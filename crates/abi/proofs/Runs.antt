@@ -13,10 +13,10 @@ use Rattle.settings.specs.declared.Window.{Window}
 use Rattle.prepare.specs.Prepare.{prepareOf, enhanceOf}
 use Rattle.draw.specs.Draw.{drawOf}
 use Rattle.pgm.specs.Pgm.{readOf, sizesOf, sizesSays, turnedOf, writeOf}
-use Rattle.lister.specs.Lister.{listOf}
-use Rattle.abi.specs.Flat.{settingsFrom, recordFrom, windowFrom}
-use Rattle.abi.specs.Films.{Foot, footed, preparedAs, flatPrepared, enhancedAs, flatEnhanced, drawnAs, flatDrawn}
-use Rattle.abi.specs.Files.{answered, flatSizes, flatRaster, flatGreys, writtenAs, flatWritten}
+use Rattle.listing.specs.Listing.{listOf}
+use Rattle.flat.specs.Flat.{settingsFrom, recordFrom, windowFrom}
+use Rattle.flat.specs.Films.{Foot, footed, preparedAs, flatPrepared, enhancedAs, flatEnhanced, drawnAs, flatDrawn}
+use Rattle.flat.specs.Files.{answered, flatSizes, flatRaster, flatGreys, writtenAs, flatWritten}
 use Rattle.abi.proofs.films.tz_prepare.Kinds as prepare
 use Rattle.abi.proofs.films.tz_prepare.Reads as prepare-reads
 use Rattle.abi.proofs.films.tz_enhance.Kinds as enhance

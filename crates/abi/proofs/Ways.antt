@@ -11,8 +11,8 @@ use native.Mathlib.Omega.{arith}
 use lib.ListN.{length, getD, take}
 use Rattle.lists.specs.Lists.{onto}
 use Rattle.refuse.specs.Refuse.{first, accepted, says}
-use Rattle.settings.specs.Settings.{binsOf, recordOf, tilePixels, clipOne}
-use Rattle.prepare.specs.Prepare.{preparedSays, prepareRows, footerOf, Ended, prepareOf, preparedOf}
+use Rattle.settings.specs.Settings.{binsOf, recordOf, clipOne}
+use Rattle.prepare.specs.Prepare.{preparedSays, prepareRows, footOf, Ended, prepareOf, preparedOf}
 use Rattle.draw.specs.Draw.{drawRows, drawnSays, drawOf}
 use Rattle.draw.proofs.Tables.{draw-ready}
 use Rattle.header.specs.Header.{headerBytes}
@@ -22,10 +22,10 @@ use Rattle.promises.specs.Films.{ruleGrey, HandedOn}
 use Rattle.promises.proofs.Accepted.{table-says, prepare-table, draw-table}
 use Rattle.promises.proofs.Demand2.{draw-agrees, own-window, drawn-is-film}
 use Rattle.promises.proofs.Files.{write-table, written-file, file-sizes, file-greys}
-use Rattle.abi.specs.Flat.{returned, clipFactor, recordNumbers, recordFrom}
-use Rattle.abi.specs.Films.{FlatPrepared, preparedAs, preparedBy, flatPrepared, footAfter, FlatDrawn, flatDrawn}
-use Rattle.abi.specs.Files.{Answer, answered, flatSizes, flatRaster, flatGreys, FlatWritten, writtenAs, writtenBy, flatWritten}
-use Rattle.abi.proofs.Handed.{record-back}
+use Rattle.flat.specs.Flat.{returned, clipFactor, recordNumbers, recordFrom}
+use Rattle.flat.specs.Films.{FlatPrepared, preparedAs, preparedBy, flatPrepared, footAfter, FlatDrawn, flatDrawn}
+use Rattle.flat.specs.Files.{Answer, answered, flatSizes, flatRaster, flatGreys, FlatWritten, writtenAs, writtenBy, flatWritten}
+use Rattle.flat.proofs.Handed.{record-back}
 use Rattle.abi.proofs.Runs.{TzPrepareCall, TzPrepares, tz-prepare-ends, TzDrawCall, TzDraws, tz-draw-ends, TzSizesCall, TzReadsSizes, tz-sizes-ends, TzRasterCall, TzReadsRaster, tz-raster-ends, TzGreysCall, TzGreys, tz-greys-ends, TzWriteCall, TzWrites, tz-write-ends}
 use Rattle.abi.proofs.Outcomes.{returned-number, tz-draw-refusal-keeps}
 
@@ -57,15 +57,15 @@ module _ {p : TzPrepareCall} (ran : TzPrepares p) (prepared : p .number ≡ 0) w
       ∙ sym (ap (λ (z : FlatPrepared). z .number) (tz-prepare-ends ran))
       ∙ prepared
 
-  done : preparedSays (ended .answer) ≡ accepted (recordOf (p .film) (p .width) (p .height) (p .settings), footerOf (p .settings .clip) (tilePixels (p .width) (p .height) (p .settings)) (binsOf (p .settings)))
+  done : preparedSays (ended .answer) ≡ accepted (recordOf (p .film) (p .width) (p .height) (p .settings), footOf (p .width) (p .height) (p .settings))
   done =
       table-says (prepare-table _ _ _ _ _ _ _)
-      ∙ ap (λ n. says n (recordOf (p .film) (p .width) (p .height) (p .settings), footerOf (p .settings .clip) (tilePixels (p .width) (p .height) (p .settings)) (binsOf (p .settings)))) none
+      ∙ ap (λ n. says n (recordOf (p .film) (p .width) (p .height) (p .settings), footOf (p .width) (p .height) (p .settings))) none
 
   -- so the cells hold the film's record, and the map buffer what it gives
   left : preparedAs (p .number) (p .map′) (p .scratch′) (p .numbers′) (p .factor′) (p .foot′)
       ≡ preparedAs 0 (ended .map) (ended .scratch) (recordNumbers (recordOf (p .film) (p .width) (p .height) (p .settings))) (clipFactor (p .settings .clip))
-      (footAfter (footerOf (p .settings .clip) (tilePixels (p .width) (p .height) (p .settings)) (binsOf (p .settings))))
+      (footAfter (footOf (p .width) (p .height) (p .settings)))
   unfolding flatPrepared
   left = tz-prepare-ends ran ∙ ap (λ x. preparedBy x (ended .map) (ended .scratch) (p .numbers) (p .factor) (p .foot)) done
 

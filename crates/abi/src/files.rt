@@ -2,8 +2,8 @@
 ghost use mathlib.Core.Path.{_≡_};
 ghost use lib.ListN.{length};
 ghost use Rattle.pgm.specs.Pgm.{readOf, sizesOf, sizesSays, turnedOf, writeOf};
-ghost use Rattle.lister.specs.Lister.{listOf};
-ghost use Rattle.abi.specs.Files.{answered, flatSizes, flatRaster, flatGreys, writtenAs, flatWritten};
+ghost use Rattle.listing.specs.Listing.{listOf};
+ghost use Rattle.flat.specs.Files.{answered, flatSizes, flatRaster, flatGreys, writtenAs, flatWritten};
 use pgm::Sizes;
 use pgm::Turned;
 use pgm::Written;
@@ -82,7 +82,7 @@ pub extern "C" fn tz_write(
 pub extern "C" fn tz_listing(bytes: &[u8], out: &mut [u8], count: &mut usize) -> u32
     ensures { λ r. ⌜ writtenAs r (now (out .exit)) (now (count .exit)) ≡ flatWritten (listOf (now (bytes .entry)) (now (out .entry))) (now (count .entry)) ⌝ }
 {
-    let answer = lister::list(bytes, out);
+    let answer = listing::list(bytes, out);
     match answer {
         Written::Bytes(laid) => {
             *count = laid;

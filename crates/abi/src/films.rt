@@ -2,9 +2,8 @@
 ghost use mathlib.Core.Path.{_≡_};
 ghost use Rattle.prepare.specs.Prepare.{prepareOf, enhanceOf};
 ghost use Rattle.draw.specs.Draw.{drawOf};
-ghost use Rattle.abi.specs.Flat.{settingsFrom, recordFrom, windowFrom};
-ghost use Rattle.abi.specs.Films.{footed, preparedAs, flatPrepared, enhancedAs, flatEnhanced, drawnAs, flatDrawn};
-use crate::flat;
+ghost use Rattle.flat.specs.Flat.{settingsFrom, recordFrom, windowFrom};
+ghost use Rattle.flat.specs.Films.{footed, preparedAs, flatPrepared, enhancedAs, flatEnhanced, drawnAs, flatDrawn};
 use draw::Drawn;
 use prepare::Enhanced;
 use prepare::Prepared;
@@ -37,13 +36,8 @@ pub extern "C" fn tz_prepare(
     let answer = prepare::prepare(film, width, height, picture, s, map, scratch);
     match answer {
         Prepared::Done(record, foot) => {
-            flat::put_record(numbers, record);
-            let made = record.settings;
-            let made_clip = made.clip;
-            *kept = flat::clip_factor(made_clip);
-            *limit = foot.limit;
-            *asked = foot.asked;
-            *used = foot.used;
+            flat::put_record(numbers, kept, record);
+            flat::put_footer(limit, asked, used, foot);
             0
         }
         Prepared::Refused(n) => n,
@@ -74,9 +68,7 @@ pub extern "C" fn tz_enhance(
     let answer = prepare::enhance(width, height, picture, s, map, scratch);
     match answer {
         Enhanced::Done(footer) => {
-            *limit = footer.limit;
-            *asked = footer.asked;
-            *used = footer.used;
+            flat::put_footer(limit, asked, used, footer);
             0
         }
         Enhanced::Refused(n) => n,

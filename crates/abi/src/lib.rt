@@ -1,4 +1,3 @@
 // The calls of prepare, draw and pgm for C: numbers and slices in, 0 or the refusal's number out.
-mod files;
-mod films;
-mod flat;
+pub mod files;
+pub mod films;

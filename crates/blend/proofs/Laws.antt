@@ -78,6 +78,15 @@ weigh-most {grid} {most} {p} {a} {b} {hi} i h k =
 spans-times : (c r l : ℕ) → r * (c * l) ≡ c * r * l
 spans-times c r l = sym (mul-assoc r c l) ∙ ap (λ n. n * l) (mul-comm r c)
 
+-- the weighed sum of four values of at most `hi`, against what it is divided by
+pub weighed-most : {grid most grid′ most′ : ℕ} {column row : Place} {hi a b c d : ℕ} → Sound grid most column → Sound grid′ most′ row
+    → a ≤ hi → b ≤ hi → c ≤ hi → d ≤ hi → weighedOf column row a b c d ≤ column .span * row .span * hi
+weighed-most {column = column} {row = row} {hi = hi} {a = a} {b = b} {c = c} {d = d} i j ha hb hc hd =
+    rw (← spans-times (column .span) (row .span) hi)
+    (mean-most (row .lowerweight) (row .upperweight) (row .span) _ _ (column .span * hi) (j .weights)
+    (mean-most (column .lowerweight) (column .upperweight) (column .span) a b hi (i .weights) ha hb)
+    (mean-most (column .lowerweight) (column .upperweight) (column .span) c d hi (i .weights) hc hd))
+
 module _ {grid most grid′ most′ : ℕ} {column row : Place} (i : Sound grid most column) (j : Sound grid′ most′ row) where
   -- what the grey divides by is above 0
   pub spans-some : 0 < column .span * row .span
@@ -96,12 +105,7 @@ module _ {grid most grid′ most′ : ℕ} {column row : Place} (i : Sound grid 
   -- nor above the greatest
   pub grey-most : {hi a b c d : ℕ} → a ≤ hi → b ≤ hi → c ≤ hi → d ≤ hi → greyOf column row a b c d ≤ hi
   unfolding greyOf
-  grey-most {hi} {a} {b} {c} {d} ha hb hc hd =
-      div-le-of-le-mul (column .span * row .span)
-      (rw (← spans-times (column .span) (row .span) hi)
-      (mean-most (row .lowerweight) (row .upperweight) (row .span) _ _ (column .span * hi) (j .weights)
-      (mean-most (column .lowerweight) (column .upperweight) (column .span) a b hi (i .weights) ha hb)
-      (mean-most (column .lowerweight) (column .upperweight) (column .span) c d hi (i .weights) hc hd)))
+  grey-most ha hb hc hd = div-le-of-le-mul (column .span * row .span) (weighed-most i j ha hb hc hd)
 
   -- so it stays within any bounds that hold all four
   pub grey-within :
@@ -113,14 +117,14 @@ module _ {grid most grid′ most′ : ℕ} {column row : Place} (i : Sound grid 
       → (lo ≤ greyOf column row a b c d) × (greyOf column row a b c d ≤ hi)
   grey-within ha hb hc hd = (grey-least (ha .0) (hb .0) (hc .0) (hd .0), grey-most (ha .1) (hb .1) (hc .1) (hd .1))
 
-  -- four times the same value gives that value
+  -- "both sides of that pair are the same tile": four times the same value gives that value
   pub grey-same : (a : ℕ) → greyOf column row a a a a ≡ a
   grey-same a =
       let l : a ≤ greyOf column row a a a a = grey-least (le-refl a) (le-refl a) (le-refl a) (le-refl a) in
       let m : greyOf column row a a a a ≤ a = grey-most (le-refl a) (le-refl a) (le-refl a) (le-refl a) in
       omega arith
 
-  -- where the upper tiles have no weight the grey is the upper left value
+  -- "used alone": where the upper tiles have no weight the grey is the upper left value
   pub grey-alone : (a b c d : ℕ) → column .upperweight ≡ 0 → row .upperweight ≡ 0 → greyOf column row a b c d ≡ a
   unfolding greyOf
   grey-alone a b c d p q =
@@ -136,15 +140,6 @@ pub sound-wider : {grid most grid′ most′ : ℕ} {p : Place} → Sound grid m
 sound-wider i g m = record { weights = i .weights; some = i .some; bound = omega arith; lower = omega arith; upper = omega arith }
 
 -- ---- a factor in place of the division
-
--- the weighed sum of four values of at most `hi`, against what it is divided by
-pub weighed-most : {grid most grid′ most′ : ℕ} {column row : Place} {hi a b c d : ℕ} → Sound grid most column → Sound grid′ most′ row
-    → a ≤ hi → b ≤ hi → c ≤ hi → d ≤ hi → weighedOf column row a b c d ≤ column .span * row .span * hi
-weighed-most {column = column} {row = row} {hi = hi} {a = a} {b = b} {c = c} {d = d} i j ha hb hc hd =
-    rw (← spans-times (column .span) (row .span) hi)
-    (mean-most (row .lowerweight) (row .upperweight) (row .span) _ _ (column .span * hi) (j .weights)
-    (mean-most (column .lowerweight) (column .upperweight) (column .span) a b hi (i .weights) ha hb)
-    (mean-most (column .lowerweight) (column .upperweight) (column .span) c d hi (i .weights) hc hd))
 
 -- the weighed sum times the factor stays in 64 bits
 pub factor-room : (n d f : ℕ) → n ≤ d * 4095 → 0 < f → Inverse d f → n * f ≤ 4095 * 4503599628419072

@@ -11,7 +11,8 @@ use native.Mathlib.Nat.{le-of-suc-le-suc, not-suc-le-zero, le-refl, le-trans, su
 use native.Mathlib.Omega.{arith}
 use borrow.Author.Tests.{lt-ltb, le-ltb}
 use Rattle.lists.specs.Lists.{total}
-use Rattle.lists.proofs.Totals.{under, turned, rested, length-turned, total-turned, turned-at, turned-next, turned-all}
+use Rattle.lists.proofs.Orders.{lt-or-ge}
+use Rattle.lists.proofs.Totals.{turned, rested, length-turned, total-turned, turned-at, turned-next, turned-all}
 use Rattle.clip.specs.Clip.{walk, nextStart, starts}
 use Rattle.clip.proofs.Walks.{walk-done, walk-end, walk-gain, walk-skip, length-walk, total-walk, walk-rest, walk-kept, walk-hands, walk-grows, walk-most}
 
@@ -28,7 +29,7 @@ due l s cs r = r * length cs + ahead l (turned s cs)
 ahead-lt : (l : ℕ) (cs : List ℕ) → total cs < l * length cs → ahead l cs < length cs
 unfolding ahead total
 ahead-lt l [] h = absurd (not-suc-le-zero (rw mul-zero at h))
-ahead-lt l (c ∷ cs) h = go (ahead-lt l cs) (under c l)
+ahead-lt l (c ∷ cs) h = go (ahead-lt l cs) (lt-or-ge c l)
   where
     go : (total cs < l * length cs → ahead l cs < length cs) → (c < l) ⊎ (l ≤ c) → cond (ltb c l) 0 (suc (ahead l cs)) < suc (length cs)
     go ih (inl u) = rw (lt-ltb c l u) (omega arith)
@@ -38,7 +39,7 @@ ahead-lt l (c ∷ cs) h = go (ahead-lt l cs) (under c l)
 ahead-append : (l : ℕ) (xs ys : List ℕ) → ahead l xs < length xs → ahead l (xs ++ ys) ≡ ahead l xs
 unfolding ahead
 ahead-append l [] ys h = absurd (not-suc-le-zero h)
-ahead-append l (c ∷ cs) ys h = go (ahead-append l cs ys) (under c l) h
+ahead-append l (c ∷ cs) ys h = go (ahead-append l cs ys) (lt-or-ge c l) h
   where
     go : (ahead l cs < length cs → ahead l (cs ++ ys) ≡ ahead l cs) → (c < l) ⊎ (l ≤ c) → cond (ltb c l) 0 (suc (ahead l cs)) < suc (length cs)
         → cond (ltb c l) 0 (suc (ahead l (cs ++ ys))) ≡ cond (ltb c l) 0 (suc (ahead l cs))
@@ -70,7 +71,7 @@ ahead-turn l s cs h u room = e ∙ ap suc (sym f)
 
 -- the next start, turned: from 0 again behind the last
 turned-start : (s : ℕ) (cs : List ℕ) → s < length cs → turned (nextStart (length cs) s) cs ≡ turned (s + 1) cs
-turned-start s cs h = go (under (s + 1) (length cs))
+turned-start s cs h = go (lt-or-ge (s + 1) (length cs))
   where
     go : (s + 1 < length cs) ⊎ (length cs ≤ s + 1) → turned (nextStart (length cs) s) cs ≡ turned (s + 1) cs
     go (inl u) = rw (lt-ltb (s + 1) (length cs) u) refl
@@ -78,7 +79,7 @@ turned-start s cs h = go (under (s + 1) (length cs))
 
 -- the next start is a bin
 pub next-in : (b s : ℕ) → s < b → nextStart b s < b
-next-in b s h = go (under (s + 1) b)
+next-in b s h = go (lt-or-ge (s + 1) b)
   where
     go : (s + 1 < b) ⊎ (b ≤ s + 1) → nextStart b s < b
     go (inl u) = rw (lt-ltb (s + 1) b u) u
@@ -88,7 +89,7 @@ next-in b s h = go (under (s + 1) b)
 due-less : (l s step : ℕ) (cs : List ℕ) (r : ℕ) (ds : List ℕ) (t : ℕ) → 0 < step → s < length cs → total cs + r ≤ l * length cs
     → walk l step s cs r ≡ record { counts = ds; rest = t } → 0 < t → due l (nextStart (length cs) s) ds t < due l s cs r
 unfolding due
-due-less l s step cs r ds t p h room e q = go (under t r)
+due-less l s step cs r ds t p h room e q = go (lt-or-ge t r)
   where
     ec : walk l step s cs r .counts ≡ ds
     ec = ap (λ w. w .counts) e
@@ -110,7 +111,7 @@ due-less l s step cs r ds t p h room e q = go (under t r)
         omega (arith, suc-mul t (length cs), n)
 
     full : r ≤ t → l ≤ getD cs s 0
-    full u = ⊎-elim (λ k. absurd (gains (r - 1) (omega (arith, er, walk-rest l step s cs r)) k)) (λ k. k) (under (getD cs s 0) l)
+    full u = ⊎-elim (λ k. absurd (gains (r - 1) (omega (arith, er, walk-rest l step s cs r)) k)) (λ k. k) (lt-or-ge (getD cs s 0) l)
       where
         gains : (m : ℕ) → r ≡ suc m → getD cs s 0 < l → ⊥
         gains m z k =
@@ -186,7 +187,7 @@ starts-grows (suc k) l s cs (suc r) i =
 total-starts : (k l s : ℕ) (cs : List ℕ) (r : ℕ) → s < length cs → total cs + r ≤ l * length cs → (0 < r → due l s cs r < k + length cs)
     → total (starts k l s cs r) ≡ total cs + r
 unfolding starts
-total-starts zero l s cs r h room enough = go (under 0 r)
+total-starts zero l s cs r h room enough = go (lt-or-ge 0 r)
   where
     go : (0 < r) ⊎ (r ≤ 0) → total cs ≡ total cs + r
     go (inl p) = absurd (due-many l s cs r p (enough p))

@@ -11,7 +11,8 @@ use native.Mathlib.Numerals.{add-one}
 use native.Mathlib.Omega.{arith}
 use borrow.Author.Tests.{lt-ltb, le-ltb}
 use Rattle.lists.specs.Lists.{total}
-use Rattle.lists.proofs.Totals.{under, map-next, map-end}
+use Rattle.lists.proofs.Orders.{lt-or-ge}
+use Rattle.lists.proofs.Totals.{map-next, map-end}
 use Rattle.clip.specs.Clip.{excess, share, shared, taken, left, starts, clipped}
 use Rattle.clip.specs.Asks.{ClipAsks, PassAsks, Passed, WalkAsks}
 
@@ -43,7 +44,7 @@ taken-other l q c h = let k : c ≤ l = omega arith in rw (le-ltb l c k, le-ltb 
 
 -- the three cases of a bin
 pub cases : (l q c : ℕ) → (l < c) ⊎ (((c ≤ l) × (l < c + q)) ⊎ (c + q ≤ l))
-cases l q c = ⊎-elim inl (λ k. inr (⊎-elim (λ u. inl (k, u)) inr (under l (c + q)))) (under l c)
+cases l q c = ⊎-elim inl (λ k. inr (⊎-elim (λ u. inl (k, u)) inr (lt-or-ge l (c + q)))) (lt-or-ge l c)
 
 -- what a bin becomes and what stood above the limit are what it had and what it takes
 bin-kept : (l q c : ℕ) → shared l q c + (c - l) ≡ c + taken l q c

@@ -10,7 +10,7 @@ use native.Mathlib.Nat.{le-of-suc-le-suc, not-suc-le-zero, le-refl}
 use native.Mathlib.Omega.{arith}
 use borrow.Author.Tests.{lt-ltb, le-ltb}
 use Rattle.lists.specs.Lists.{total}
-use Rattle.lists.proofs.Totals.{under}
+use Rattle.lists.proofs.Orders.{lt-or-ge}
 use Rattle.clip.specs.Clip.{Spread, behind, walk}
 
 -- ---- a walk, bin by bin
@@ -90,7 +90,7 @@ unfolding walk
 length-walk l step gap [] r = refl
 length-walk l step gap (c ∷ cs) zero = refl
 length-walk l step (suc gap) (c ∷ cs) (suc r) = ap suc (length-walk l step gap cs (suc r))
-length-walk l step zero (c ∷ cs) (suc r) = go (length-walk l step (step - 1) cs r) (length-walk l step (step - 1) cs (suc r)) (under c l)
+length-walk l step zero (c ∷ cs) (suc r) = go (length-walk l step (step - 1) cs r) (length-walk l step (step - 1) cs (suc r)) (lt-or-ge c l)
   where
     go : length (walk l step (step - 1) cs r .counts) ≡ length cs → length (walk l step (step - 1) cs (suc r) .counts) ≡ length cs
         → (c < l) ⊎ (l ≤ c) → length (walk l step zero (c ∷ cs) (suc r) .counts) ≡ suc (length cs)
@@ -103,7 +103,7 @@ unfolding walk total
 total-walk l step gap [] r = refl
 total-walk l step gap (c ∷ cs) zero = refl
 total-walk l step (suc gap) (c ∷ cs) (suc r) = omega (arith, total-walk l step gap cs (suc r))
-total-walk l step zero (c ∷ cs) (suc r) = go (total-walk l step (step - 1) cs r) (total-walk l step (step - 1) cs (suc r)) (under c l)
+total-walk l step zero (c ∷ cs) (suc r) = go (total-walk l step (step - 1) cs r) (total-walk l step (step - 1) cs (suc r)) (lt-or-ge c l)
   where
     go : total (walk l step (step - 1) cs r .counts) + walk l step (step - 1) cs r .rest ≡ total cs + r
         → total (walk l step (step - 1) cs (suc r) .counts) + walk l step (step - 1) cs (suc r) .rest ≡ total cs + suc r → (c < l) ⊎ (l ≤ c)
@@ -117,7 +117,7 @@ unfolding walk
 walk-rest l step gap [] r = le-refl r
 walk-rest l step gap (c ∷ cs) zero = omega arith
 walk-rest l step (suc gap) (c ∷ cs) (suc r) = walk-rest l step gap cs (suc r)
-walk-rest l step zero (c ∷ cs) (suc r) = go (walk-rest l step (step - 1) cs r) (walk-rest l step (step - 1) cs (suc r)) (under c l)
+walk-rest l step zero (c ∷ cs) (suc r) = go (walk-rest l step (step - 1) cs r) (walk-rest l step (step - 1) cs (suc r)) (lt-or-ge c l)
   where
     go : walk l step (step - 1) cs r .rest ≤ r → walk l step (step - 1) cs (suc r) .rest ≤ suc r → (c < l) ⊎ (l ≤ c)
         → walk l step zero (c ∷ cs) (suc r) .rest ≤ suc r
@@ -130,7 +130,7 @@ unfolding walk
 walk-kept l step gap [] r h = refl
 walk-kept l step gap (c ∷ cs) zero h = refl
 walk-kept l step (suc gap) (c ∷ cs) (suc r) h = ap (λ t. c ∷ t) (walk-kept l step gap cs (suc r) h)
-walk-kept l step zero (c ∷ cs) (suc r) h = go (walk-rest l step (step - 1) cs r) (walk-kept l step (step - 1) cs (suc r)) (under c l) h
+walk-kept l step zero (c ∷ cs) (suc r) h = go (walk-rest l step (step - 1) cs r) (walk-kept l step (step - 1) cs (suc r)) (lt-or-ge c l) h
   where
     go : walk l step (step - 1) cs r .rest ≤ r → (suc r ≤ walk l step (step - 1) cs (suc r) .rest → walk l step (step - 1) cs (suc r) .counts ≡ cs)
         → (c < l) ⊎ (l ≤ c) → suc r ≤ walk l step zero (c ∷ cs) (suc r) .rest → walk l step zero (c ∷ cs) (suc r) .counts ≡ c ∷ cs
@@ -150,12 +150,12 @@ walk-grows l step gap [] r i = le-refl 0
 walk-grows l step gap (c ∷ cs) zero i = le-refl (getD (c ∷ cs) i 0)
 walk-grows l step (suc gap) (c ∷ cs) (suc r) zero = le-refl c
 walk-grows l step (suc gap) (c ∷ cs) (suc r) (suc i) = walk-grows l step gap cs (suc r) i
-walk-grows l step zero (c ∷ cs) (suc r) zero = go (under c l)
+walk-grows l step zero (c ∷ cs) (suc r) zero = go (lt-or-ge c l)
   where
     go : (c < l) ⊎ (l ≤ c) → c ≤ getD (walk l step zero (c ∷ cs) (suc r) .counts) zero 0
     go (inl u) = rw (walk-under l step c cs r u) (omega arith)
     go (inr u) = rw (walk-over l step c cs r u) (le-refl c)
-walk-grows l step zero (c ∷ cs) (suc r) (suc i) = go (walk-grows l step (step - 1) cs r i) (walk-grows l step (step - 1) cs (suc r) i) (under c l)
+walk-grows l step zero (c ∷ cs) (suc r) (suc i) = go (walk-grows l step (step - 1) cs r i) (walk-grows l step (step - 1) cs (suc r) i) (lt-or-ge c l)
   where
     go : getD cs i 0 ≤ getD (walk l step (step - 1) cs r .counts) i 0 → getD cs i 0 ≤ getD (walk l step (step - 1) cs (suc r) .counts) i 0
         → (c < l) ⊎ (l ≤ c) → getD cs i 0 ≤ getD (walk l step zero (c ∷ cs) (suc r) .counts) (suc i) 0
@@ -169,12 +169,12 @@ walk-most l step gap [] r i h = h
 walk-most l step gap (c ∷ cs) zero i h = h
 walk-most l step (suc gap) (c ∷ cs) (suc r) zero h = h
 walk-most l step (suc gap) (c ∷ cs) (suc r) (suc i) h = walk-most l step gap cs (suc r) i h
-walk-most l step zero (c ∷ cs) (suc r) zero h = go (under c l)
+walk-most l step zero (c ∷ cs) (suc r) zero h = go (lt-or-ge c l)
   where
     go : (c < l) ⊎ (l ≤ c) → getD (walk l step zero (c ∷ cs) (suc r) .counts) zero 0 ≤ l
     go (inl u) = rw (walk-under l step c cs r u) (omega arith)
     go (inr u) = rw (walk-over l step c cs r u) h
-walk-most l step zero (c ∷ cs) (suc r) (suc i) h = go (walk-most l step (step - 1) cs r i h) (walk-most l step (step - 1) cs (suc r) i h) (under c l)
+walk-most l step zero (c ∷ cs) (suc r) (suc i) h = go (walk-most l step (step - 1) cs r i h) (walk-most l step (step - 1) cs (suc r) i h) (lt-or-ge c l)
   where
     go : getD (walk l step (step - 1) cs r .counts) i 0 ≤ l → getD (walk l step (step - 1) cs (suc r) .counts) i 0 ≤ l → (c < l) ⊎ (l ≤ c)
         → getD (walk l step zero (c ∷ cs) (suc r) .counts) (suc i) 0 ≤ l

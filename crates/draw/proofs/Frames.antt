@@ -6,7 +6,7 @@ use mathlib.Core.List.{List, append-nil}
 use mathlib.Core.Path.{_≡_, refl, sym, ap, _∙_}
 use lib.ListN.{length, take, drop, length-drop}
 use lib.Seq.{drop-length, length-take-le}
-use native.Mathlib.Nat.{mul-le-mul-right}
+use native.Mathlib.Nat.{le-of-eq, mul-le-mul-right}
 use native.Mathlib.Omega.{arith}
 use borrow.Rule.Slice.PartMut.{putMid}
 use Rattle.lists.specs.Lists.{joined, all, onto, blocks}
@@ -14,6 +14,7 @@ use Rattle.lists.proofs.Tabs.{every-not}
 use Rattle.lists.proofs.Fills.{joined-suc}
 use Rattle.lists.proofs.Blocks.{blocks-step, blocks-end, block-fits, length-blocks}
 use Rattle.lists.proofs.Alls.{all-both, all-joined-every}
+use Rattle.lists.proofs.Maps.{onto-whole}
 use Rattle.tally.specs.Tally.{greysOf}
 use Rattle.tally.proofs.Greys.{rowOf, greys-rows, length-row, row-room, part-row}
 use Rattle.settings.specs.declared.Window.{Window}
@@ -60,11 +61,6 @@ lines-not p pic stride win {y} {vs} h k e =
 
 -- ---- the rows, copied one by one
 
--- as many entries as there are: nothing of what was there stays
-pub onto-whole : (d ys : List ℕ) → length ys ≡ length d → onto d ys ≡ ys
-unfolding onto
-onto-whole d ys e = rw (e, drop-length d, append-nil) refl
-
 module _ {pic : List ℕ} {stride : ℕ} {win : Window} {out₀ : List ℕ} (asks : CopyAsks pic stride win out₀) where
   -- where a row goes lies inside the output
   pub place-room : {y : ℕ} → y < win .height → y * win .width + win .width ≤ length out₀
@@ -85,7 +81,7 @@ module _ {pic : List ℕ} {stride : ℕ} {win : Window} {out₀ : List ℕ} (ask
       → putMid (y * win .width) (y * win .width + win .width - y * win .width) out ys ≡ blocks (win .width) (line pic stride win) out₀ (y + 1)
   rows-next {out} {vs} {ys} {y} e n l v q =
       blocks-step (win .width) (line pic stride win) out₀ (λ i k. length-row pic stride (rectOf win) i) e
-      (q ∙ onto-whole _ vs (ap length v ∙ length-row pic stride (rectOf win) y ∙ sym (length-place out l n)) ∙ v)
+      (q ∙ onto-whole _ vs (le-of-eq (length-place out l n ∙ sym (ap length v ∙ length-row pic stride (rectOf win) y))) ∙ v)
 
   -- the length stays
   pub rows-length : {out : List ℕ} {y : ℕ} → out ≡ blocks (win .width) (line pic stride win) out₀ y → y ≤ win .height → length out ≡ length out₀

@@ -1,78 +1,55 @@
 -- Laws of draw's refusals: when the record is refused, and when it is not.
 -- Assumes nothing.
 use Prim.Native.Nat.{ℕ, _*_}
-use mathlib.Core.Bool.{Bool, true, false, not, cond, Bool·beq}
-use mathlib.Core.List.{List, [], _∷_}
+use mathlib.Core.Bool.{Bool, true, false, _||_, Bool·beq}
+use mathlib.Core.List.{List}
 use mathlib.Core.Logic.{_≢_}
-use mathlib.Core.Path.{_≡_, refl, sym, _∙_}
+use mathlib.Core.Path.{_≡_, refl, sym, ap, _∙_}
 use lib.Dec.{eqb}
 use lib.Ieee.{Float, nan, inf, fin, up, down, eq}
 use lib.ListN.{length}
 use native.Mathlib.Omega.{arith}
-use borrow.Author.Tests.{eq-eqb, not-false}
+use borrow.Author.Tests.{eq-eqb, ne-eqb, eqb-true, not-false}
 use Rattle.limit.specs.declared.Clip.{Clip}
 use Rattle.limit.specs.declared.Clip.the-variants.{Off, Factor}
-use Rattle.limit.specs.Limit.{accepted}
-use Rattle.refuse.specs.Refuse.{Row, row, first}
-use Rattle.refuse.proofs.Walk.{first-none}
+use Rattle.limit.specs.Limit.{allowed}
+use Rattle.lists.specs.Lists.{all}
+use Rattle.refuse.specs.Refuse.{first}
+use Rattle.refuse.proofs.Walk.{each-first}
 use Rattle.settings.specs.declared.Settings.{Settings}
 use Rattle.settings.specs.declared.MapRecord.{MapRecord}
 use Rattle.settings.specs.declared.Window.{Window}
 use Rattle.settings.specs.Settings.{binsOf, keptOf, recordOf, clipBad, sameClip, sharedRows}
-use Rattle.draw.specs.Draw.{recordRows, drawRows, Held}
-use Rattle.draw.proofs.Tables.{record-numbered, none-held, draw-record}
+use Rattle.settings.proofs.Like.{bins-kept}
+use Rattle.draw.specs.Draw.{filmRows, keptRows, recordRows, drawRows, Held}
+use Rattle.draw.proofs.Tables.{record-numbers, record-held, draw-record}
 
 -- ---- a record that is another film's, of another size or of other settings
 
--- each row of the table has this number
-abbrev pub Only : ℕ → List Row → Type 0
-Only n [] = Unit {0}
-Only n (row k b ∷ rows) = (k ≡ n) × Only n rows
-
--- such a table gives no other number
-pub first-only : (n : ℕ) (rows : List Row) → Only n rows → first rows ≢ 0 → first rows ≡ n
-unfolding first
-first-only n [] o h = absurd (h refl)
-first-only n (row k true ∷ rows) o h = o .0
-first-only n (row k false ∷ rows) o h = first-only n rows (o .1) h
-
-pub record-only : (film w h : ℕ) (s : Settings) (r : MapRecord) → Only 15 (recordRows film w h s r)
-unfolding recordRows
-record-only film w h s r = (refl, (refl, (refl, (refl, (refl, (refl, (refl, (refl, (refl, tt)))))))))
-
--- a record that is not held for this film, this size and these settings is met by a row of 15
-pub record-differs : (film w h : ℕ) (s : Settings) (r : MapRecord) → (Held film w h s r → ⊥) → first (recordRows film w h s r) ≢ 0
-record-differs film w h s r d e = d (none-held film w h s r (first-none (recordRows film w h s r) (record-numbered film w h s r) e))
+-- the rows of 15 give no other number
+pub record-fifteen : (film w h : ℕ) (s : Settings) (r : MapRecord) → first (recordRows film w h s r) ≢ 0 → first (recordRows film w h s r) ≡ 15
+unfolding all
+record-fifteen film w h s r d =
+    eqb-true (first (recordRows film w h s r)) 15
+    (sym (ap (λ b. b || eqb (first (recordRows film w h s r)) 15) (ne-eqb (first (recordRows film w h s r)) 0 d))
+    ∙ each-first (λ n. eqb n 0 || eqb n 15) (recordRows film w h s r) refl (rw (record-numbers film w h s r) refl))
 
 module _ (film w h : ℕ) (pic : List ℕ) (s : Settings) (r : MapRecord) (win : Window) (m : List ℕ) (room : ℕ) (shared : first (sharedRows w h (length pic) s (length m)) ≡ 0) where
   -- where none of the refusals 1 to 11 applies, a record that differs is refused with 15
   pub other-record : first (recordRows film w h s r) ≢ 0 → first (drawRows film w h pic s r win m room) ≡ 15
   other-record d =
       sym (draw-record film w h pic s r win m room refl shared refl d)
-      ∙ first-only 15 (recordRows film w h s r) (record-only film w h s r) d
+      ∙ record-fifteen film w h s r d
 
   -- in any field
   pub other-field : (Held film w h s r → ⊥) → first (drawRows film w h pic s r win m room) ≡ 15
-  other-field d = other-record (record-differs film w h s r d)
-
-  -- above all in the film's number
-  pub other-film : film ≢ r .film → first (drawRows film w h pic s r win m room) ≡ 15
-  other-film d = other-field (λ held. d (held .number))
+  other-field d = other-record (λ e. d (record-held film w h s r e))
 
 -- ---- the record that prepare makes of these settings
 
--- bins that were kept are read as the same bins
-pub bins-kept : (s : Settings) → binsOf (keptOf s) ≡ binsOf s
-unfolding binsOf
-bins-kept s = go (s .bins) (eqb (s .bins) 0) refl
-  where
-    go : (n : ℕ) (b : Bool) → eqb n 0 ≡ b → cond (eqb (cond (eqb n 0) 128 n) 0) 128 (cond (eqb n 0) 128 n) ≡ cond (eqb n 0) 128 n
-    go n true e = rw e refl
-    go n false e = rw (e, e) refl
-
 -- a factor that is a number from 1.0 to 1024.0 is equal to itself
-pub same-factor : (f : Float) → accepted f ≡ true → eq f f ≡ true
-unfolding accepted eq
+pub same-factor : (f : Float) → allowed f ≡ true → eq f f ≡ true
+unfolding allowed eq
 same-factor nan h = h
 same-factor (inf s) h = absurd (let z : _≡_ {A = ℕ} 0 1 = cc in omega arith)
 same-factor (fin s m e) h = rw (eq-eqb (m * up e * down e) (m * up e * down e) refl, like s) refl
@@ -85,16 +62,13 @@ same-factor (fin s m e) h = rw (eq-eqb (m * up e * down e) (m * up e * down e) r
 pub same-clip : (clip : Clip) → clipBad clip ≡ false → sameClip clip clip ≡ true
 unfolding sameClip
 same-clip Off h = refl
-same-clip (Factor f) h = same-factor f (not-false (accepted f) h)
+same-clip (Factor f) h = same-factor f (not-false (allowed f) h)
 
--- the record that is kept of these settings is not refused
-pub own-record : (film w h : ℕ) (s : Settings) → clipBad (s .clip) ≡ false → first (recordRows film w h s (recordOf film w h s)) ≡ 0
-unfolding first recordRows
-own-record film w h s c =
+-- the settings that are kept of these are not refused
+pub own-settings : (s : Settings) → clipBad (s .clip) ≡ false → first (keptRows s (keptOf s)) ≡ 0
+unfolding first keptRows
+own-settings s c =
     rw (
-      eq-eqb film film refl,
-      eq-eqb w w refl,
-      eq-eqb h h refl,
       eq-eqb (s .across) (s .across) refl,
       eq-eqb (s .down) (s .down) refl,
       bins-kept s,
@@ -104,3 +78,8 @@ own-record film w h s c =
       same-clip (s .clip) c,
     )
     refl
+
+-- nor is the record of a film, its sizes and these settings
+pub own-record : (film w h : ℕ) (s : Settings) → clipBad (s .clip) ≡ false → first (recordRows film w h s (recordOf film w h s)) ≡ 0
+unfolding first recordRows filmRows
+own-record film w h s c = rw (eq-eqb film film refl, eq-eqb w w refl, eq-eqb h h refl) (own-settings s c)

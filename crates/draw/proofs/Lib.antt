@@ -2,3 +2,4 @@ pub mod Frames
 pub mod Tables
 pub mod Works
 pub mod Laws
+pub mod Like

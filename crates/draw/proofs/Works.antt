@@ -1,7 +1,7 @@
 -- The work of draw: what its steps ask, and the outcome of each of its returns.
 -- Assumes nothing.
 use Prim.Native.Nat.{ℕ}
-use mathlib.Core.Bool.{false, cond}
+use mathlib.Core.Bool.{false}
 use mathlib.Core.List.{List}
 use mathlib.Core.Path.{_≡_, refl, sym, ap, _∙_}
 use lib.ListN.{length}
@@ -15,11 +15,11 @@ use Rattle.settings.specs.declared.Settings.{Settings}
 use Rattle.settings.specs.declared.MapRecord.{MapRecord}
 use Rattle.settings.specs.declared.Window.{Window}
 use Rattle.settings.specs.Settings.{clipOne}
-use Rattle.render.specs.Render.{rectOf, renderOf, Mapped, Shown}
+use Rattle.render.specs.Render.{rectOf, Mapped, Shown}
 use Rattle.tally.proofs.Greys.{length-greys}
 use Rattle.render.proofs.Laws.{ready-mapped}
 use Rattle.draw.specs.declared.Drawn.the-variants.{Done, Refused}
-use Rattle.draw.specs.Draw.{drawRows, drawOf, showing, CopyAsks, WindowReady}
+use Rattle.draw.specs.Draw.{drawRows, drawnPixels, drawOf, showing, CopyAsks, WindowReady}
 use Rattle.draw.proofs.Tables.{framed}
 
 -- what the copying asks
@@ -43,16 +43,13 @@ render-asks {w} {h} {pic} {s} {win} {m} {out} ready e one = (
 -- ---- the returns of draw
 
 module _ (film w h : ℕ) (pic : List ℕ) (s : Settings) (r : MapRecord) (win : Window) (m out : List ℕ) where
-  -- the pixels that draw leaves where it refuses nothing
-  unfoldable pixels : List ℕ
-  pixels = cond (clipOne (s .clip)) (greysOf pic w (rectOf win)) (renderOf w h s m win (greysOf pic w (rectOf win)))
-
   pub ends-refused : {x : ℕ} → x ≡ first (drawRows film w h pic s r win m (length out)) → (x ≡ 0 → ⊥) → showing (Refused x) out ≡ drawOf film w h pic s r win m out
-  unfolding drawOf pixels
-  ends-refused {x} e z = unless-refused x (λ n. showing (Refused n) out) (showing Done pixels) z ∙ ap (λ k. unless k (λ n. showing (Refused n) out) (showing Done pixels)) e
+  unfolding drawOf
+  ends-refused {x} e z =
+      unless-refused x (λ n. showing (Refused n) out) (showing Done (drawnPixels w h pic s win m)) z
+      ∙ ap (λ k. unless k (λ n. showing (Refused n) out) (showing Done (drawnPixels w h pic s win m))) e
 
-  pub ends-well : {x : ℕ} {end : List ℕ} → x ≡ first (drawRows film w h pic s r win m (length out)) → x ≡ 0
-      → end ≡ cond (clipOne (s .clip)) (greysOf pic w (rectOf win)) (renderOf w h s m win (greysOf pic w (rectOf win)))
+  pub ends-well : {x : ℕ} {end : List ℕ} → x ≡ first (drawRows film w h pic s r win m (length out)) → x ≡ 0 → end ≡ drawnPixels w h pic s win m
       → showing Done end ≡ drawOf film w h pic s r win m out
-  unfolding drawOf pixels
-  ends-well e z q = ap (showing Done) q ∙ ap (λ k. unless k (λ n. showing (Refused n) out) (showing Done pixels)) (sym z ∙ e)
+  unfolding drawOf
+  ends-well e z q = ap (showing Done) q ∙ ap (λ k. unless k (λ n. showing (Refused n) out) (showing Done (drawnPixels w h pic s win m))) (sym z ∙ e)

@@ -19,19 +19,25 @@ use Rattle.render.specs.Render.{renderOf, rectOf}
 use Rattle.draw.specs.declared.Drawn.{Drawn}
 use Rattle.draw.specs.declared.Drawn.the-variants.{Done, Refused}
 
--- 15: "record differs in film number, size or any setting (bins 0 read as 128 on both sides)", a row for each field
-unfoldable pub recordRows : ℕ → ℕ → ℕ → Settings → MapRecord → List Row
-recordRows film w h s r =
-    row 15 (not (eqb film (r .film)))
-    ∷ row 15 (not (eqb w (r .width)))
-    ∷ row 15 (not (eqb h (r .height)))
-    ∷ row 15 (not (eqb (s .across) (r .settings .across)))
-    ∷ row 15 (not (eqb (s .down) (r .settings .down)))
-    ∷ row 15 (not (eqb (binsOf s) (binsOf (r .settings))))
-    ∷ row 15 (not (eqb (s .min) (r .settings .min)))
-    ∷ row 15 (not (eqb (s .max) (r .settings .max)))
-    ∷ row 15 (not (sameClip (s .clip) (r .settings .clip)))
+-- 15: "record differs in film number, size ..", a row for each
+unfoldable pub filmRows : ℕ → ℕ → ℕ → MapRecord → List Row
+filmRows film w h r =
+    row 15 (not (eqb film (r .film))) ∷ row 15 (not (eqb w (r .width))) ∷ row 15 (not (eqb h (r .height))) ∷ []
+
+-- 15: ".. or any setting (bins 0 read as 128 on both sides)", a row for each
+unfoldable pub keptRows : Settings → Settings → List Row
+keptRows s kept =
+    row 15 (not (eqb (s .across) (kept .across)))
+    ∷ row 15 (not (eqb (s .down) (kept .down)))
+    ∷ row 15 (not (eqb (binsOf s) (binsOf kept)))
+    ∷ row 15 (not (eqb (s .min) (kept .min)))
+    ∷ row 15 (not (eqb (s .max) (kept .max)))
+    ∷ row 15 (not (sameClip (s .clip) (kept .clip)))
     ∷ []
+
+-- 15: the record was made for another film, another size or other settings
+unfoldable pub recordRows : ℕ → ℕ → ℕ → Settings → MapRecord → List Row
+recordRows film w h s r = filmRows film w h r ++ keptRows s (r .settings)
 
 -- 16 and 17: "window empty or not inside the film / output length is not the window's area"
 unfoldable pub windowRows : ℕ → ℕ → Window → ℕ → List Row
@@ -69,12 +75,15 @@ pub record Shows : Type 0 where
 abbrev pub showing : Drawn → List ℕ → Shows
 showing answer out = record { answer = answer; out = out }
 
--- "the window's pixels row by row in the output, each by the rule above from the map entries as lent, whoever wrote them. At factor 1.0 it copies them";
--- a refusal leaves the output as it was
+-- "the window's pixels row by row in the output, each by the rule above from the map entries as lent, whoever wrote them. At factor 1.0 it copies them"
+unfoldable pub drawnPixels : ℕ → ℕ → List ℕ → Settings → Window → List ℕ → List ℕ
+drawnPixels w h pic s win m = cond (clipOne (s .clip)) (greysOf pic w (rectOf win)) (renderOf w h s m win (greysOf pic w (rectOf win)))
+
+-- where no row applies draw leaves them in the output; a refusal leaves the output as it was
 unfoldable pub drawOf : ℕ → ℕ → ℕ → List ℕ → Settings → MapRecord → Window → List ℕ → List ℕ → Shows
 drawOf film w h pic s r win m out =
     unless (first (drawRows film w h pic s r win m (length out))) (λ n. showing (Refused n) out)
-    (showing Done (cond (clipOne (s .clip)) (greysOf pic w (rectOf win)) (renderOf w h s m win (greysOf pic w (rectOf win)))))
+    (showing Done (drawnPixels w h pic s win m))
 
 -- ---- what the functions ask
 

@@ -1,14 +1,12 @@
 // The call draw: a window of the rendered film from kept mappings.
-ghost use mathlib.Core.Bool.{cond};
 ghost use mathlib.Core.Path.{_≡_};
 ghost use lib.ListN.{length};
 ghost use Rattle.lists.specs.Lists.{all};
 ghost use Rattle.refuse.specs.Refuse.{first};
 ghost use Rattle.scan.specs.Scan.{within};
 ghost use Rattle.tally.specs.Tally.{greysOf};
-ghost use Rattle.settings.specs.Settings.{clipOne};
-ghost use Rattle.render.specs.Render.{rectOf, renderOf};
-ghost use Rattle.draw.specs.Draw.{recordRows, windowRows, pixelRows, drawRows, drawOf, showing, Framed, CopyAsks, LookAsks, WindowReady};
+ghost use Rattle.render.specs.Render.{rectOf};
+ghost use Rattle.draw.specs.Draw.{filmRows, keptRows, recordRows, windowRows, pixelRows, drawRows, drawnPixels, drawOf, showing, Framed, CopyAsks, LookAsks, WindowReady};
 use settings::MapRecord;
 use settings::Settings;
 use settings::Window;
@@ -19,11 +17,10 @@ pub enum Drawn {
     Refused(u32),
 }
 
-// Refusal 15, where the record differs from what comes with the call, else 0.
-fn record_refusal(film: u32, width: u32, height: u32, s: Settings, record: MapRecord) -> u32
-    ensures { λ r. ⌜ r ≡ first (recordRows film width height s «record») ⌝ }
+// Refusal 15, where the record is another film's or of another size, else 0.
+pub fn film_refusal(film: u32, width: u32, height: u32, record: MapRecord) -> u32
+    ensures { λ r. ⌜ r ≡ first (filmRows film width height «record») ⌝ }
 {
-    let kept = record.settings;
     if film != record.film {
         return 15;
     }
@@ -33,6 +30,13 @@ fn record_refusal(film: u32, width: u32, height: u32, s: Settings, record: MapRe
     if height != record.height {
         return 15;
     }
+    0
+}
+
+// Refusal 15, where the settings are not those that were kept, else 0. Bins 0 are read as 128 on both sides.
+pub fn kept_refusal(s: Settings, kept: Settings) -> u32
+    ensures { λ r. ⌜ r ≡ first (keptRows s kept) ⌝ }
+{
     if s.across != kept.across {
         return 15;
     }
@@ -56,8 +60,20 @@ fn record_refusal(film: u32, width: u32, height: u32, s: Settings, record: MapRe
     0
 }
 
+// Refusal 15, where the record differs from what comes with the call, else 0.
+pub fn record_refusal(film: u32, width: u32, height: u32, s: Settings, record: MapRecord) -> u32
+    ensures { λ r. ⌜ r ≡ first (recordRows film width height s «record») ⌝ }
+{
+    let differs = film_refusal(film, width, height, record);
+    if differs != 0 {
+        return differs;
+    }
+    let kept = record.settings;
+    kept_refusal(s, kept)
+}
+
 // The first of the refusals 16 and 17 that applies, else 0.
-fn window_refusal(width: u32, height: u32, win: Window, room: usize) -> u32
+pub fn window_refusal(width: u32, height: u32, win: Window, room: usize) -> u32
     ensures { λ r. ⌜ r ≡ first (windowRows width height win room) ⌝ }
 {
     if win.width == 0 {
@@ -171,7 +187,7 @@ fn work(
     out: &mut [u16],
 )
     requires { ⌜ WindowReady width height (now picture) s win (now map) (length (now out)) ⌝ }
-    ensures { λ _. ⌜ now (out .exit) ≡ cond (clipOne (s .clip)) (greysOf (now (picture .entry)) width (rectOf win)) (renderOf width height s (now (map .entry)) win (greysOf (now (picture .entry)) width (rectOf win))) ⌝ }
+    ensures { λ _. ⌜ now (out .exit) ≡ drawnPixels width height (now (picture .entry)) s win (now (map .entry)) ⌝ }
 {
     copy_window(picture, width as usize, win, out);
     let clip = s.clip;

@@ -1,35 +1,32 @@
 -- Laws of the header for the calls that read and write it: where a header that is found ends, which refusals there are,
--- how long a written header is, that its entries are bytes, that it is one of the grammar, and so is read back as it was written.
+-- how long a written header is, that it is one of the grammar, and so is read back as it was written.
 -- Assumes nothing.
 use Prim.Native.Nat.{ℕ, zero, suc, _+_, _-_, _*_, _/_, _%_, _≤_, _<_}
 use mathlib.Core.Bool.{Bool, true, false, _&&_, cond}
 use mathlib.Core.List.{List, [], _∷_, _++_, append-assoc}
 use mathlib.Core.Logic.{_⊎_, inl, inr, ⊎-elim}
 use mathlib.Core.Path.{_≡_, refl, sym, ap, _∙_}
-use lib.Dec.{leb, ltb, eqb}
-use lib.ListN.{length, drop, getD, length-append, length-drop}
+use lib.Dec.{leb, eqb}
+use lib.ListN.{length, drop, getD, length-append}
 use native.Mathlib.Omega.{arith}
-use borrow.Author.Tests.{le-leb, lt-ltb}
+use borrow.Author.Tests.{le-leb}
 use Rattle.lists.specs.Lists.{all}
-use Rattle.lists.proofs.Tabs.{and-both, and-left, and-right}
-use Rattle.lists.proofs.Alls.{all-one, all-both, all-weak}
+use Rattle.lists.proofs.Orders.{lt-or-ge}
+use Rattle.lists.proofs.Tabs.{and-both}
+use Rattle.lists.proofs.Alls.{all-one, all-both}
 use Rattle.header.specs.declared.Number.the-variants.{Misfit}
 use Rattle.header.specs.declared.Head.the-variants.{Found, Refused}
 use Rattle.header.specs.Header.{isWhite, isDigit, misfitOf, whiteOf, digitsOf, firstDigit, numberOf, behind, endOf, headerOf, decimalOf, headerBytes}
 use Rattle.header.specs.Grammar.{valueOf, Numeral, Header}
-use Rattle.header.proofs.Reading.{lt-or-ge, digit-high, digits-never, behind-refused, tens, tens-five, digits-small, digits-room}
+use Rattle.header.proofs.Reading.{digits-never, behind-refused, tens}
 use Rattle.header.proofs.Writing.{decimal-one, decimal-more, count-most, count-least, length-header}
-use Rattle.header.proofs.Grammar.{header-complete, header-sound, header-longer}
+use Rattle.header.proofs.Grammar.{header-complete, header-sound}
 
 -- ---- what a header that is found, or refused, tells
 
 -- the place of the raster is within the bytes
 pub found-within : (s : List ℕ) {w h m at : ℕ} → headerOf s ≡ Found w h m at → at ≤ length s
 found-within s q = header-sound s q .0
-
--- the raster never starts at 0
-pub found-positive : (s : List ℕ) {w h m at : ℕ} → headerOf s ≡ Found w h m at → 0 < at
-found-positive s {at = at} q = omega (arith, header-longer (header-sound s q .1), length-drop at s)
 
 abbrev Number20 : ℕ → Type 0
 Number20 n = (n ≡ 20) ⊎ (n ≡ 21)
@@ -90,22 +87,6 @@ refused-number s {n} q = go (eqb (getD s 0 0) 80 && eqb (getD s 1 0) 53) q
         q)
         q
     go false q = let e : n ≡ 20 = cc in inl e
-
--- ---- a number that is read is below 100000
-
-value-below : (ds : List ℕ) (v k : ℕ) → length ds ≤ k → all isDigit ds ≡ true → (v + 1) * tens k ≤ 100000 → valueOf v ds < 100000
-unfolding all valueOf
-value-below [] v k l a h = digits-small v k h
-value-below (b ∷ ds) v k l a h =
-    value-below ds (v * 10 + (b - 48)) (k - 1) (omega arith) (and-right (isDigit b) _ a)
-    (digits-room v k (b - 48) (omega arith) (omega (arith, digit-high b (and-left (isDigit b) _ a))) h)
-
-numeral-below : {bs : List ℕ} {n : ℕ} → Numeral bs n → n < 100000
-numeral-below x = omega (arith, x .value, value-below (x .digits) 0 5 (x .fewDigits) (x .allDigits) tens-five)
-
--- "numbers of 1 to 5 digits": width, height and maxval of a header that is found are below 100000
-pub found-below : (s : List ℕ) {w h m at : ℕ} → headerOf s ≡ Found w h m at → (w < 100000) × (h < 100000) × (m < 100000)
-found-below s q = let g = header-sound s q .1 in (numeral-below (g .widthIs), numeral-below (g .heightIs), numeral-below (g .maxvalIs))
 
 -- ---- how long a written header is
 
@@ -189,30 +170,3 @@ pub round-trip : (w h m : ℕ) (rest : List ℕ) → w < 100000 → h < 100000 �
 round-trip w h m rest lw lh lm =
     let e : length (headerBytes w h m ++ rest) - length rest ≡ length (headerBytes w h m) = omega (arith, length-append (headerBytes w h m) rest) in
     header-complete (header-written w h m rest lw lh lm) ∙ ap (Found w h m) e
-
--- ---- a written header is a list of bytes
-
-digits-bytes : (n : ℕ) → all (λ b. ltb b 256) (decimalOf 5 n) ≡ true
-digits-bytes n = all-weak (λ b h. lt-ltb b 256 (omega (arith, digit-high b h))) (decimalOf 5 n) (decimal-digits 5 n)
-
-magic-bytes : all (λ b. ltb b 256) (80 ∷ 53 ∷ 10 ∷ []) ≡ true
-unfolding all
-magic-bytes = refl
-
-space-byte : all (λ b. ltb b 256) (32 ∷ []) ≡ true
-unfolding all
-space-byte = refl
-
-feed-byte : all (λ b. ltb b 256) (10 ∷ []) ≡ true
-unfolding all
-feed-byte = refl
-
--- each entry of a written header is a byte
-pub header-bytes : (w h m : ℕ) → all (λ b. ltb b 256) (headerBytes w h m) ≡ true
-unfolding headerBytes
-header-bytes w h m =
-    all-both _ (80 ∷ 53 ∷ 10 ∷ []) _ magic-bytes
-    (all-both _ (decimalOf 5 w) _ (digits-bytes w)
-    (all-both _ (32 ∷ []) _ space-byte
-    (all-both _ (decimalOf 5 h) _ (digits-bytes h)
-    (all-both _ (10 ∷ []) _ feed-byte (all-both _ (decimalOf 5 m) _ (digits-bytes m) feed-byte)))))

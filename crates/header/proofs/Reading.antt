@@ -1,17 +1,18 @@
 -- Laws of the header's reader: one for each case of its definitions, and where a number ends.
 -- Assumes nothing.
 use Prim.Native.Nat.{ℕ, zero, suc, _+_, _-_, _*_, _≤_, _<_}
-use mathlib.Core.Bool.{Bool, true, false, cond}
+use mathlib.Core.Bool.{Bool, true, false, cond, true≢false}
 use mathlib.Core.List.{List, [], _∷_}
-use mathlib.Core.Logic.{_⊎_, inl, inr, ⊎-elim}
+use mathlib.Core.Logic.{_⊎_, ⊎-elim}
 use mathlib.Core.Path.{_≡_, refl, sym, ap, _∙_}
-use lib.Dec.{leb, ltb, eqb}
+use lib.Dec.{leb, eqb}
 use lib.ListN.{length, drop, getD, drop-of-length-le, List·getD-eq-default, length-drop}
 use lib.Seq.{drop-cons}
 use native.Mathlib.Nat.{mul-assoc, mul-le-mul-right, le-mul-of-pos-right, not-suc-le-zero}
 use native.Mathlib.Omega.{arith}
 use native.Mathlib.Numerals.{add-one}
-use borrow.Author.Tests.{leb-true, ltb-true, ltb-false, eq-eqb, ne-eqb}
+use borrow.Author.Tests.{leb-true, eq-eqb, ne-eqb}
+use Rattle.lists.proofs.Orders.{lt-or-ge}
 use Rattle.lists.proofs.Tabs.{and-left, and-right}
 use Rattle.header.specs.declared.Number.{Number}
 use Rattle.header.specs.declared.Number.the-variants.{Read, Misfit}
@@ -19,35 +20,24 @@ use Rattle.header.specs.declared.Head.{Head}
 use Rattle.header.specs.declared.Head.the-variants.{Found, Refused}
 use Rattle.header.specs.Header.{isWhite, isDigit, misfitOf, whiteOf, digitsOf, firstDigit, numberOf, behind, endOf, headerOf}
 
--- two numbers, compared
-pub lt-or-ge : (a b : ℕ) → (a < b) ⊎ (b ≤ a)
-lt-or-ge a b = go (ltb a b) refl
-  where
-    go : (t : Bool) → ltb a b ≡ t → (a < b) ⊎ (b ≤ a)
-    go true h = inl (ltb-true a b h)
-    go false h = inr (ltb-false a b h)
-
 -- ---- a byte that is something lies within the bytes
 
 -- a test that 0 fails holds only of bytes within the list
-pub within : (f : ℕ → Bool) → f 0 ≡ false → (s : List ℕ) (i : ℕ) → f (getD s i 0) ≡ true → i < length s
-within f z s i h = ⊎-elim (λ l. l) past (lt-or-ge i (length s))
+pub test-within : (f : ℕ → Bool) → f 0 ≡ false → (s : List ℕ) (i : ℕ) → f (getD s i 0) ≡ true → i < length s
+test-within f z s i h = ⊎-elim (λ l. l) past (lt-or-ge i (length s))
   where
     past : length s ≤ i → i < length s
-    past l = let e : getD s i 0 ≡ 0 = List·getD-eq-default s 0 l in let q : true ≡ false = sym h ∙ (ap f e ∙ z) in absurd (no q)
-      where
-        no : true ≡ false → ⊥
-        no q = let z : _≡_ {A = ℕ} 0 1 = cc in omega arith
+    past l = let e : getD s i 0 ≡ 0 = List·getD-eq-default s 0 l in absurd (true≢false (sym h ∙ (ap f e ∙ z)))
 
 -- white space lies within the bytes
 pub white-within : (s : List ℕ) (i : ℕ) → isWhite (getD s i 0) ≡ true → i < length s
 unfolding isWhite
-white-within s i h = within isWhite refl s i h
+white-within s i h = test-within isWhite refl s i h
 
 -- a digit lies within the bytes
 pub digit-within : (s : List ℕ) (i : ℕ) → isDigit (getD s i 0) ≡ true → i < length s
 unfolding isDigit
-digit-within s i h = within isDigit refl s i h
+digit-within s i h = test-within isDigit refl s i h
 
 -- a digit is at least `0`
 pub digit-low : (b : ℕ) → isDigit b ≡ true → 48 ≤ b
@@ -305,4 +295,4 @@ header-magic s p q = rw (eq-eqb (getD s 0 0) 80 p, eq-eqb (getD s 1 0) 53 q) ref
 
 -- a second byte that is right is there
 pub magic-within : (s : List ℕ) → getD s 1 0 ≡ 53 → 2 ≤ length s
-magic-within s h = within (λ b. eqb b 53) refl s 1 (eq-eqb (getD s 1 0) 53 h)
+magic-within s h = test-within (λ b. eqb b 53) refl s 1 (eq-eqb (getD s 1 0) 53 h)

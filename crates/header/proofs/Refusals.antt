@@ -17,7 +17,7 @@ use Rattle.header.specs.declared.Head.{Head}
 use Rattle.header.specs.declared.Head.the-variants.{Found, Refused}
 use Rattle.header.specs.Header.{isWhite, isDigit, misfitOf, whiteOf, digitsOf, firstDigit, numberOf, behind, endOf, headerOf}
 use Rattle.header.specs.Grammar.{valueOf, Numeral, Header, Hash}
-use Rattle.header.proofs.Reading.{within, first-misfit, number-behind, number-misfit, end-misfit, digits-never, behind-read, behind-misfit, behind-refused, header-magic}
+use Rattle.header.proofs.Reading.{test-within, first-misfit, number-behind, number-misfit, end-misfit, digits-never, behind-read, behind-misfit, behind-refused, header-magic}
 use Rattle.header.proofs.Grammar.{byte-at, drop-behind, drop-byte, all-first, numeral-white, number-reads, white-some, Run, NumberAt, number-sound, magic-bytes, white-run, white-not-digit, header-complete, header-sound}
 use Rattle.header.proofs.Laws.{refused-number}
 
@@ -48,7 +48,7 @@ misfit-hash b q = go (eqb b 35) refl q
 hash-there : (s : List ℕ) (i : ℕ) → misfitOf (getD s i 0) ≡ 21 → drop i s ≡ 35 ∷ drop (i + 1) s
 hash-there s i q =
     let b : getD s i 0 ≡ 35 = misfit-hash (getD s i 0) q in
-    drop-byte s i (within (λ b. eqb b 35) refl s i (eq-eqb (getD s i 0) 35 b)) ∙ ap (λ x. x ∷ drop (i + 1) s) b
+    drop-byte s i (test-within (λ b. eqb b 35) refl s i (eq-eqb (getD s i 0) 35 b)) ∙ ap (λ x. x ∷ drop (i + 1) s) b
 
 -- ---- a header that is refused with 21 has a `#` in the place of another byte
 

@@ -11,9 +11,9 @@ use native.Mathlib.Omega.{arith}
 use native.Mathlib.Numerals.{add-one}
 use borrow.Author.Tests.{lt-ltb, le-ltb}
 use Rattle.lists.specs.Lists.{onto, over}
+use Rattle.lists.proofs.Orders.{lt-or-ge}
 use Rattle.lists.proofs.Overs.{onto-nil, onto-set, onto-over, over-nil, over-set}
 use Rattle.header.specs.Header.{decimalOf, headerBytes}
-use Rattle.header.proofs.Reading.{lt-or-ge}
 
 -- ---- the digits of a number
 

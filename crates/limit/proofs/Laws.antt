@@ -2,7 +2,7 @@
 use Prim.Native.Nat.{ℕ, zero, suc, _*_, _/_, _≤_, _<_, max}
 use native.Mathlib.Nat.{le-trans, le-of-eq, le-max-left, le-max-right, max-le, mul-comm, mul-assoc, mul-right-comm, mul-le-mul, mul-le-mul-left, mul-le-mul-right, le-of-mul-le-mul-right, eq-of-mul-eq-mul-right, div-mul-le-self, le-div-iff-mul-le}
 use native.Mathlib.Omega.{arith}
-use mathlib.Core.Bool.{Bool, true, false, _&&_, true≢false}
+use mathlib.Core.Bool.{Bool, true, false, _&&_, true≢false, and-true, and-eq-true-iff}
 use mathlib.Core.Logic.{_↔_}
 use mathlib.Core.Path.{_≡_, refl, sym, ap, ap₂, _∙_, subst}
 use lib.Dec.{leb, ltb, eqb, lit≤}
@@ -10,54 +10,44 @@ use lib.IntN.{ℤ}
 use lib.Ieee.{Float, nan, inf, fin, up, down, eq}
 use lib.Ieee.Fits.{down-pos}
 use borrow.Author.Tests.{leb-true, le-leb, eqb-true, eqb-false, ne-eqb}
+use Rattle.limit.specs.declared.Clip.{Clip}
 use Rattle.limit.specs.declared.Clip.the-variants.{Off, Factor}
 use Rattle.limit.specs.declared.Judged.{Judged}
-use Rattle.limit.specs.declared.Judged.the-variants.{Refused, One, Above}
-use Rattle.limit.specs.Limit.{accepted, isOne, judgedBy, judgeOf, AboveOne, judgedSays, limitOf, tooTight}
+use Rattle.limit.specs.declared.Judged.the-variants as Judged
+use Rattle.limit.specs.Limit.{allowed, isOne, judgedBy, judgeOf, AboveOne, judgedSays, limitOf, tooTight}
 
-and-left : (a b : Bool) → (a && b) ≡ true → a ≡ true
-and-left true b h = refl
-and-left false b h = h
-
-and-right : (a b : Bool) → (a && b) ≡ true → b ≡ true
-and-right true b h = h
-and-right false true h = refl
-and-right false false h = h
-
--- what an accepted number is: not below 1.0 and not above 1024.0
-pub record Accepted (m : ℕ) (e : ℤ) : Type 0 where
+-- what an allowed number is: not below 1.0 and not above 1024.0
+pub record Allowed (m : ℕ) (e : ℤ) : Type 0 where
   pub least : down e ≤ m * up e
   pub most : m * up e ≤ 1024 * down e
 
--- an accepted number is one between the bounds
-pub accepted-told : (m : ℕ) (e : ℤ) → accepted (fin false m e) ≡ true → Accepted m e
-unfolding accepted
-accepted-told m e h =
-    record {
-      least = leb-true (down e) (m * up e) (and-left (leb (down e) (m * up e)) (leb (m * up e) (1024 * down e)) h);
-      most = leb-true (m * up e) (1024 * down e) (and-right (leb (down e) (m * up e)) (leb (m * up e) (1024 * down e)) h);
-    }
+-- an allowed number is one between the bounds
+pub allowed-told : (m : ℕ) (e : ℤ) → allowed (fin false m e) ≡ true → Allowed m e
+unfolding allowed
+allowed-told m e h =
+    let k = and-eq-true-iff (leb (down e) (m * up e)) (leb (m * up e) (1024 * down e)) .0 h in
+    record { least = leb-true (down e) (m * up e) (k .0); most = leb-true (m * up e) (1024 * down e) (k .1) }
 
 -- ---- the factor
 
--- 1.0 is accepted
-pub one-accepted : (f : Float) → isOne f ≡ true → accepted f ≡ true
-unfolding isOne accepted
-one-accepted nan h = h
-one-accepted (inf s) h = h
-one-accepted (fin true m e) h = h
-one-accepted (fin false m e) h = within (m * up e) (down e) (eqb-true (m * up e) (down e) h)
+-- 1.0 is allowed
+pub one-allowed : (f : Float) → isOne f ≡ true → allowed f ≡ true
+unfolding isOne allowed
+one-allowed nan h = h
+one-allowed (inf s) h = h
+one-allowed (fin true m e) h = h
+one-allowed (fin false m e) h = within (m * up e) (down e) (eqb-true (m * up e) (down e) h)
   where
     within : (a d : ℕ) → a ≡ d → (leb d a && leb a (1024 * d)) ≡ true
     within a d p = ap₂ _&&_ (le-leb d a (omega arith)) (le-leb a (1024 * d) (omega arith))
 
--- an accepted factor other than 1.0 is above 1.0
-pub above-one : (f : Float) → accepted f ≡ true → isOne f ≡ false → AboveOne f
-unfolding isOne accepted
+-- an allowed factor other than 1.0 is above 1.0
+pub above-one : (f : Float) → allowed f ≡ true → isOne f ≡ false → AboveOne f
+unfolding isOne allowed
 above-one nan h k = absurd (true≢false (sym h))
 above-one (inf s) h k = absurd (true≢false (sym h))
 above-one (fin true m e) h k = absurd (true≢false (sym h))
-above-one (fin false m e) h k = (refl, strict (m * up e) (down e) (accepted-told m e h .least) (eqb-false (m * up e) (down e) k))
+above-one (fin false m e) h k = (refl, strict (m * up e) (down e) (allowed-told m e h .least) (eqb-false (m * up e) (down e) k))
   where
     strict : (a d : ℕ) → d ≤ a → (a ≡ d → ⊥) → d < a
     strict a d p q = omega (arith, q)
@@ -70,20 +60,25 @@ above-not-one (inf s) k = refl
 above-not-one (fin true m e) k = refl
 above-not-one (fin false m e) k = ne-eqb (m * up e) (down e) (λ z. omega (arith, k .1))
 
--- a factor is judged as document 01 says of it, and in no other way
-pub judged-exactly : (f : Float) (j : Judged) → (judgeOf f ≡ j) ↔ judgedSays j f
+-- a clip setting is judged as document 01 says of it, and in no other way
+pub judged-exactly : (clip : Clip) (j : Judged) → (judgeOf clip ≡ j) ↔ judgedSays j clip
 unfolding judgeOf
-judged-exactly f j = ((λ e. subst (λ x. judgedSays x f) e (told (accepted f) refl (isOne f) refl)), back j)
+judged-exactly clip j = ((λ e. subst (λ x. judgedSays x clip) e (told clip)), back j)
   where
-    told : (a : Bool) → accepted f ≡ a → (o : Bool) → isOne f ≡ o → judgedSays (judgedBy a o) f
-    told false p o q = p
-    told true p true q = q
-    told true p false q = (p, above-one f p q)
+    factor : (f : Float) (a : Bool) → allowed f ≡ a → (o : Bool) → isOne f ≡ o → judgedSays (judgedBy a o f) (Factor f)
+    factor f false p o q = (f, refl, p)
+    factor f true p true q = (f, refl, q)
+    factor f true p false q = (refl, p, above-one f p q)
 
-    back : (j : Judged) → judgedSays j f → judgedBy (accepted f) (isOne f) ≡ j
-    back Refused s = rw s refl
-    back One s = rw (one-accepted f s, s) refl
-    back Above s = rw (s .0, above-not-one f (s .1)) refl
+    told : (c : Clip) → judgedSays (judgeOf c) c
+    told Off = refl
+    told (Factor f) = factor f (allowed f) refl (isOne f) refl
+
+    back : (j : Judged) → judgedSays j clip → judgeOf clip ≡ j
+    back Judged.Off s = rw s refl
+    back Judged.Refused s = rw (s .1, s .2) refl
+    back Judged.One s = rw (s .1, one-allowed (s .0) (s .2), s .2) refl
+    back (Judged.Above f) s = rw (s .0, s .1, above-not-one f (s .2)) refl
 
 -- a / c and b / d are the same fraction: the one is 1 where the other is
 one-alike : (a b c d : ℕ) → 0 < c → 0 < d → a * d ≡ b * c → eqb a c ≡ eqb b d
@@ -102,8 +97,8 @@ one-alike a b c d p q e = go (eqb a c) refl (eqb b d) refl
     go false f false g = f ∙ sym g
 
 -- two factors that are equal as numbers are both 1.0, or neither
-pub same-one : (f g : Float) → accepted f ≡ true → accepted g ≡ true → eq f g ≡ true → isOne f ≡ isOne g
-unfolding isOne accepted eq
+pub same-one : (f g : Float) → allowed f ≡ true → allowed g ≡ true → eq f g ≡ true → isOne f ≡ isOne g
+unfolding isOne allowed eq
 same-one nan g p q e = absurd (true≢false (sym p))
 same-one (inf s) g p q e = absurd (true≢false (sym p))
 same-one (fin true m k) g p q e = absurd (true≢false (sym p))
@@ -111,11 +106,7 @@ same-one (fin false m k) nan p q e = absurd (true≢false (sym q))
 same-one (fin false m k) (inf s) p q e = absurd (true≢false (sym q))
 same-one (fin false m k) (fin true n l) p q e = absurd (true≢false (sym q))
 same-one (fin false m k) (fin false n l) p q e =
-    one-alike (m * up k) (n * up l) (down k) (down l) (down-pos k) (down-pos l) (eqb-true (m * up k * down l) (n * up l * down k) (front _ e))
-  where
-    front : (x : Bool) → (x && true) ≡ true → x ≡ true
-    front true z = refl
-    front false z = z
+    one-alike (m * up k) (n * up l) (down k) (down l) (down-pos k) (down-pos l) (eqb-true (m * up k * down l) (n * up l * down k) (sym (and-true _) ∙ e))
 
 -- ---- the limit
 
@@ -148,12 +139,12 @@ max-room q b h k = go q h
     go (suc x) p = subst (λ (y : ℕ). y * b ≤ 4294967296) (same x) p
 
 -- the limit times the bins is at most 2 ^ 32
-pub limit-room : (f : Float) (n b : ℕ) → accepted f ≡ true → n ≤ 4194304 → 2 ≤ b → b ≤ 4096 → limitOf f n b * b ≤ 4294967296
-unfolding limitOf accepted
+pub limit-room : (f : Float) (n b : ℕ) → allowed f ≡ true → n ≤ 4194304 → 2 ≤ b → b ≤ 4096 → limitOf f n b * b ≤ 4294967296
+unfolding limitOf allowed
 limit-room nan n b h k l u = omega arith
 limit-room (inf s) n b h k l u = omega arith
 limit-room (fin true m e) n b h k l u = absurd (true≢false (sym h))
-limit-room (fin false m e) n b h k l u = max-room (m * up e * n / (down e * b)) b (floor-room (m * up e) (down e) n b (down-pos e) (accepted-told m e h .most) k) u
+limit-room (fin false m e) n b h k l u = max-room (m * up e * n / (down e * b)) b (floor-room (m * up e) (down e) n b (down-pos e) (allowed-told m e h .most) k) u
 
 half : (x b : ℕ) → x * b ≤ 4294967296 → 2 ≤ b → x ≤ 2147483648
 half x b h l = halved (le-trans (mul-le-mul-left x l) h)
@@ -165,13 +156,13 @@ max-most : (q : ℕ) → q ≤ 2147483648 → max 1 q ≤ 2147483648
 max-most q h = omega arith
 
 -- the limit is at most 2 ^ 31
-pub limit-most : (f : Float) (n b : ℕ) → accepted f ≡ true → n ≤ 4194304 → 2 ≤ b → limitOf f n b ≤ 2147483648
-unfolding limitOf accepted
+pub limit-most : (f : Float) (n b : ℕ) → allowed f ≡ true → n ≤ 4194304 → 2 ≤ b → limitOf f n b ≤ 2147483648
+unfolding limitOf allowed
 limit-most nan n b h k l = lit≤ tt
 limit-most (inf s) n b h k l = lit≤ tt
 limit-most (fin true m e) n b h k l = absurd (true≢false (sym h))
 limit-most (fin false m e) n b h k l =
-    max-most (m * up e * n / (down e * b)) (half (m * up e * n / (down e * b)) b (floor-room (m * up e) (down e) n b (down-pos e) (accepted-told m e h .most) k) l)
+    max-most (m * up e * n / (down e * b)) (half (m * up e * n / (down e * b)) b (floor-room (m * up e) (down e) n b (down-pos e) (allowed-told m e h .most) k) l)
 
 -- a factor of at most k has a limit of at most k x N / B, or 1
 pub limit-bound : (s : Bool) (m : ℕ) (e : ℤ) (n b k : ℕ) → 0 < b → m * up e ≤ k * down e → limitOf (fin s m e) n b ≤ max 1 (k * n / b)

@@ -1,4 +1,4 @@
--- The bit pattern of an accepted factor: its exponent's field is 127 to 137, and the number that the code makes of the fields,
+-- The bit pattern of an allowed factor: its exponent's field is 127 to 137, and the number that the code makes of the fields,
 -- `scaled`, is the factor times 2 ^ 23, exactly. Assumes nothing.
 use Prim.Native.Nat.{ℕ, suc, _+_, _-_, _*_, _/_, _%_, _^_, _≤_, _<_, max}
 use native.Mathlib.Nat.{le-trans, le-of-eq, lt-of-lt-of-le, lt-of-le-of-lt, lt-of-not-le, not-le-of-lt, mod-eq-of-lt, mul-assoc, mul-comm, mul-left-comm, mul-right-comm, mul-pos, mul-le-mul, mul-le-mul-right, mul-lt-mul-of-pos-right, le-of-mul-le-mul-right, eq-of-mul-eq-mul-right, le-div-iff-mul-le, div-lt-iff-lt-mul}
@@ -14,8 +14,8 @@ use lib.Ieee.Digits.{size-lt, size-le, size-reaches}
 use lib.Ieee.Exact.{HasValue, odd-sign}
 use lib.Ieee.Fits.{down-pos, kept-lt}
 use lib.Ieee.Nearest.{div-same}
-use Rattle.limit.specs.Limit.{accepted, limitOf}
-use Rattle.limit.proofs.Laws.{Accepted, accepted-told}
+use Rattle.limit.specs.Limit.{allowed, limitOf}
+use Rattle.limit.proofs.Laws.{Allowed, allowed-told}
 
 -- ---- what a pattern of a positive normal number stands for
 ofBits-is : (b : ℕ) → ofBits binary32 b ≡ ofFields binary32 (leb 2147483648 b) (b % 2147483648 / 8388608) (b % 8388608)
@@ -73,7 +73,7 @@ joined z q a b c d = (omega arith, omega arith)
 written : (n : ℕ) → 2 ^ 149 ≤ n → n < 2 ^ 160 → Between (0 + (size n - 24) * 8388608 + n / 2 ^ (size n - 24))
 written n h k = joined (size n) (n / 2 ^ (size n - 24)) (long n h) (size-le n 160 k) (kept-ge n (long n h)) (kept-lt 24 n)
 
-bits-between : (m : ℕ) (e : ℤ) → Accepted m e → Between (toBits binary32 (fin false m e))
+bits-between : (m : ℕ) (e : ℤ) → Allowed m e → Between (toBits binary32 (fin false m e))
 unfolding toBits
 bits-between m e h = written (m * up e * 2 ^ 149 / down e)
     (le-div-iff-mul-le (down-pos e) .1 (le-trans (le-of-eq (mul-comm (2 ^ 149) (down e))) (mul-le-mul-right (2 ^ 149) (h .least))))
@@ -86,7 +86,7 @@ bits-between m e h = written (m * up e * 2 ^ 149 / down e)
 abbrev pub scaled : ℕ → ℕ
 scaled b = (b % 8388608 + 8388608) * 2 ^ (b / 8388608 - 127)
 
--- what the code knows of the pattern of an accepted m * 2 ^ e
+-- what the code knows of the pattern of an allowed m * 2 ^ e
 record Told (m : ℕ) (e : ℤ) (b : ℕ) : Type 0 where
   least : 127 ≤ b / 8388608
   most : b / 8388608 ≤ 137
@@ -116,7 +116,7 @@ under-of a d s p h k = le-of-mul-le-mul-right (le-trans (le-of-eq (sym h)) (le-t
     turn : (x : ℕ) → 1024 * x * 8388608 ≡ 8589934592 * x
     turn x = omega arith
 
-told : (m : ℕ) (e : ℤ) → T (fits binary32 (fin false m e)) → Accepted m e → Told m e (toBits binary32 (fin false m e))
+told : (m : ℕ) (e : ℤ) → T (fits binary32 (fin false m e)) → Allowed m e → Told m e (toBits binary32 (fin false m e))
 told m e t h = make (toBits binary32 (fin false m e)) (bits-between m e h) (ofBits-toBits binary32 (fin false m e) t)
   where
     least-of : (b : ℕ) → Between b → 127 ≤ b / 8388608
@@ -138,38 +138,38 @@ told m e t h = make (toBits binary32 (fin false m e)) (bits-between m e h) (ofBi
         let v : m * up e * 8388608 ≡ scaled b * down e = value-of (m * up e) (down e) (scaled b) (u .1 ∙ ap (λ (x : ℕ). x * down e) (by-scale b (least-of b r))) in
         record { least = least-of b r; most = most-of b r; value = v; under = under-of (m * up e) (down e) (scaled b) (down-pos e) v (h .most) }
 
--- ---- the same of an accepted factor
+-- ---- the same of an allowed factor
 
--- an accepted factor is no NaN
-pub not-nan : (f : Float) → accepted f ≡ true → T (not (isNan f))
-unfolding accepted isNan
+-- an allowed factor is no NaN
+pub not-nan : (f : Float) → allowed f ≡ true → T (not (isNan f))
+unfolding allowed isNan
 not-nan nan h = true≢false (sym h)
 not-nan (inf s) h = tt
 not-nan (fin s m e) h = tt
 
--- the exponent's field of an accepted factor is that of 1.0 at least
-pub field-least : (f : Float) → T (fits binary32 f) → accepted f ≡ true → 127 ≤ toBits binary32 f / 8388608
-unfolding accepted
+-- the exponent's field of an allowed factor is that of 1.0 at least
+pub field-least : (f : Float) → T (fits binary32 f) → allowed f ≡ true → 127 ≤ toBits binary32 f / 8388608
+unfolding allowed
 field-least nan t h = absurd (true≢false (sym h))
 field-least (inf s) t h = absurd (true≢false (sym h))
 field-least (fin true m e) t h = absurd (true≢false (sym h))
-field-least (fin false m e) t h = told m e t (accepted-told m e h) .least
+field-least (fin false m e) t h = told m e t (allowed-told m e h) .least
 
--- the exponent's field of an accepted factor is that of 1024.0 at most
-pub field-most : (f : Float) → T (fits binary32 f) → accepted f ≡ true → toBits binary32 f / 8388608 ≤ 137
-unfolding accepted
+-- the exponent's field of an allowed factor is that of 1024.0 at most
+pub field-most : (f : Float) → T (fits binary32 f) → allowed f ≡ true → toBits binary32 f / 8388608 ≤ 137
+unfolding allowed
 field-most nan t h = absurd (true≢false (sym h))
 field-most (inf s) t h = absurd (true≢false (sym h))
 field-most (fin true m e) t h = absurd (true≢false (sym h))
-field-most (fin false m e) t h = told m e t (accepted-told m e h) .most
+field-most (fin false m e) t h = told m e t (allowed-told m e h) .most
 
 -- what the code makes of the fields is at most 2 ^ 33, as 1024 times 2 ^ 23 is
-pub scaled-most : (f : Float) → T (fits binary32 f) → accepted f ≡ true → scaled (toBits binary32 f) ≤ 8589934592
-unfolding accepted
+pub scaled-most : (f : Float) → T (fits binary32 f) → allowed f ≡ true → scaled (toBits binary32 f) ≤ 8589934592
+unfolding allowed
 scaled-most nan t h = absurd (true≢false (sym h))
 scaled-most (inf s) t h = absurd (true≢false (sym h))
 scaled-most (fin true m e) t h = absurd (true≢false (sym h))
-scaled-most (fin false m e) t h = told m e t (accepted-told m e h) .under
+scaled-most (fin false m e) t h = told m e t (allowed-told m e h) .under
 
 -- equal fractions have the same floor
 floors : (a d s n b : ℕ) → 0 < d → 0 < b → a * 8388608 ≡ s * d → a * n / (d * b) ≡ s * n / (b * 8388608)
@@ -178,16 +178,16 @@ floors a d s n b D B h =
     (simp (mul-assoc, mul-comm, mul-left-comm) (simp (mul-assoc, mul-comm) at (ap (λ (x : ℕ). x * (n * b)) h)))
 
 -- the limit from the pattern
-pub limit-bits : (f : Float) (n b : ℕ) → T (fits binary32 f) → accepted f ≡ true → 2 ≤ b → limitOf f n b ≡ max 1 (scaled (toBits binary32 f) * n / (b * 8388608))
-unfolding accepted limitOf
+pub limit-bits : (f : Float) (n b : ℕ) → T (fits binary32 f) → allowed f ≡ true → 2 ≤ b → limitOf f n b ≡ max 1 (scaled (toBits binary32 f) * n / (b * 8388608))
+unfolding allowed limitOf
 limit-bits nan n b t h l = absurd (true≢false (sym h))
 limit-bits (inf s) n b t h l = absurd (true≢false (sym h))
 limit-bits (fin true m e) n b t h l = absurd (true≢false (sym h))
 limit-bits (fin false m e) n b t h l =
-    ap (max 1) (floors (m * up e) (down e) (scaled (toBits binary32 (fin false m e))) n b (down-pos e) (le-trans (lit≤ tt) l) (told m e t (accepted-told m e h) .value))
+    ap (max 1) (floors (m * up e) (down e) (scaled (toBits binary32 (fin false m e))) n b (down-pos e) (le-trans (lit≤ tt) l) (told m e t (allowed-told m e h) .value))
 
 -- a shift in 64 bits drops nothing of it
-shifted : (f : Float) → T (fits binary32 f) → accepted f ≡ true → scaled (toBits binary32 f) % 18446744073709551616 ≡ scaled (toBits binary32 f)
+shifted : (f : Float) → T (fits binary32 f) → allowed f ≡ true → scaled (toBits binary32 f) % 18446744073709551616 ≡ scaled (toBits binary32 f)
 shifted f t h = mod-eq-of-lt (lt-of-le-of-lt (scaled-most f t h) (lit< tt))
 
 -- the product with the pixels as the code has it
@@ -195,11 +195,11 @@ abbrev pub wholeOf : Float → ℕ → ℕ
 wholeOf f n = scaled (toBits binary32 f) % 18446744073709551616 * n
 
 -- that product has at most 56 bits
-pub whole-fits : (f : Float) (n : ℕ) → T (fits binary32 f) → accepted f ≡ true → n ≤ 4194304 → wholeOf f n < 18446744073709551616
+pub whole-fits : (f : Float) (n : ℕ) → T (fits binary32 f) → allowed f ≡ true → n ≤ 4194304 → wholeOf f n < 18446744073709551616
 whole-fits f n t h k = rw (shifted f t h) (lt-of-le-of-lt (mul-le-mul (scaled-most f t h) k) (lit< tt))
 
 -- the limit is the floor that the code works out, or 1
-pub limit-code : (f : Float) (n b : ℕ) → T (fits binary32 f) → accepted f ≡ true → 2 ≤ b → limitOf f n b ≡ max 1 (wholeOf f n / (b * 8388608))
+pub limit-code : (f : Float) (n b : ℕ) → T (fits binary32 f) → allowed f ≡ true → 2 ≤ b → limitOf f n b ≡ max 1 (wholeOf f n / (b * 8388608))
 limit-code f n b t h l = rw (shifted f t h) (limit-bits f n b t h l)
 
 -- a pattern has 32 bits

@@ -10,13 +10,13 @@ use lib.Ieee.{Float, nan, inf, fin, up, down, div, ofInt, binary64}
 use Rattle.limit.specs.declared.Clip.{Clip}
 use Rattle.limit.specs.declared.Clip.the-variants.{Off, Factor}
 use Rattle.limit.specs.declared.Judged.{Judged}
-use Rattle.limit.specs.declared.Judged.the-variants.{Refused, One, Above}
+use Rattle.limit.specs.declared.Judged.the-variants as Judged
 
 -- "A factor is 1.0 to 1024.0"; refusal 10: "factor NaN, infinite, below 1.0 or above 1024.0"
-unfoldable pub accepted : Float → Bool
-accepted nan = false
-accepted (inf s) = false
-accepted (fin s m e) = not s && leb (down e) (m * up e) && leb (m * up e) (1024 * down e)
+unfoldable pub allowed : Float → Bool
+allowed nan = false
+allowed (inf s) = false
+allowed (fin s m e) = not s && leb (down e) (m * up e) && leb (m * up e) (1024 * down e)
 
 -- "exactly 1.0"
 unfoldable pub isOne : Float → Bool
@@ -24,15 +24,16 @@ isOne nan = false
 isOne (inf s) = false
 isOne (fin s m e) = not s && eqb (m * up e) (down e)
 
--- what a factor is judged to be, by whether it is accepted and whether it is 1.0
-abbrev pub judgedBy : Bool → Bool → Judged
-judgedBy false one = Refused
-judgedBy true true = One
-judgedBy true false = Above
+-- what a factor is judged to be, by whether it is allowed and whether it is 1.0
+abbrev pub judgedBy : Bool → Bool → Float → Judged
+judgedBy false one f = Judged.Refused
+judgedBy true true f = Judged.One
+judgedBy true false f = Judged.Above f
 
--- a factor, judged: "refused", exactly 1.0, or above
-unfoldable pub judgeOf : Float → Judged
-judgeOf f = judgedBy (accepted f) (isOne f)
+-- a clip setting, judged: "off, or a factor", which is refused, exactly 1.0, or above
+unfoldable pub judgeOf : Clip → Judged
+judgeOf Off = Judged.Off
+judgeOf (Factor f) = judgedBy (allowed f) (isOne f) f
 
 -- "above 1.0": a number above 1, or the positive infinity, which 10 refuses
 abbrev pub AboveOne : Float → Type 0
@@ -40,17 +41,19 @@ AboveOne nan = ⊥
 AboveOne (inf s) = s ≡ false
 AboveOne (fin s m e) = (s ≡ false) × (down e < m * up e)
 
--- document 01's number of a judgement: 10 where the factor is refused, 0 where it is accepted
+-- document 01's number of a judgement: 10 where the factor is refused, else 0
 abbrev pub judgedNumber : Judged → ℕ
-judgedNumber Refused = 10
-judgedNumber One = 0
-judgedNumber Above = 0
+judgedNumber Judged.Off = 0
+judgedNumber Judged.Refused = 10
+judgedNumber Judged.One = 0
+judgedNumber (Judged.Above f) = 0
 
--- and what it says of the factor f: "factor NaN, infinite, below 1.0 or above 1024.0", "exactly 1.0", or accepted and above 1.0
-abbrev pub judgedSays : Judged → Float → Type 0
-judgedSays Refused f = accepted f ≡ false
-judgedSays One f = isOne f ≡ true
-judgedSays Above f = (accepted f ≡ true) × AboveOne f
+-- and what it says of the clip setting: off, or a factor that is "NaN, infinite, below 1.0 or above 1024.0", "exactly 1.0", or allowed and above 1.0
+abbrev pub judgedSays : Judged → Clip → Type 0
+judgedSays Judged.Off clip = clip ≡ Off
+judgedSays Judged.Refused clip = (f : Float) × (clip ≡ Factor f) × (allowed f ≡ false)
+judgedSays Judged.One clip = (f : Float) × (clip ≡ Factor f) × (isOne f ≡ true)
+judgedSays (Judged.Above f) clip = (clip ≡ Factor f) × (allowed f ≡ true) × AboveOne f
 
 -- "the factor's f32 bits are taken as the exact binary fraction they denote. L = floor(factor x N / B) in whole numbers,
 -- and at least 1. Nothing is rounded before the floor." No limit is worked out of a float that is no number.
@@ -68,9 +71,9 @@ unfoldable pub tooTight : Clip → ℕ → ℕ → Bool
 tooTight Off n b = false
 tooTight (Factor f) n b = not (isOne f) && ltb (limitOf f n b * b) n
 
--- what `limit` asks: an accepted factor, a tile of at most 2048 x 2048 pixels, and bins as document 01 has them
+-- what `limit` asks: an allowed factor, a tile of at most 2048 x 2048 pixels, and bins as document 01 has them
 pub record LimitAsks (f : Float) (n b : ℕ) : Type 0 where
-  pub good : accepted f ≡ true
+  pub good : allowed f ≡ true
   pub pixels : n ≤ 4194304
   pub least : 2 ≤ b
   pub most : b ≤ 4096

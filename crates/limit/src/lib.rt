@@ -1,4 +1,4 @@
-// The clip setting, the judgement of its factor, the limit L from the factor's exact fraction, and the factor used.
+// The clip setting, the judgement of it, the limit L from the factor's exact fraction, and the factor used.
 ghost use mathlib.Core.Path.{_≡_};
 ghost use Rattle.limit.specs.Limit.{judgeOf, limitOf, usedOf, LimitAsks, UsedAsks};
 
@@ -8,25 +8,32 @@ pub enum Clip {
     Factor(f32),
 }
 
-// What a factor is worth: refused with 10, exactly 1.0, or above it.
+// What a clip setting is worth: off, refused with 10, exactly 1.0, or a factor above it.
 pub enum Judged {
+    Off,
     Refused,
     One,
-    Above,
+    Above(f32),
 }
 
-pub fn judge(factor: f32) -> Judged
-    ensures { λ r. ⌜ r ≡ judgeOf factor ⌝ }
+// The one place where a clip setting is judged.
+pub fn judge(clip: Clip) -> Judged
+    ensures { λ r. ⌜ r ≡ judgeOf clip ⌝ }
 {
-    if 1.0 <= factor {
-        if factor <= 1024.0 {
-            if factor == 1.0 {
-                return Judged::One;
+    match clip {
+        Clip::Off => Judged::Off,
+        Clip::Factor(f) => {
+            if 1.0 <= f {
+                if f <= 1024.0 {
+                    if f == 1.0 {
+                        return Judged::One;
+                    }
+                    return Judged::Above(f);
+                }
             }
-            return Judged::Above;
+            Judged::Refused
         }
     }
-    Judged::Refused
 }
 
 // The limit L of a tile of `pixels` pixels: factor x pixels / bins in whole numbers, rounded down once, and at least 1.

@@ -1,43 +1,19 @@
--- Laws of `all` and `every`, a test of each entry.
+-- Laws of `all`, a test of each entry, and how it goes over into `every`.
 -- Assumes nothing.
-use Prim.Native.Nat.{ℕ, zero, suc, _+_, _≤_, _<_}
-use mathlib.Core.Bool.{Bool, true, false, _&&_}
+use Prim.Native.Nat.{ℕ, zero, suc, _<_}
+use mathlib.Core.Bool.{Bool, true, _&&_, and-assoc, and-true}
 use mathlib.Core.List.{List, [], _∷_, _++_, map}
 use mathlib.Core.Path.{_≡_, refl, sym, ap, ap₂, _∙_}
-use lib.ListN.{length, take, drop, getD, set, take-append-drop}
-use lib.Seq.{take-suc, take-all}
+use lib.ListN.{length, take, drop, getD, take-append-drop}
 use native.Mathlib.Nat.{not-suc-le-zero}
 use native.Mathlib.Omega.{arith}
-use native.Mathlib.Numerals.{add-one}
 use Rattle.lists.specs.Lists.{tab, joined, all, every}
 use Rattle.lists.proofs.Tabs.{and-left, and-right, and-both, every-at, every-all}
-
--- ---- every
-
--- one more that is met
-pub every-more : (f : ℕ → Bool) {n : ℕ} → every n f ≡ true → f n ≡ true → every (n + 1) f ≡ true
-unfolding every
-every-more f {n} h q = rw add-one (and-both (every n f) (f n) h q)
-
--- the end of a loop that met one after the other
-pub every-end : (f : ℕ → Bool) {i n : ℕ} → every i f ≡ true → i ≤ n → n ≤ i → every n f ≡ true
-every-end f {i} {n} h l m = let q : i ≡ n = omega arith in ap (λ k. every k f) (sym q) ∙ h
-
-pub every-cong : (n : ℕ) {f g : ℕ → Bool} → ((i : ℕ) → i < n → f i ≡ g i) → every n f ≡ every n g
-unfolding every
-every-cong zero h = refl
-every-cong (suc n) h = ap₂ (λ a b. a && b) (every-cong n (λ i l. h i (omega arith))) (h n (omega arith))
-
--- ---- all
 
 pub all-append : (p : ℕ → Bool) (xs ys : List ℕ) → all p (xs ++ ys) ≡ (all p xs && all p ys)
 unfolding all
 all-append p [] ys = refl
-all-append p (x ∷ xs) ys = ap (λ b. p x && b) (all-append p xs ys) ∙ regroup (p x)
-  where
-    regroup : (a : Bool) → (a && (all p xs && all p ys)) ≡ (a && all p xs && all p ys)
-    regroup true = refl
-    regroup false = refl
+all-append p (x ∷ xs) ys = ap (λ b. p x && b) (all-append p xs ys) ∙ sym (and-assoc (p x) (all p xs) (all p ys))
 
 -- a list of one entry
 pub all-one : (p : ℕ → Bool) {x : ℕ} → p x ≡ true → all p (x ∷ []) ≡ true
@@ -61,33 +37,15 @@ unfolding all
 all-from p [] d h = refl
 all-from p (x ∷ xs) d h = and-both (p x) (all p xs) (h zero (omega arith)) (all-from p xs d (λ i l. h (suc i) (omega arith)))
 
--- one that fails is enough
-pub all-not : (p : ℕ → Bool) (xs : List ℕ) (i d : ℕ) → i < length xs → p (getD xs i d) ≡ false → all p xs ≡ false
-all-not p xs i d l e = go (all p xs) refl
-  where
-    go : (b : Bool) → all p xs ≡ b → all p xs ≡ false
-    go false q = q
-    go true q = q ∙ (sym (all-at p xs q i d l) ∙ e)
-
 pub all-tab-every : (p : ℕ → Bool) (n : ℕ) (f : ℕ → ℕ) → all p (tab n f) ≡ every n (λ i. p (f i))
 unfolding all tab every
 all-tab-every p zero f = refl
-all-tab-every p (suc n) f = all-append p (tab n f) (f n ∷ []) ∙ ap₂ (λ a b. a && b) (all-tab-every p n f) (last (p (f n)))
-  where
-    last : (b : Bool) → (b && true) ≡ b
-    last true = refl
-    last false = refl
+all-tab-every p (suc n) f = all-append p (tab n f) (f n ∷ []) ∙ ap₂ (λ a b. a && b) (all-tab-every p n f) (and-true (p (f n)))
 
 pub all-joined-every : (p : ℕ → Bool) (n : ℕ) (f : ℕ → List ℕ) → all p (joined n f) ≡ every n (λ i. all p (f i))
 unfolding all joined every
 all-joined-every p zero f = refl
 all-joined-every p (suc n) f = all-append p (joined n f) (f n) ∙ ap (λ a. a && all p (f n)) (all-joined-every p n f)
-
--- what implies p entry by entry
-pub all-weak : {p q : ℕ → Bool} → ((x : ℕ) → p x ≡ true → q x ≡ true) → (xs : List ℕ) → all p xs ≡ true → all q xs ≡ true
-unfolding all
-all-weak h [] e = refl
-all-weak {p} {q} h (x ∷ xs) e = and-both (q x) (all q xs) (h x (and-left (p x) (all p xs) e)) (all-weak h xs (and-right (p x) (all p xs) e))
 
 pub all-take-drop : (p : ℕ → Bool) (n : ℕ) (xs : List ℕ) → (all p (take n xs) && all p (drop n xs)) ≡ all p xs
 all-take-drop p n xs = sym (all-append p (take n xs) (drop n xs)) ∙ ap (all p) (take-append-drop n xs)
@@ -97,25 +55,6 @@ all-take p n xs h = and-left (all p (take n xs)) (all p (drop n xs)) (all-take-d
 
 pub all-drop : (p : ℕ → Bool) (n : ℕ) (xs : List ℕ) → all p xs ≡ true → all p (drop n xs) ≡ true
 all-drop p n xs h = and-right (all p (take n xs)) (all p (drop n xs)) (all-take-drop p n xs ∙ h)
-
-pub all-set : (p : ℕ → Bool) (xs : List ℕ) (i v : ℕ) → all p xs ≡ true → p v ≡ true → all p (set xs i v) ≡ true
-unfolding all
-all-set p [] i v h e = refl
-all-set p (x ∷ xs) zero v h e = and-both (p v) (all p xs) e (and-right (p x) (all p xs) h)
-all-set p (x ∷ xs) (suc i) v h e = and-both (p x) (all p (set xs i v)) (and-left (p x) (all p xs) h) (all-set p xs i v (and-right (p x) (all p xs) h) e)
-
--- a loop that goes through a list: nothing was passed yet
-pub all-start : (p : ℕ → Bool) (xs : List ℕ) → all p (take 0 xs) ≡ true
-unfolding all
-all-start p xs = refl
-
--- one entry more was passed
-pub all-pass : (p : ℕ → Bool) (xs : List ℕ) {i : ℕ} → all p (take i xs) ≡ true → i < length xs → p (getD xs i 0) ≡ true → all p (take (i + 1) xs) ≡ true
-all-pass p xs {i} h l e = rw (add-one, take-suc xs i 0 l) (all-both p (take i xs) (getD xs i 0 ∷ []) h (all-one p e))
-
--- all were passed
-pub all-end : (p : ℕ → Bool) (xs : List ℕ) {i : ℕ} → all p (take i xs) ≡ true → length xs ≤ i → all p xs ≡ true
-all-end p xs {i} h l = ap (all p) (sym (take-all i xs l)) ∙ h
 
 -- the entries of a tabulated list meet it where f's values do
 pub all-tab : (p : ℕ → Bool) (n : ℕ) (f : ℕ → ℕ) → ((i : ℕ) → i < n → p (f i) ≡ true) → all p (tab n f) ≡ true

@@ -5,11 +5,10 @@ use mathlib.Core.List.{List, [], _∷_, _++_, append-assoc}
 use mathlib.Core.Logic.{⊎-elim}
 use mathlib.Core.Path.{_≡_, refl, sym, ap, ap₂, _∙_}
 use lib.Arith.{digits-lt}
-use lib.ListN.{length, take, drop, getD, set, length-set, length-append, length-drop, List·getD-append}
-use lib.Seq.{set-split, take-suc-set, drop-set-lt, append-snoc, take-at, drop-at, drop-drop, getD-append-add}
+use lib.ListN.{length, take, drop, getD, length-append, length-drop, List·getD-append}
+use lib.Seq.{take-at, drop-at, drop-drop, getD-append-add}
 use native.Mathlib.Nat.{suc-mul, add-mul, one-mul, eq-or-lt-of-le, le-of-suc-le-suc, not-suc-le-zero, mul-le-mul-right}
 use native.Mathlib.Omega.{arith}
-use native.Mathlib.Numerals.{add-one}
 use borrow.Rule.Slice.PartMut.{putMid}
 use Rattle.lists.specs.Lists.{tab, joined, blocks, onto, over}
 use Rattle.lists.proofs.Fills.{joined-suc, length-joined}
@@ -36,21 +35,6 @@ pub joined-ones : (n : ℕ) (f : ℕ → ℕ) → joined n (λ i. f i ∷ []) �
 unfolding joined tab
 joined-ones zero f = refl
 joined-ones (suc n) f = ap (λ t. t ++ (f n ∷ [])) (joined-ones n f)
-
--- ---- over
-
--- one entry written
-pub over-one : (d : List ℕ) (a x : ℕ) → a < length d → set d a x ≡ over d a (x ∷ [])
-unfolding over
-over-one d a x h = rw (set-split d a x h, add-one a) refl
-
--- two entries written, one behind the other
-pub over-two : (d : List ℕ) (a x y : ℕ) → a + 1 < length d → set (set d a x) (a + 1) y ≡ over d a (x ∷ y ∷ [])
-unfolding over
-over-two d a x y h =
-    let l : suc a < length (set d a x) = rw length-set (omega arith) in
-    let q : suc (suc a) ≡ a + 2 = omega arith in
-    rw (add-one a, set-split (set d a x) (suc a) y l, take-suc-set d a x (omega arith), drop-set-lt (suc (suc a)) d a x (omega arith), append-snoc, q) refl
 
 -- ---- blocks
 

@@ -59,11 +59,6 @@ pub drop-onto : (d ys : List ℕ) (n : ℕ) → length ys ≡ n → drop n (onto
 unfolding onto
 drop-onto d ys n e = drop-at ys (drop (length ys) d) n e ∙ ap (λ k. drop k d) e
 
--- a second writing of as many entries is the second alone
-pub onto-onto : (d xs ys : List ℕ) → length xs ≡ length ys → onto (onto d xs) ys ≡ onto d ys
-unfolding onto
-onto-onto d xs ys e = ap (λ t. ys ++ t) (drop-at xs (drop (length xs) d) (length ys) e ∙ ap (λ k. drop k d) e)
-
 -- ---- over
 
 pub over-zero : (d ys : List ℕ) → over d 0 ys ≡ onto d ys

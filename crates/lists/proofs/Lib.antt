@@ -1,3 +1,4 @@
+pub mod Orders
 pub mod Tabs
 pub mod Sums
 pub mod Fills

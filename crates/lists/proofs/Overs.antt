@@ -3,8 +3,8 @@
 use Prim.Native.Nat.{ℕ, suc, _+_, _-_, _≤_, _<_}
 use mathlib.Core.List.{List, [], _∷_, _++_, append-assoc, append-nil}
 use mathlib.Core.Path.{_≡_, refl, sym, ap, ap₂, _∙_}
-use lib.ListN.{length, take, drop, set, length-append, length-drop, take-append-drop, drop-of-length-le}
-use lib.Seq.{set-split, take-set-le, drop-at, take-at, length-take-le, drop-drop, drop-append-add, take-append-seam}
+use lib.ListN.{length, take, drop, set, length-set, length-append, length-drop, take-append-drop, drop-of-length-le}
+use lib.Seq.{set-split, take-suc-set, drop-set-lt, append-snoc, take-set-le, drop-at, take-at, length-take-le, drop-drop, drop-append-add, take-append-seam}
 use native.Mathlib.Nat.{add-zero}
 use native.Mathlib.Omega.{arith}
 use native.Mathlib.Numerals.{add-one}
@@ -100,6 +100,14 @@ onto-tail d xs ys at {e} {p} q n h = over-tail e ys at h ∙ onto-over d xs ys a
 pub set-over : (d : List ℕ) (i x : ℕ) → i < length d → set d i x ≡ over d i (x ∷ [])
 unfolding over
 set-over d i x h = rw (set-split d i x h, add-one i) refl
+
+-- two entries written, one behind the other
+pub over-two : (d : List ℕ) (a x y : ℕ) → a + 1 < length d → set (set d a x) (a + 1) y ≡ over d a (x ∷ y ∷ [])
+unfolding over
+over-two d a x y h =
+    let l : suc a < length (set d a x) = rw length-set (omega arith) in
+    let q : suc (suc a) ≡ a + 2 = omega arith in
+    rw (add-one a, set-split (set d a x) (suc a) y l, take-suc-set d a x (omega arith), drop-set-lt (suc (suc a)) d a x (omega arith), append-snoc, q) refl
 
 -- an entry written straight behind ys
 pub over-step : (d ys : List ℕ) (at x : ℕ) {s : List ℕ} {i : ℕ} → s ≡ over d at ys → i ≡ at + length ys → i < length d

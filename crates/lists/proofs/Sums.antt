@@ -3,8 +3,8 @@
 use Prim.Native.Nat.{ℕ, zero, suc, _+_, _-_, _*_, _≤_, _<_}
 use mathlib.Core.List.{List, [], _∷_, _++_}
 use mathlib.Core.Path.{_≡_, refl, sym, ap, ap₂, _∙_}
-use lib.ListN.{length, take, drop, getD, set, take-append-drop}
-use native.Mathlib.Nat.{suc-mul, zero-mul, not-suc-le-zero}
+use lib.ListN.{length, take, drop, getD, take-append-drop}
+use native.Mathlib.Nat.{suc-mul, zero-mul}
 use native.Mathlib.Omega.{arith}
 use Rattle.lists.specs.Lists.{tab, sum, total}
 
@@ -21,20 +21,6 @@ total-tab (suc n) f = rw (total-append (tab n f) (f n ∷ []), total-tab n f) (o
 pub total-take-drop : (i : ℕ) (xs : List ℕ) → total (take i xs) + total (drop i xs) ≡ total xs
 total-take-drop i xs = sym (total-append (take i xs) (drop i xs)) ∙ ap total (take-append-drop i xs)
 
--- an entry is at most the total
-pub getD-le-total : (xs : List ℕ) (i : ℕ) → getD xs i 0 ≤ total xs
-unfolding total
-getD-le-total [] i = omega arith
-getD-le-total (x ∷ xs) zero = omega arith
-getD-le-total (x ∷ xs) (suc i) = omega (arith, getD-le-total xs i)
-
--- one entry changed changes the total by as much
-pub total-set : (xs : List ℕ) (i v : ℕ) → i < length xs → total (set xs i v) + getD xs i 0 ≡ total xs + v
-unfolding total
-total-set [] i v h = absurd (not-suc-le-zero h)
-total-set (x ∷ xs) zero v h = omega arith
-total-set (x ∷ xs) (suc i) v h = omega (arith, total-set xs i v (omega arith))
-
 pub sum-cong : (n : ℕ) {f g : ℕ → ℕ} → ((i : ℕ) → i < n → f i ≡ g i) → sum n f ≡ sum n g
 unfolding sum
 sum-cong zero h = refl
@@ -49,11 +35,6 @@ pub sum-const : (n k : ℕ) → sum n (λ i. k) ≡ n * k
 unfolding sum
 sum-const zero k = sym (zero-mul k)
 sum-const (suc n) k = rw (sum-const n k, suc-mul) refl
-
-pub sum-le : (n : ℕ) (f g : ℕ → ℕ) → ((i : ℕ) → i < n → f i ≤ g i) → sum n f ≤ sum n g
-unfolding sum
-sum-le zero f g h = omega arith
-sum-le (suc n) f g h = omega (arith, sum-le n f g (λ i l. h i (omega arith)), h n (omega arith))
 
 -- a list none of whose entries is above k adds up to at most k for each entry
 pub total-le : (xs : List ℕ) (k : ℕ) → ((i : ℕ) → i < length xs → getD xs i 0 ≤ k) → total xs ≤ length xs * k

@@ -52,11 +52,6 @@ pub map-append : {A B : Type 0} (g : A → B) (xs ys : List A) → map g (xs ++ 
 map-append g [] ys = refl
 map-append g (x ∷ xs) ys = ap (λ t. g x ∷ t) (map-append g xs ys)
 
-pub map-tab : {A B : Type 0} (g : A → B) (n : ℕ) (f : ℕ → A) → map g (tab n f) ≡ tab n (λ i. g (f i))
-unfolding tab
-map-tab g zero f = refl
-map-tab g (suc n) f = map-append g (tab n f) (f n ∷ []) ∙ ap (λ t. t ++ (g (f n) ∷ [])) (map-tab g n f)
-
 -- a list of n entries whose i-th is f i
 pub eq-tab : {A : Type 0} (s : List A) (n : ℕ) (f : ℕ → A) (d : A) → length s ≡ n → ((i : ℕ) → i < n → getD s i d ≡ f i) → s ≡ tab n f
 eq-tab s n f d e h = ext-getD d s (tab n f) (rw length-tab e) (λ i l. h i (omega arith) ∙ sym (getD-tab n f i d (omega arith)))

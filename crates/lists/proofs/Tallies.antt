@@ -6,14 +6,15 @@ use mathlib.Core.List.{List, [], _∷_, _++_}
 use mathlib.Core.Logic.{⊎-elim}
 use mathlib.Core.Path.{_≡_, refl, sym, ap, ap₂, _∙_}
 use lib.Dec.{eqb, ltb}
-use lib.ListN.{length, take, drop, getD, set, length-drop, length-set, List·getD-append}
-use lib.Seq.{getD-take, getD-drop, getD-set-same, getD-set-other, set-append-left, length-take-le, drop-at, take-suc, take-take, take-nil}
+use lib.ListN.{length, take, drop, getD, set, length-set, List·getD-append}
+use lib.Seq.{getD-set-same, getD-set-other, set-append-left, drop-at, take-suc, take-take, take-nil}
 use native.Mathlib.Numerals.{add-one}
 use native.Mathlib.Nat.{suc-add, eq-or-lt-of-le, le-of-suc-le-suc, not-suc-le-zero}
 use native.Mathlib.Omega.{arith}
 use borrow.Author.Tests.{ltb-true, eqb-true, eqb-false, eq-eqb, ne-eqb}
 use Rattle.lists.specs.Lists.{tab, sum, total, all, times, filled}
 use Rattle.lists.proofs.Tabs.{length-tab, getD-tab, tab-cong, eq-tab, and-left, and-right}
+use Rattle.lists.proofs.Windows.{getD-part, length-part}
 use Rattle.lists.proofs.Sums.{sum-add, sum-cong, sum-const, total-append, total-take-drop}
 
 -- ---- times
@@ -84,8 +85,8 @@ part-tab s a w h =
     w
     (λ x. getD s (a + x) 0)
     0
-    (length-take-le w (drop a s) (rw length-drop (omega arith)))
-    (λ i l. getD-take w (drop a s) i 0 l ∙ getD-drop a s i 0)
+    (length-part s w a h)
+    (λ i l. getD-part s w a l)
 
 pub getD-filled : (f : ℕ → ℕ) (d : List ℕ) (n i : ℕ) → i < n → getD (filled f d n) i 0 ≡ f i
 unfolding filled

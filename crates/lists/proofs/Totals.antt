@@ -6,10 +6,6 @@ use mathlib.Core.Path.{_≡_, refl, sym, ap, _∙_}
 use lib.ListN.{length, take, drop, getD, set, length-append, length-drop, length-take, take-append-drop}
 use lib.Seq.{drop-cons, take-suc-set, drop-set-lt, append-snoc, take-length, drop-length, take-suc}
 use native.Mathlib.Nat.{not-suc-le-zero, le-of-suc-le-suc}
-use lib.Dec.{ltb}
-use mathlib.Core.Bool.{Bool, true, false}
-use mathlib.Core.Logic.{_⊎_, inl, inr}
-use borrow.Author.Tests.{ltb-true, ltb-false}
 use native.Mathlib.Omega.{arith}
 use native.Mathlib.Numerals.{add-one}
 use Rattle.lists.specs.Lists.{total}
@@ -73,11 +69,3 @@ turned-next s cs h = rw (add-one s, take-suc cs s 0 h) (sym (append-assoc (drop 
 pub turned-all : (n : ℕ) (cs : List ℕ) → n ≡ length cs → turned n cs ≡ turned 0 cs
 unfolding turned
 turned-all n cs e = rw (e, drop-length cs, take-length cs) (sym (append-nil cs))
-
--- one number is under another, or not
-pub under : (a b : ℕ) → (a < b) ⊎ (b ≤ a)
-under a b = go (ltb a b) refl
-  where
-    go : (t : Bool) → ltb a b ≡ t → (a < b) ⊎ (b ≤ a)
-    go true e = inl (ltb-true a b e)
-    go false e = inr (ltb-false a b e)

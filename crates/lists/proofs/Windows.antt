@@ -9,13 +9,13 @@ use native.Mathlib.Omega.{arith}
 use Rattle.lists.specs.Lists.{tab, joined, filled, blocks}
 use Rattle.lists.proofs.Tabs.{length-tab}
 
--- an entry of a part, which goes from a to e
-pub getD-part : (s : List ℕ) (a e i : ℕ) → i < e - a → getD (take (e - a) (drop a s)) i 0 ≡ getD s (a + i) 0
-getD-part s a e i h = getD-take (e - a) (drop a s) i 0 h ∙ getD-drop a s i 0
+-- an entry of a part, the n entries from a on
+pub getD-part : (s : List ℕ) (n a : ℕ) {i : ℕ} → i < n → getD (take n (drop a s)) i 0 ≡ getD s (a + i) 0
+getD-part s n a {i} h = getD-take n (drop a s) i 0 h ∙ getD-drop a s i 0
 
 -- a part is as long as it was cut
-pub length-part : (s : List ℕ) (a e : ℕ) → a ≤ e → e ≤ length s → length (take (e - a) (drop a s)) ≡ e - a
-length-part s a e h l = length-take-le (e - a) (drop a s) (rw length-drop (omega arith))
+pub length-part : (s : List ℕ) (n a : ℕ) → a + n ≤ length s → length (take n (drop a s)) ≡ n
+length-part s n a h = length-take-le n (drop a s) (rw length-drop (omega arith))
 
 -- block t of k entries, as the part from t * k on
 abbrev pub block : List ℕ → ℕ → ℕ → List ℕ
@@ -23,11 +23,11 @@ block s t k = take (t * k + k - t * k) (drop (t * k) s)
 
 -- its entries
 pub getD-block : (s : List ℕ) (t k i : ℕ) → i < k → getD (block s t k) i 0 ≡ getD s (t * k + i) 0
-getD-block s t k i h = getD-part s (t * k) (t * k + k) i (omega arith)
+getD-block s t k i h = getD-part s (t * k + k - t * k) (t * k) (omega arith)
 
 -- its length
 pub length-block : (s : List ℕ) (t k : ℕ) → t * k + k ≤ length s → length (block s t k) ≡ k
-length-block s t k h = let size : t * k + k - t * k ≡ k = omega arith in length-part s (t * k) (t * k + k) (omega arith) h ∙ size
+length-block s t k h = let size : t * k + k - t * k ≡ k = omega arith in length-part s (t * k + k - t * k) (t * k) (omega arith) ∙ size
 
 -- an entry behind those that were filled is as it was
 pub getD-behind : (f : ℕ → ℕ) (d : List ℕ) (n i : ℕ) → n ≤ i → getD (filled f d n) i 0 ≡ getD d i 0

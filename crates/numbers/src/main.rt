@@ -1,8 +1,16 @@
-// The numbers of document 01 that are to be run, each printed behind its name.
+// The numbers of document 01 that are to be run, each printed behind its name, and numbers of films that are too large for
+// a program's memory: sums above 32 bits, and the largest tile whose division is a product.
+ghost use mathlib.Core.Path.{_≡_};
+ghost use mathlib.Core.Bool.{true};
+ghost use Prim.Native.Nat.{_/_, _≤_};
+ghost use lib.ListN.{length};
+ghost use Rattle.lists.specs.Lists.{all};
+ghost use Rattle.scan.specs.Scan.{within};
 use libc::STDOUT_FILENO;
 use limit::Clip;
 use prepare::Enhanced;
 use settings::Settings;
+use settings::Window;
 
 fn print(name: &[u8], n: u32) {
     io::write_all(STDOUT_FILENO, name);
@@ -73,6 +81,57 @@ fn rendered() -> u32 {
     }
 }
 
+// The mapped value of bin 0 of a tile of 2048 by 2048 pixels, all but one of which lie in it.
+fn mapped() -> u32 {
+    let counts = [4194303u32, 1];
+    let mut out = [0u16; 2];
+    tile::map(&counts, 4194304, 0, 4095, &mut out);
+    wide(out[0])
+}
+
+// Renders a row of a film of two by two tiles of `side` by `side` pixels: it starts `past` columns and `past` rows behind
+// the first tile's middle. The mapped values are 4095, and in the last tile that of bin 0 is 4094.
+fn show(pixels: &mut [u16], side: u32, past: u32)
+    requires { ⌜ (128 ≤ side) × (side ≤ 2048) × (past ≤ side / 2) × (length (now pixels) ≤ 64) × (all (within 0 4095) (now pixels) ≡ true) ⌝ }
+{
+    let s = Settings {
+        across: 2,
+        down: 2,
+        bins: 8,
+        min: 0,
+        max: 4095,
+        clip: Clip::Off,
+    };
+    let at = side / 2 + past;
+    let win = Window {
+        left: at,
+        top: at,
+        width: pixels.len() as u32,
+        height: 1,
+    };
+    let mut map = [4095u16; 32];
+    map[24] = 4094;
+    render::render(pixels, win, side * 2, side * 2, s, &map);
+}
+
+// The first pixel of such a row. One pixel is weighed from its four tiles.
+fn one(side: u32, past: u32) -> u32
+    requires { ⌜ (128 ≤ side) × (side ≤ 2048) × (past ≤ side / 2) ⌝ }
+{
+    let mut pixels = [0u16];
+    show(&mut pixels, side, past);
+    wide(pixels[0])
+}
+
+// The same in a row of many pixels, which go by pairs.
+fn many(side: u32, past: u32) -> u32
+    requires { ⌜ (128 ≤ side) × (side ≤ 2048) × (past ≤ side / 2) ⌝ }
+{
+    let mut pixels = [0u16; 64];
+    show(&mut pixels, side, past);
+    wide(pixels[0])
+}
+
 fn main() {
     print(b"factor 1.0", number(asked(1.0)));
     print(
@@ -88,4 +147,20 @@ fn main() {
     );
     print(b"N 100, B 64, factor 1.25", number(asked(1.25)));
     print(b"the rendered pixel x 2, y 2", rendered());
+    large();
+}
+
+// The numbers of large films. One column and one row behind the middle, the last tile's weight is 1 of side * side, so the
+// grey is 4095 less a very little; midway between the tiles each tile's part of the sum is above 32 bits.
+fn large() {
+    print(b"2048 by 2048 pixels: the mapped value", mapped());
+    print(b"2048 by 2048 pixels: one pixel", one(2048, 1));
+    print(b"2048 by 2048 pixels: many pixels", many(2048, 1));
+    print(b"1024 by 1024 pixels: one pixel", one(1024, 1));
+    print(b"1024 by 1024 pixels: many pixels", many(1024, 1));
+    print(b"2048 by 2048 pixels, midway: one pixel", one(2048, 1024));
+    print(
+        b"2048 by 2048 pixels, midway: many pixels",
+        many(2048, 1024),
+    );
 }

@@ -1,8 +1,10 @@
 // Reads files that Netpbm's own tools made, and prints each as Netpbm's plain text, so that it can be held to what
 // `pamtopnm -plain` prints of the same file; then whether write lays the same bytes down again.
-mod files;
+mod given;
 mod text;
 
+use given::Given;
+use libc::STDIN_FILENO;
 use pgm::Sizes;
 use pgm::Turned;
 use pgm::Written;
@@ -38,35 +40,44 @@ fn film(file: &[u8], width: u32, height: u32, maxval: u32) {
     }
 }
 
-// One file, under the command that made it.
-fn show(command: &[u8], file: &[u8]) {
-    text::line(command);
+// One file, behind the command that made it.
+fn show(file: &[u8]) {
     match pgm::read_sizes(file) {
         Sizes::Found(width, height, maxval) => film(file, width, height, maxval),
         Sizes::Refused(n) => text::refused(n),
     }
 }
 
-// The files that are read.
-fn read_files() {
-    show(b"pgmramp -lr 7 5 | pamdepth 255", &files::RAMP);
-    show(b"pgmramp -tb 5 4 | pamdepth 4095", &files::RAMP12);
-    show(b"pgmnoise -randomseed=7 -maxval=4095 6 3", &files::NOISE12);
-    show(b"pgmmake -maxval=1000 .5 3 3", &files::HALF);
-    show(b"pgmramp -rectangle 5 3 | pamdepth 1000", &files::RECTANGLE);
-    show(b"pgmkernel 5 3", &files::KERNEL);
+// Takes one byte in: one of a command's line is printed, and the end of a line of numbers shows the file.
+fn taken(g: Given, b: u8) -> Given {
+    if !g.in_bytes {
+        text::byte(b);
+        if b == b'\n' {
+            return given::no_bytes();
+        }
+        return g;
+    }
+    if b != b'\n' {
+        return given::fed(g, b);
+    }
+    let file = given::ended(g);
+    let bytes = file.bytes;
+    show(text::first_bytes(&bytes, file.count));
+    given::nothing()
 }
 
-// The files that Netpbm takes, and document 01 refuses.
-fn refuse_files() {
-    show(b"pgmmake .25 2 2 | pamtopnm -plain", &files::PLAIN);
-    show(b"pgmramp -lr 3 2 | sed '1a # a comment'", &files::COMMENT);
-    show(b"pgmmake -maxval=65535 .5 2 2", &files::DEEP);
-    show(b"pgmmake .5 3 1 | head -c 13", &files::SHORT);
-    show(b"pgmmake .25 2 1; pgmmake .5 2 1", &files::TWO);
+// All files of the input.
+fn all(input: &[u8]) {
+    let mut g = given::nothing();
+    let mut i = 0;
+    while i < input.len() {
+        g = taken(g, input[i]);
+        i += 1;
+    }
 }
 
 fn main() {
-    read_files();
-    refuse_files();
+    let mut input = io::buffer();
+    let n = io::read_full(STDIN_FILENO, &mut input);
+    all(&input[..n]);
 }

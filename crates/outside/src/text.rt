@@ -6,6 +6,12 @@ pub fn line(text: &[u8]) {
     io::write_all(STDOUT_FILENO, b"\n");
 }
 
+// One byte of a line.
+pub fn byte(b: u8) {
+    let text = [b];
+    io::write_all(STDOUT_FILENO, &text);
+}
+
 pub fn refused(n: u32) {
     io::write_all(STDOUT_FILENO, b"refused ");
     io::print_decimal(STDOUT_FILENO, n as u64);

@@ -1,16 +1,18 @@
 -- The refusal tables of read, of greys and of write: their parts one behind the other, and what they tell where no row applies.
 -- Assumes nothing.
 use Prim.Native.Nat.{ℕ, zero, suc, _+_, _-_, _*_, _≤_, _<_}
-use mathlib.Core.Bool.{Bool, true, false, not}
-use mathlib.Core.List.{List, _++_}
+use mathlib.Core.Bool.{Bool, true, false, not, cond}
+use mathlib.Core.List.{List, [], _∷_, _++_}
 use mathlib.Core.Path.{_≡_, refl, sym, ap, _∙_}
 use native.Mathlib.Omega.{arith}
 use native.Mathlib.Nat.{mul-le-mul, mul-pos}
-use lib.Dec.{eqb, lit<}
+use lib.Dec.{eqb}
 use lib.ListN.{length, drop, length-append}
 use borrow.Author.Tests.{ltb-false, eqb-false, eqb-true, not-false, not-true, ne-eqb, eq-eqb, le-ltb, lt-ltb}
-use Rattle.refuse.specs.Refuse.{row, first, None, Numbered, unless}
-use Rattle.refuse.proofs.Walk.{first-none, first-hit, none-first, none-append, numbered-append, none-front, none-behind, front, behind, unless-refused}
+use Rattle.lists.specs.Lists.{all}
+use Rattle.lists.proofs.Orders.{pos}
+use Rattle.refuse.specs.Refuse.{row, first, None, numbersOf, Numbered, unless}
+use Rattle.refuse.proofs.Walk.{first-none, first-hit, none-first, none-append, none-front, none-behind, front, behind, unless-refused}
 use Rattle.header.specs.declared.Head.{Head}
 use Rattle.header.specs.declared.Head.the-variants as Head
 use Rattle.header.specs.Header.{headerOf, headerBytes}
@@ -19,30 +21,27 @@ use Rattle.samples.specs.Samples.{isWide, sizeOf, unpacked, noneAbove}
 use Rattle.samples.proofs.Packing.{length-packed}
 use Rattle.pgm.specs.Pgm.{rasterSize, headRows, rasterRows, targetRows, turnRows, writeRows, Within, RasterAsks, GreyAsks, WriteAsks, judgedOf, readOf, fileOf}
 
--- ---- the numbers are above 0
+-- ---- the numbers
+
+-- 22 and 23, then 24 and 25, in the order of document 01
+pub read-numbers : (w h m size : ℕ) → numbersOf (headRows w h m ++ rasterRows w h m size) ≡ 22 ∷ 22 ∷ 22 ∷ 22 ∷ 23 ∷ 23 ∷ 24 ∷ 25 ∷ []
+unfolding numbersOf headRows rasterRows
+read-numbers w h m size = refl
 
 pub limit-numbered : (w h m : ℕ) → Numbered (headRows w h m)
-unfolding headRows
-limit-numbered w h m = (lit< tt, (lit< tt, (lit< tt, (lit< tt, (lit< tt, (lit< tt, tt))))))
+unfolding all numbersOf headRows
+limit-numbered w h m = refl
 
 pub raster-numbered : (w h m size : ℕ) → Numbered (rasterRows w h m size)
-unfolding rasterRows
-raster-numbered w h m size = (lit< tt, (lit< tt, tt))
-
-pub target-numbered : (bytes : List ℕ) (start w h m room : ℕ) → Numbered (targetRows bytes start w h m room)
-unfolding targetRows
-target-numbered bytes start w h m room = (lit< tt, (lit< tt, tt))
+unfolding all numbersOf rasterRows
+raster-numbered w h m size = refl
 
 -- ---- 22 and 23
 
-pos : (n : ℕ) → eqb n 0 ≡ false → 0 < n
-pos zero e = let z : ⊥ = eqb-false 0 0 e refl in absurd z
-pos (suc n) e = omega arith
-
 -- none of them applies: size and maxval are in their limits
-pub within : (w h m : ℕ) → first (headRows w h m) ≡ 0 → Within w h m
+pub head-within : (w h m : ℕ) → first (headRows w h m) ≡ 0 → Within w h m
 unfolding headRows
-within w h m e =
+head-within w h m e =
     let n = first-none _ (limit-numbered w h m) e in
     record {
       wide = pos w (n .0);
@@ -150,17 +149,18 @@ pub read-refused : (s : List ℕ) {n : ℕ} → headerOf s ≡ Head.Refused n �
 unfolding readOf judgedOf
 read-refused s e = rw e refl
 
+-- an answer that is found was not refused
+pub unless-found : (n : ℕ) (x : Head) {w h m at : ℕ} → unless n Head.Refused x ≡ Head.Found w h m at → (n ≡ 0) × (x ≡ Head.Found w h m at)
+unless-found zero x e = (refl, e)
+unless-found (suc n) x e = absurd (let z : _≡_ {A = ℕ} 0 1 = cc in omega arith)
+
 -- what read finds, the header found
 pub read-header : (s : List ℕ) {w h m at : ℕ} → readOf s ≡ Head.Found w h m at → headerOf s ≡ Head.Found w h m at
 unfolding readOf judgedOf
 read-header s {w} {h} {m} {at} q = go (headerOf s) refl q
   where
-    pass : (n : ℕ) (x : Head) → unless n Head.Refused x ≡ Head.Found w h m at → x ≡ Head.Found w h m at
-    pass zero x e = e
-    pass (suc n) x e = absurd (let z : _≡_ {A = ℕ} 0 1 = cc in omega arith)
-
     go : (x : Head) → headerOf s ≡ x → judgedOf x (length s) ≡ Head.Found w h m at → headerOf s ≡ Head.Found w h m at
-    go (Head.Found w′ h′ m′ at′) p e = p ∙ pass (first (headRows w′ h′ m′ ++ rasterRows w′ h′ m′ (length s - at′))) (Head.Found w′ h′ m′ at′) e
+    go (Head.Found w′ h′ m′ at′) p e = p ∙ unless-found (first (headRows w′ h′ m′ ++ rasterRows w′ h′ m′ (length s - at′))) (Head.Found w′ h′ m′ at′) e .1
     go (Head.Refused n) p e = absurd (let z : _≡_ {A = ℕ} 0 1 = cc in omega arith)
 
 -- the raster that read finds starts within the bytes
@@ -173,7 +173,7 @@ read-within s e = found-within s (read-header s e)
 pub raster-asks : (bytes : List ℕ) (start w h m : ℕ) {size a b : ℕ} → a ≡ first (headRows w h m) → a ≡ 0 → size ≡ length bytes - start
     → b ≡ first (rasterRows w h m size) → b ≡ 0 → RasterAsks bytes start w h m
 raster-asks bytes start w h m {size} e z q f y =
-    let t : Within w h m = within w h m (sym e ∙ z) in
+    let t : Within w h m = head-within w h m (sym e ∙ z) in
     let x : rasterSize w h m ≡ size = exact w h m size (sym f ∙ y) in
     record { within = t; exact = omega (arith, raster-some w h m (t .wide) (t .high)) }
 
@@ -215,13 +215,19 @@ module _ (bytes : List ℕ) (start w h m room : ℕ) where
       behind (headRows w h m) _ (limit-numbered w h m) e z
       (behind (rasterRows w h m (length bytes - start)) _ (raster-numbered w h m (length bytes - start)) (f ∙ ap (λ k. first (rasterRows w h m k)) q) y g)
 
+  -- where the target has room, 26 decides of the last two
+  pub target-roomy : w * h ≤ room → first (targetRows bytes start w h m room) ≡ cond (noneAbove m (unpacked (isWide m) (drop start bytes) (w * h))) 0 26
+  unfolding first targetRows
+  target-roomy l = rw (le-ltb room (w * h) l) (go (noneAbove m (unpacked (isWide m) (drop start bytes) (w * h))))
+    where
+      go : (b : Bool) → _≡_ {A = ℕ} (cond (not b) 26 0) (cond b 0 26)
+      go true = refl
+      go false = refl
+
   -- the numbers are above 0
   pub grey-numbered : Numbered (turnRows bytes start w h m room)
-  unfolding turnRows
-  grey-numbered =
-      numbered-append (headRows w h m) (rasterRows w h m (length bytes - start) ++ targetRows bytes start w h m room) (limit-numbered w h m)
-      (numbered-append (rasterRows w h m (length bytes - start)) (targetRows bytes start w h m room) (raster-numbered w h m (length bytes - start))
-      (target-numbered bytes start w h m room))
+  unfolding all numbersOf turnRows headRows rasterRows targetRows
+  grey-numbered = refl
 
   -- no row applies: what the work below relies on
   pub grey-asks : first (turnRows bytes start w h m room) ≡ 0 → GreyAsks bytes start w h m room
@@ -289,8 +295,8 @@ module _ (pic : List ℕ) (w h m room : ℕ) where
 
   -- the numbers are above 0
   pub write-numbered : Numbered (writeRows pic w h m room)
-  unfolding writeRows
-  write-numbered = numbered-append (headRows w h m) _ (limit-numbered w h m) (lit< tt, (lit< tt, (lit< tt, tt)))
+  unfolding all numbersOf writeRows headRows
+  write-numbered = refl
 
   -- no row applies: what the work below relies on
   pub write-asks : first (writeRows pic w h m room) ≡ 0 → WriteAsks pic w h m room
@@ -300,7 +306,7 @@ module _ (pic : List ℕ) (w h m room : ℕ) where
       let b = none-behind (headRows w h m) _ n in
       let q : length pic ≡ w * h = eqb-true _ _ (not-false _ (b .0)) in
       record {
-        within = within w h m (none-first (headRows w h m) (none-front (headRows w h m) _ n));
+        within = head-within w h m (none-first (headRows w h m) (none-front (headRows w h m) _ n));
         whole = q;
         bounded = not-false _ (b .1 .0);
         fitting = let l : length (fileOf pic w h m) ≤ room = ltb-false _ _ (b .1 .1 .0) in omega (arith, length-file pic w h m q);

@@ -9,10 +9,10 @@ use Rattle.refuse.specs.Refuse.{first, unless}
 use Rattle.refuse.proofs.Walk.{unless-refused}
 use Rattle.settings.specs.declared.Settings.{Settings}
 use Rattle.settings.specs.declared.Footer.{Footer}
-use Rattle.settings.specs.Settings.{binsOf, keptOf, tilePixels, clipOne}
+use Rattle.settings.specs.Settings.{keptOf, clipOne}
 use Rattle.prepare.specs.declared.Prepared.the-variants as Prepared
-use Rattle.prepare.specs.Prepare.{mappings, prepareRows, footerOf, Ended, ending, preparedOf, prepareOf, TightAsks, Work, TilesAsk, TilesDone}
-use Rattle.prepare.proofs.Table.{work, tight-asks}
+use Rattle.prepare.specs.Prepare.{mappings, prepareRows, footOf, Ended, ending, preparedOf, prepareOf, FilmAsks, Work, TilesAsk, TilesDone}
+use Rattle.prepare.proofs.Table.{work, film-asks}
 
 -- ---- what the work asks, once none of the rows applies
 
@@ -22,8 +22,8 @@ module _ (w h : ℕ) (pic : List ℕ) (s : Settings) (room scratch : ℕ) {r : �
   asks-work = work w h pic s room scratch (sym e ∙ z)
 
   -- the footer
-  pub asks-footer : {b : ℕ} → b ≡ binsOf s → TightAsks (s .clip) (tilePixels w h s) b
-  asks-footer q = tight-asks (asks-work .ready) q
+  pub asks-foot : FilmAsks w h s
+  asks-foot = film-asks (asks-work .ready)
 
   -- the tiles
   pub asks-tiles : {o : Bool} → o ≡ clipOne (s .clip) → o ≡ false → TilesAsk w h pic s room scratch
@@ -46,20 +46,20 @@ module _ (film w h : ℕ) (pic : List ℕ) (s : Settings) (m t : List ℕ) where
   ends-done {r} e z = ap (λ k. unless k (λ n. ending (Prepared.Refused n) m t) (preparedOf film w h pic s m t)) (sym z ∙ e)
 
   -- at the factor 1.0 the buffers stay
-  pub ends-one : {r b : ℕ} {kept : Settings} {foot : Footer} {o : Bool} → r ≡ first (prepareRows w h pic s (length m) (length t)) → r ≡ 0
-      → b ≡ binsOf s → foot ≡ footerOf (s .clip) (tilePixels w h s) b → kept ≡ keptOf s → o ≡ clipOne (s .clip) → o ≡ true
+  pub ends-one : {r : ℕ} {kept : Settings} {foot : Footer} {o : Bool} → r ≡ first (prepareRows w h pic s (length m) (length t)) → r ≡ 0
+      → foot ≡ footOf w h s → kept ≡ keptOf s → o ≡ clipOne (s .clip) → o ≡ true
       → ending (Prepared.Done record { film = film; width = w; height = h; settings = kept } foot) m t ≡ prepareOf film w h pic s m t
   unfolding preparedOf
-  ends-one e z q f k c y =
+  ends-one e z f k c y =
       let one : clipOne (s .clip) ≡ true = sym c ∙ y in
-      rw (f, q, k, one) refl ∙ ends-done e z
+      rw (f, k, one) refl ∙ ends-done e z
 
   -- else the mappings are laid down and the scratch is zero
-  pub ends-well : {r b : ℕ} {kept : Settings} {foot : Footer} {o : Bool} {m′ t′ : List ℕ} → r ≡ first (prepareRows w h pic s (length m) (length t)) → r ≡ 0
-      → b ≡ binsOf s → foot ≡ footerOf (s .clip) (tilePixels w h s) b → kept ≡ keptOf s → o ≡ clipOne (s .clip) → o ≡ false
+  pub ends-well : {r : ℕ} {kept : Settings} {foot : Footer} {o : Bool} {m′ t′ : List ℕ} → r ≡ first (prepareRows w h pic s (length m) (length t)) → r ≡ 0
+      → foot ≡ footOf w h s → kept ≡ keptOf s → o ≡ clipOne (s .clip) → o ≡ false
       → TilesDone w h pic s m m′ t t′
       → ending (Prepared.Done record { film = film; width = w; height = h; settings = kept } foot) m′ t′ ≡ prepareOf film w h pic s m t
   unfolding preparedOf
-  ends-well e z q f k c y done =
+  ends-well e z f k c y done =
       let one : clipOne (s .clip) ≡ false = sym c ∙ y in
-      rw (f, q, k, done .map, done .scratch, one) refl ∙ ends-done e z
+      rw (f, k, done .map, done .scratch, one) refl ∙ ends-done e z

@@ -1,98 +1,64 @@
--- Laws of a film's tiles: where they lie, and their mappings.
+-- Laws of a film's mappings: the limit has room for each tile, and what `map_tile` asks and leaves.
 -- Assumes nothing.
-use Prim.Native.Nat.{ℕ, _+_, _-_, _*_, _/_, _%_, _≤_, _<_}
+use Prim.Native.Nat.{ℕ, _+_, _-_, _*_, _≤_, _<_}
 use mathlib.Core.Bool.{true, false}
 use mathlib.Core.List.{List}
 use mathlib.Core.Path.{_≡_, refl, sym, ap, _∙_, subst}
-use native.Mathlib.Nat.{mod-lt, mul-comm, mul-le-mul, mul-le-mul-right, mul-pos, div-lt-iff-lt-mul}
 use native.Mathlib.Omega.{arith}
-use lib.ListN.{length, take, drop, getD, length-drop}
-use lib.Seq.{length-take-le}
+use lib.ListN.{length, take, drop, getD}
 use borrow.Author.Tests.{ltb-false, not-false}
 use borrow.Rule.Slice.PartMut.{putMid}
 use Rattle.lists.specs.Lists.{all}
 use Rattle.lists.proofs.Fills.{length-joined, drop-onto, length-onto}
 use Rattle.lists.proofs.Blocks.{block-fits, getD-joined}
 use Rattle.lists.proofs.Maps.{over-part}
+use Rattle.lists.proofs.Windows.{length-block}
 use Rattle.lists.proofs.Alls.{all-joined}
 use Rattle.limit.specs.declared.Clip.{Clip}
 use Rattle.limit.specs.declared.Clip.the-variants.{Off, Factor}
-use Rattle.limit.specs.Limit.{accepted, limitOf, tooTight}
+use Rattle.limit.specs.Limit.{allowed, limitOf, tooTight}
 use Rattle.limit.proofs.Laws.{tight-factor}
 use Rattle.tally.specs.declared.Rect.{Rect}
 use Rattle.scan.specs.Scan.{within}
-use Rattle.tally.specs.Tally.{greysOf, Inside}
-use Rattle.tile.specs.Tile.{tileCounts, tileMapping, Holds, off, factor, TileMapped}
+use Rattle.tally.specs.Tally.{greysOf}
+use Rattle.tile.specs.Tile.{mappedOf, tileCounts, tileMapping, Holds, off, factor, TileMapped}
 use Rattle.tile.specs.Tile as tile
-use Rattle.tally.proofs.Greys.{length-greys, greys-all}
-use Rattle.tile.proofs.Tiles.{length-tile-counts, length-tile-mapping, tile-mapping-within}
+use Rattle.tally.proofs.Greys.{greys-all}
+use Rattle.tile.proofs.Tiles.{length-tile-counts, length-tile-mapping, getD-tile-mapping, tile-mapping-within}
 use Rattle.settings.specs.declared.Settings.{Settings}
-use Rattle.settings.specs.Settings.{binsOf, entriesOf, tileHeight, tilePixels, clipBad, clipOne, Ready}
-use Rattle.settings.proofs.Ready.{tiles-exact, tile-some, entries-small}
-use Rattle.prepare.specs.Prepare.{tileRect, tileMap, mappings, TilesAsk, TileAsks, TileDone}
-use Rattle.prepare.proofs.Table.{tile-pixels-most}
-
--- ---- where a tile lies
-
--- part i of a side that has `grid` parts ends within the side
-pub part-inside : (side grid i : ℕ) → side % grid ≡ 0 → i < grid → i * (side / grid) + side / grid ≤ side
-part-inside side grid i e l =
-    block-fits (side / grid) grid l (omega (arith, mul-comm (side / grid) grid, tiles-exact side grid e))
-
--- tile k is in one of the tile rows
-pub tile-row : (across down k : ℕ) → 0 < across → k < across * down → k / across < down
-tile-row across down k p l = div-lt-iff-lt-mul {x = k} {y = down} p .1 (omega (arith, mul-comm across down))
-
--- a tile lies inside the film, and has 1 to 2048 x 2048 pixels
-pub tile-inside : {w h size : ℕ} {s : Settings} {room k : ℕ} → Ready w h size s room → k < s .across * s .down → Inside size w (tileRect w h s k)
-unfolding tileRect
-tile-inside {w} {h} {size} {s} {room} {k} ready l =
-    let some : 0 < s .across = omega (arith, ready .across) in
-    let low : k / s .across * tileHeight h s + tileHeight h s ≤ h = part-inside h (s .down) (k / s .across) (ready .rows) (tile-row (s .across) (s .down) k some l) in
-    record {
-      across = part-inside w (s .across) (k % s .across) (ready .columns) (mod-lt k some);
-      down = omega (arith, mul-le-mul-right w low, mul-comm w h, ready .whole);
-      some = mul-pos (tile-some w (s .across) (ready .wide) (ready .columns)) (tile-some h (s .down) (ready .high) (ready .rows));
-      few = tile-pixels-most ready;
-    }
-
--- its area is a tile's pixels
-pub tile-area : (w h : ℕ) (s : Settings) (k : ℕ) → tileRect w h s k .width * tileRect w h s k .height ≡ tilePixels w h s
-unfolding tileRect
-tile-area w h s k = refl
-
--- and it has as many greys
-pub length-tile-greys : (w h : ℕ) (pic : List ℕ) (s : Settings) (k : ℕ) → length (greysOf pic w (tileRect w h s k)) ≡ tilePixels w h s
-length-tile-greys w h pic s k = length-greys pic w (tileRect w h s k) ∙ tile-area w h s k
+use Rattle.settings.specs.Settings.{binsOf, entriesOf, clipBad, clipOne, Ready}
+use Rattle.settings.proofs.Ready.{entries-small}
+use Rattle.prepare.specs.Prepare.{tileOf, pixelsIn, tileMap, mappings, TilesAsk, TileAsks, TileDone}
+use Rattle.prepare.proofs.Tiles.{tile-area, length-tile-greys, tile-pixels-alike, tile-inside}
 
 -- ---- the limit has room for a tile's pixels
 
 -- a clip setting that is neither refused nor 1.0 nor too tight
 pub holds : (clip : Clip) (n b : ℕ) → clipBad clip ≡ false → clipOne clip ≡ false → tooTight clip n b ≡ false → Holds clip n b
 holds Off n b g o t = off
-holds (Factor f) n b g o t = factor (not-false (accepted f) g) (ltb-false (limitOf f n b * b) n (sym (tight-factor f n b o) ∙ t))
+holds (Factor f) n b g o t = factor (not-false (allowed f) g) (ltb-false (limitOf f n b * b) n (sym (tight-factor f n b o) ∙ t))
 
 module _ {w h : ℕ} {pic : List ℕ} {s : Settings} {room scratch : ℕ} (asks : TilesAsk w h pic s room scratch) where
   -- so the limit has room for each tile
-  pub tile-holds : Holds (s .clip) (tilePixels w h s) (binsOf s)
-  tile-holds = holds (s .clip) (tilePixels w h s) (binsOf s) (asks .work .ready .clip) (asks .changes) (asks .work .loose)
+  pub tile-holds : (k : ℕ) → Holds (s .clip) (pixelsIn w h s k) (binsOf s)
+  tile-holds k = rw (tile-pixels-alike w h s k) (holds (s .clip) (pixelsIn w h s 0) (binsOf s) (asks .work .ready .clip) (asks .changes) (asks .work .loose))
 
   -- a tile's greys lie in Min to Max
-  pub tile-greys : {k : ℕ} → k < s .across * s .down → all (within (s .min) (s .max)) (greysOf pic w (tileRect w h s k)) ≡ true
+  pub tile-greys : {k : ℕ} → k < s .across * s .down → all (within (s .min) (s .max)) (greysOf pic w (tileOf w h s k)) ≡ true
   tile-greys {k} l =
-      let inside = tile-inside (asks .work .ready) l in
-      greys-all (within (s .min) (s .max)) pic w (tileRect w h s k) (inside .across) (inside .down) (asks .work .greys)
+      let inside = tile-inside (asks .work .ready .tiled) l (asks .work .ready .whole) in
+      greys-all (within (s .min) (s .max)) pic w (tileOf w h s k) (inside .across) (inside .down) (asks .work .greys)
 
   -- the same of the tile's rectangle
-  pub rect-holds : (k : ℕ) → Holds (s .clip) (tileRect w h s k .width * tileRect w h s k .height) (binsOf s)
-  rect-holds k = rw (tile-area w h s k) tile-holds
+  pub rect-holds : (k : ℕ) → Holds (s .clip) (tileOf w h s k .width * tileOf w h s k .height) (binsOf s)
+  rect-holds k = rw (tile-area w h (s .across) (s .down) k) (tile-holds k)
 
 -- ---- the mappings
 
 -- a mapped value for each bin
 pub length-tile-map : (w h : ℕ) (pic : List ℕ) (s : Settings) (k : ℕ) → length (tileMap w h pic s k) ≡ binsOf s
 unfolding tileMap
-length-tile-map w h pic s k = length-tile-mapping (s .min) (s .max) (binsOf s) (s .clip) (greysOf pic w (tileRect w h s k))
+length-tile-map w h pic s k = length-tile-mapping (s .min) (s .max) (binsOf s) (s .clip) (greysOf pic w (tileOf w h s k))
 
 -- "(grid across) x (grid down) x B entries"
 pub length-mappings : (w h : ℕ) (pic : List ℕ) (s : Settings) → length (mappings w h pic s) ≡ entriesOf s
@@ -105,15 +71,25 @@ pub getD-mappings : (w h : ℕ) (pic : List ℕ) (s : Settings) (k b : ℕ) → 
 unfolding mappings
 getD-mappings w h pic s k b l m = getD-joined (binsOf s) (s .across * s .down) (tileMap w h pic s) (λ j q. length-tile-map w h pic s j) k b 0 l m
 
+-- the entry of tile k and bin b is the mapped value of that tile's own clipped counts
+pub mappings-own : (w h : ℕ) (pic : List ℕ) (s : Settings) (k b : ℕ) → k < s .across * s .down → b < binsOf s
+    → getD (mappings w h pic s) (k * binsOf s + b) 0
+    ≡ mappedOf (s .min) (s .max) (pixelsIn w h s k) (tileCounts (s .min) (s .max) (binsOf s) (s .clip) (greysOf pic w (tileOf w h s k))) b
+unfolding tileMap
+mappings-own w h pic s k b l q =
+    getD-mappings w h pic s k b l q
+    ∙ getD-tile-mapping (s .min) (s .max) (binsOf s) (s .clip) (greysOf pic w (tileOf w h s k)) b q
+    ∙ ap (λ n. mappedOf (s .min) (s .max) n (tileCounts (s .min) (s .max) (binsOf s) (s .clip) (greysOf pic w (tileOf w h s k))) b) (length-tile-greys w h pic s k)
+
 module _ {w h : ℕ} {pic : List ℕ} {s : Settings} {room scratch : ℕ} (asks : TilesAsk w h pic s room scratch) where
   -- a tile's mapped values lie in Min to Max
   pub tile-map-within : {k : ℕ} → k < s .across * s .down → all (within (s .min) (s .max)) (tileMap w h pic s k) ≡ true
   unfolding tileMap
   tile-map-within {k} l =
-      tile-mapping-within (s .min) (s .max) (binsOf s) (s .clip) (greysOf pic w (tileRect w h s k)) (tile-greys asks l)
-      (omega (arith, asks .work .ready .bins))
-      (omega (arith, asks .work .ready .min))
-      (subst (λ n. Holds (s .clip) n (binsOf s)) (sym (length-tile-greys w h pic s k)) (tile-holds asks))
+      tile-mapping-within (s .min) (s .max) (binsOf s) (s .clip) (greysOf pic w (tileOf w h s k)) (tile-greys asks l)
+      (omega (arith, asks .work .ready .tiled .bins))
+      (omega (arith, asks .work .ready .tiled .min))
+      (subst (λ n. Holds (s .clip) n (binsOf s)) (sym (length-tile-greys w h pic s k)) (tile-holds asks k))
 
   -- and so do all
   pub mappings-within : all (within (s .min) (s .max)) (mappings w h pic s) ≡ true
@@ -133,30 +109,19 @@ tile-small {w} {h} {pic} {s} {k} {room} {scratch} {b} asks e =
     let ready : Ready w h (length pic) s room = asks .film .work .ready in
     rw e
     (block-fits (binsOf s) (s .across * s .down) (asks .tile)
-    (entries-small (s .across) (s .down) (binsOf s) (ready .acrossmost) (ready .downmost) (ready .binsmost)))
-
--- what the tile's rectangle asks
-pub rect-asks : {w h : ℕ} {pic : List ℕ} {s : Settings} {k room scratch : ℕ} → TileAsks w h pic s k room scratch → (0 < s .across) × (0 < s .down) × (k < 256)
-rect-asks {w} {h} {pic} {s} {k} {room} asks =
-    let ready : Ready w h (length pic) s room = asks .film .work .ready in
-    let most : s .across * s .down ≤ 16 * 16 = mul-le-mul (ready .acrossmost) (ready .downmost) in
-    (omega (arith, ready .across), omega (arith, ready .down), omega (arith, asks .tile))
-
--- the lent part has an entry for each bin
-pub part-length : (m : List ℕ) (k b : ℕ) → k * b + b ≤ length m → length (take (k * b + b - k * b) (drop (k * b) m)) ≡ b
-part-length m k b h = length-take-le (k * b + b - k * b) (drop (k * b) m) (rw length-drop (omega arith)) ∙ omega arith
+    (entries-small (s .across) (s .down) (binsOf s) (ready .tiled .acrossmost) (ready .tiled .downmost) (ready .tiled .binsmost)))
 
 -- what the mapping of tile k asks, its rectangle and the bins as they were worked out
 pub tile-asks : (m : List ℕ) {w h : ℕ} {pic : List ℕ} {s : Settings} {k scratch : ℕ} → TileAsks w h pic s k (length m) scratch
-    → {r : Rect} {b : ℕ} → r ≡ tileRect w h s k → b ≡ binsOf s
+    → {r : Rect} {b : ℕ} → r ≡ tileOf w h s k → b ≡ binsOf s
     → tile.TileAsks pic w r (s .min) (s .max) b (s .clip) scratch (length (take (k * b + b - k * b) (drop (k * b) m)))
 tile-asks m {w} {h} {pic} {s} {k} {scratch} asks {r} {b} p q =
     let ready : Ready w h (length pic) s (length m) = asks .film .work .ready in
-    rw (p, part-length m k b (tile-room asks q), q)
+    rw (p, length-block m k b (tile-room asks q), q)
     record {
       counts = record {
-        inside = tile-inside ready (asks .tile);
-        scale = record { order = omega (arith, ready .min); most = ready .max; some = ready .bins; few = ready .binsmost };
+        inside = tile-inside (ready .tiled) (asks .tile) (ready .whole);
+        scale = record { order = omega (arith, ready .tiled .min); most = ready .tiled .max; some = ready .tiled .bins; few = ready .tiled .binsmost };
         enough = asks .film .work .bins;
         greys = tile-greys (asks .film) (asks .tile);
       };
@@ -166,7 +131,7 @@ tile-asks m {w} {h} {pic} {s} {k} {scratch} asks {r} {b} p q =
 
 -- what it leaves
 pub tile-done : {w h : ℕ} {pic : List ℕ} {s : Settings} {k : ℕ} {m t : List ℕ} → TileAsks w h pic s k (length m) (length t)
-    → {r : Rect} {b : ℕ} {ys u : List ℕ} → r ≡ tileRect w h s k → b ≡ binsOf s
+    → {r : Rect} {b : ℕ} {ys u : List ℕ} → r ≡ tileOf w h s k → b ≡ binsOf s
     → TileMapped (s .min) (s .max) b (s .clip) (greysOf pic w r) t u (take (k * b + b - k * b) (drop (k * b) m)) ys
     → TileDone w h pic s k m (putMid (k * b) (k * b + b - k * b) m ys) t u
 unfolding tileMap

@@ -1,6 +1,8 @@
+pub mod Tiles
 pub mod Tight
 pub mod Table
 pub mod Films
 pub mod Turns
 pub mod Endings
 pub mod Renders
+pub mod Like

@@ -15,11 +15,11 @@ use Rattle.lists.proofs.Fills.{take-onto, length-onto}
 use Rattle.scan.specs.Scan.{within}
 use Rattle.settings.specs.declared.Settings.{Settings}
 use Rattle.settings.specs.declared.Footer.{Footer}
-use Rattle.settings.specs.Settings.{binsOf, entriesOf, tilePixels, clipOne, Ready}
+use Rattle.settings.specs.Settings.{binsOf, entriesOf, clipOne, Ready}
 use Rattle.render.specs.Render.{renderOf, whole, Mapped, Shown}
 use Rattle.render.proofs.Laws.{render-front, ready-mapped}
 use Rattle.prepare.specs.declared.Enhanced.the-variants as Enhanced
-use Rattle.prepare.specs.Prepare.{mappings, prepareRows, footerOf, Over, overing, enhancedOf, enhanceOf, Work, TilesAsk, TilesDone}
+use Rattle.prepare.specs.Prepare.{mappings, prepareRows, footOf, Over, overing, enhancedOf, enhanceOf, Work, TilesAsk, TilesDone}
 use Rattle.prepare.proofs.Films.{length-mappings, mappings-within}
 use Rattle.prepare.proofs.Endings.{asks-tiles}
 
@@ -73,21 +73,21 @@ module _ (w h : ℕ) (pic : List ℕ) (s : Settings) (m t : List ℕ) where
   over-done {r} e z = ap (λ k. unless k (λ n. overing (Enhanced.Refused n) pic m t) (enhancedOf w h pic s m t)) (sym z ∙ e)
 
   -- "Factor 1.0: nothing changes."
-  pub over-one : {r b : ℕ} {foot : Footer} {o : Bool} → r ≡ first (prepareRows w h pic s (length m) (length t)) → r ≡ 0
-      → b ≡ binsOf s → foot ≡ footerOf (s .clip) (tilePixels w h s) b → o ≡ clipOne (s .clip) → o ≡ true
+  pub over-one : {r : ℕ} {foot : Footer} {o : Bool} → r ≡ first (prepareRows w h pic s (length m) (length t)) → r ≡ 0
+      → foot ≡ footOf w h s → o ≡ clipOne (s .clip) → o ≡ true
       → overing (Enhanced.Done foot) pic m t ≡ enhanceOf w h pic s m t
   unfolding enhancedOf
-  over-one e z q f c y =
+  over-one e z f c y =
       let one : clipOne (s .clip) ≡ true = sym c ∙ y in
-      rw (f, q, one) refl ∙ over-done e z
+      rw (f, one) refl ∙ over-done e z
 
   -- else the picture is rendered from the mappings
-  pub over-well : {r b : ℕ} {foot : Footer} {o : Bool} {ys m′ t′ : List ℕ} → r ≡ first (prepareRows w h pic s (length m) (length t)) → r ≡ 0
-      → b ≡ binsOf s → foot ≡ footerOf (s .clip) (tilePixels w h s) b → o ≡ clipOne (s .clip) → o ≡ false
+  pub over-well : {r : ℕ} {foot : Footer} {o : Bool} {ys m′ t′ : List ℕ} → r ≡ first (prepareRows w h pic s (length m) (length t)) → r ≡ 0
+      → foot ≡ footOf w h s → o ≡ clipOne (s .clip) → o ≡ false
       → TilesDone w h pic s m m′ t t′ → ys ≡ renderOf w h s m′ (whole w h) pic
       → overing (Enhanced.Done foot) ys m′ t′ ≡ enhanceOf w h pic s m t
   unfolding enhancedOf
-  over-well e z q f c y done g =
+  over-well e z f c y done g =
       let asks : TilesAsk w h pic s (length m) (length t) = asks-tiles w h pic s (length m) (length t) e z c y in
       let one : clipOne (s .clip) ≡ false = sym c ∙ y in
-      rw (f, q, laid-render m asks (done .map) g, done .map, done .scratch, one) refl ∙ over-done e z
+      rw (f, laid-render m asks (done .map) g, done .map, done .scratch, one) refl ∙ over-done e z

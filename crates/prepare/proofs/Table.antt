@@ -1,91 +1,119 @@
--- The rows 1 to 14 as `refusal` asks them, and what they tell where none of them applies.
+-- The rows 1 to 14: their numbers, how `work_refusal` asks 12 to 14, and what they tell where none of them applies.
 -- Assumes nothing.
 use Prim.Native.Nat.{ℕ, _≤_, _<_}
-use mathlib.Core.Bool.{true, false, not}
-use mathlib.Core.List.{List}
-use mathlib.Core.Path.{_≡_, refl, sym, ap, _∙_}
-use native.Mathlib.Nat.{mul-le-mul}
+use mathlib.Core.Bool.{Bool, true, false, not, cond}
+use mathlib.Core.List.{List, [], _∷_, _++_}
+use mathlib.Core.Path.{_≡_, refl, sym, ap, ap₂, _∙_}
 use native.Mathlib.Omega.{arith}
-use lib.Dec.{ltb, lit<}
+use lib.Dec.{ltb}
 use lib.ListN.{length}
 use borrow.Author.Tests.{lt-ltb, le-ltb, ltb-false, not-false}
-use Rattle.refuse.specs.Refuse.{first, Numbered}
-use Rattle.refuse.proofs.Walk.{front, behind, first-none, none-first, none-front, none-behind, numbered-append}
+use Rattle.refuse.specs.Refuse.{row, first, numbersOf, Numbered}
+use Rattle.refuse.proofs.Walk.{front, behind, first-behind, first-none, first-both, numbers-append}
 use Rattle.lists.specs.Lists.{all}
 use Rattle.limit.specs.Limit.{tooTight}
 use Rattle.scan.specs.Scan.{within}
 use Rattle.settings.specs.declared.Settings.{Settings}
-use Rattle.settings.specs.Settings.{binsOf, tilePixels, sharedRows, Ready}
-use Rattle.settings.proofs.Ready.{ready, shared-numbered, tile-most}
-use Rattle.prepare.specs.Prepare.{prepareRows, TightAsks, Work}
+use Rattle.settings.specs.Settings.{binsOf, entriesOf, sharedRows, Ready}
+use Rattle.settings.proofs.Ready.{ready, shared-numbers, shared-numbered, shared-room-any}
+use Rattle.prepare.specs.Prepare.{pixelsIn, lentRows, tightRows, workRows, prepareRows, FilmAsks, TightAsks, Work}
+use Rattle.prepare.proofs.Tiles.{tiles-some, tile-pixels-most}
 
--- a tile has at most 2048 x 2048 pixels
-pub tile-pixels-most : {w h size : ℕ} {s : Settings} {room : ℕ} → Ready w h size s room → tilePixels w h s ≤ 4194304
-tile-pixels-most {w} {h} {size} {s} ready =
-    mul-le-mul (tile-most w (s .across) (ready .widest) (ready .across)) (tile-most h (s .down) (ready .highest) (ready .down))
+-- a film of which no setting is refused has a limit and a footer
+pub tight-asks : {w h : ℕ} {s : Settings} {b : ℕ} → FilmAsks w h s → b ≡ binsOf s → TightAsks (s .clip) (pixelsIn w h s 0) b
+tight-asks asks e =
+    record {
+      good = asks .fair;
+      pixels = tile-pixels-most (asks .tiled) (tiles-some (asks .tiled));
+      least = omega (arith, asks .tiled .bins);
+      most = omega (arith, asks .tiled .binsmost);
+    }
 
--- a film that is not refused up to 11 has a limit and a footer
-pub tight-asks : {w h size : ℕ} {s : Settings} {room b : ℕ} → Ready w h size s room → b ≡ binsOf s → TightAsks (s .clip) (tilePixels w h s) b
-tight-asks ready e =
-    record { good = ready .clip; pixels = tile-pixels-most ready; least = omega (arith, ready .bins); most = omega (arith, ready .binsmost) }
+-- where none of the rows 1 to 11 applies, no setting is refused
+pub film-asks : {w h size : ℕ} {s : Settings} {room : ℕ} → Ready w h size s room → FilmAsks w h s
+film-asks known = record { tiled = known .tiled; fair = known .clip }
+
+-- ---- 12 to 14
+
+module _ (w h : ℕ) (pic : List ℕ) (s : Settings) (scratch : ℕ) where
+  pub lent-numbered : Numbered (lentRows pic s scratch)
+  unfolding all numbersOf lentRows
+  lent-numbered = refl
+
+  -- the numbers, in the order of document 01
+  pub work-numbers : numbersOf (workRows w h pic s scratch) ≡ 12 ∷ 13 ∷ 14 ∷ []
+  unfolding numbersOf workRows lentRows tightRows
+  work-numbers = refl
+
+  module _ {b : ℕ} (n : b ≡ binsOf s) where
+    -- 12 applies
+    pub work-scratch : scratch < b → 12 ≡ first (workRows w h pic s scratch)
+    unfolding first workRows lentRows
+    work-scratch l = let t : ltb scratch (binsOf s) ≡ true = lt-ltb scratch (binsOf s) (omega arith) in rw t refl
+
+    module _ (l : b ≤ scratch) where
+      -- 13 applies
+      pub work-greys : all (within (s .min) (s .max)) pic ≡ false → 13 ≡ first (workRows w h pic s scratch)
+      unfolding first workRows lentRows
+      work-greys g = let t : ltb scratch (binsOf s) ≡ false = le-ltb scratch (binsOf s) (omega arith) in rw (t, g) refl
+
+      module _ (g : all (within (s .min) (s .max)) pic ≡ true) where
+        -- neither does, and 14 decides
+        pub work-tight : {p : ℕ} {t : Bool} → p ≡ pixelsIn w h s 0 → t ≡ tooTight (s .clip) p b → cond t 14 0 ≡ first (workRows w h pic s scratch)
+        unfolding first workRows lentRows tightRows
+        work-tight {p} {t} e q =
+            let x : ltb scratch (binsOf s) ≡ false = le-ltb scratch (binsOf s) (omega arith) in
+            let y : tooTight (s .clip) (pixelsIn w h s 0) (binsOf s) ≡ t = sym (q ∙ ap₂ (tooTight (s .clip)) e n) in
+            rw (x, g, y) refl
+
+-- ---- 1 to 14
 
 module _ (w h : ℕ) (pic : List ℕ) (s : Settings) (room scratch : ℕ) where
-  -- the numbers are above 0
-  pub table-numbered : Numbered (prepareRows w h pic s room scratch)
+  -- the numbers, in the order of document 01
+  pub table-numbers : numbersOf (prepareRows w h pic s room scratch) ≡ numbersOf (sharedRows w h (length pic) s room) ++ (12 ∷ 13 ∷ 14 ∷ [])
   unfolding prepareRows
-  table-numbered = numbered-append (sharedRows w h (length pic) s room) _ (shared-numbered w h (length pic) s room) (lit< tt, (lit< tt, (lit< tt, tt)))
-
-  -- none of the rows 1 to 14 applies: what the work below relies on
-  pub work : first (prepareRows w h pic s room scratch) ≡ 0 → Work w h pic s room scratch
-  unfolding prepareRows
-  work e =
-      let n = first-none _ table-numbered e in
-      let t = none-behind (sharedRows w h (length pic) s room) _ n in
-      record {
-        ready = ready w h (length pic) s room (none-first _ (none-front (sharedRows w h (length pic) s room) _ n));
-        bins = ltb-false _ _ (t .0);
-        greys = not-false _ (t .1 .0);
-        loose = t .1 .1 .0;
-      }
+  table-numbers = numbers-append (sharedRows w h (length pic) s room) (workRows w h pic s scratch) ∙ ap (λ ns. numbersOf (sharedRows w h (length pic) s room) ++ ns) (work-numbers w h pic s scratch)
 
   -- one of the rows 1 to 11 applies
   pub table-shared : {r : ℕ} → r ≡ first (sharedRows w h (length pic) s room) → (r ≡ 0 → ⊥) → r ≡ first (prepareRows w h pic s room scratch)
   unfolding prepareRows
   table-shared e z = front (sharedRows w h (length pic) s room) _ e z
 
-  module _ {a b : ℕ} (e : a ≡ first (sharedRows w h (length pic) s room)) (z : a ≡ 0) (n : b ≡ binsOf s) where
-    -- rows 1 to 11 do not apply
-    pub table-ready : Ready w h (length pic) s room
-    table-ready = ready w h (length pic) s room (sym e ∙ z)
+  -- none of them does, and 12 to 14 decide
+  pub table-work : {a r : ℕ} → a ≡ first (sharedRows w h (length pic) s room) → a ≡ 0 → r ≡ first (workRows w h pic s scratch) → r ≡ first (prepareRows w h pic s room scratch)
+  unfolding prepareRows
+  table-work e z q = behind (sharedRows w h (length pic) s room) _ (shared-numbered w h (length pic) s room) e z q
 
-    -- 12 applies
-    pub table-scratch : scratch < b → 12 ≡ first (prepareRows w h pic s room scratch)
-    unfolding prepareRows first
-    table-scratch l =
-        let t : ltb scratch (binsOf s) ≡ true = lt-ltb scratch (binsOf s) (omega arith) in
-        behind (sharedRows w h (length pic) s room) _ (shared-numbered w h (length pic) s room) e z (rw t refl)
+  -- none of 1 to 14 applies: none of 1 to 11, and none of 12 to 14
+  pub table-both : first (prepareRows w h pic s room scratch) ≡ 0 → (first (sharedRows w h (length pic) s room) ≡ 0) × (first (workRows w h pic s scratch) ≡ 0)
+  unfolding prepareRows
+  table-both e = first-both (sharedRows w h (length pic) s room) _ (shared-numbered w h (length pic) s room) e
 
-    module _ (l : b ≤ scratch) where
-      -- 13 applies
-      pub table-greys : all (within (s .min) (s .max)) pic ≡ false → 13 ≡ first (prepareRows w h pic s room scratch)
-      unfolding prepareRows first
-      table-greys g =
-          let t : ltb scratch (binsOf s) ≡ false = le-ltb scratch (binsOf s) (omega arith) in
-          behind (sharedRows w h (length pic) s room) _ (shared-numbered w h (length pic) s room) e z (rw (t, g) refl)
+  -- none of 1 to 13 applies: 14 decides
+  pub table-tight : first (sharedRows w h (length pic) s room) ≡ 0 → first (lentRows pic s scratch) ≡ 0 → first (prepareRows w h pic s room scratch) ≡ cond (tooTight (s .clip) (pixelsIn w h s 0) (binsOf s)) 14 0
+  unfolding first workRows tightRows
+  table-tight e q =
+      sym (table-work (sym e) refl
+      (sym (first-behind (lentRows pic s scratch) (tightRows w h s) (first-none (lentRows pic s scratch) (lent-numbered w h pic s scratch) q))))
 
-      module _ (g : all (within (s .min) (s .max)) pic ≡ true) where
-        -- 14 applies
-        pub table-tight : tooTight (s .clip) (tilePixels w h s) b ≡ true → 14 ≡ first (prepareRows w h pic s room scratch)
-        unfolding prepareRows first
-        table-tight q =
-            let t : ltb scratch (binsOf s) ≡ false = le-ltb scratch (binsOf s) (omega arith) in
-            let r : tooTight (s .clip) (tilePixels w h s) (binsOf s) ≡ true = ap (tooTight (s .clip) (tilePixels w h s)) (sym n) ∙ q in
-            behind (sharedRows w h (length pic) s room) _ (shared-numbered w h (length pic) s room) e z (rw (t, g, r) refl)
+  -- none of the rows 1 to 14 applies: what the work below relies on
+  pub work : first (prepareRows w h pic s room scratch) ≡ 0 → Work w h pic s room scratch
+  unfolding all numbersOf workRows lentRows tightRows
+  work e =
+      let both = table-both e in
+      let t = first-none (workRows w h pic s scratch) refl (both .1) in
+      record {
+        ready = ready w h (length pic) s room (both .0);
+        bins = ltb-false _ _ (t .0);
+        greys = not-false _ (t .1 .0);
+        loose = t .1 .1 .0;
+      }
 
-        -- none applies
-        pub table-over : tooTight (s .clip) (tilePixels w h s) b ≡ false → 0 ≡ first (prepareRows w h pic s room scratch)
-        unfolding prepareRows first
-        table-over q =
-            let t : ltb scratch (binsOf s) ≡ false = le-ltb scratch (binsOf s) (omega arith) in
-            let r : tooTight (s .clip) (tilePixels w h s) (binsOf s) ≡ false = ap (tooTight (s .clip) (tilePixels w h s)) (sym n) ∙ q in
-            behind (sharedRows w h (length pic) s room) _ (shared-numbered w h (length pic) s room) e z (rw (t, g, r) refl)
+-- the same film with other buffers that are long enough
+pub rows-any : (w h : ℕ) (pic : List ℕ) (s : Settings) (room scratch room′ scratch′ : ℕ) → first (prepareRows w h pic s room scratch) ≡ 0 → entriesOf s ≤ room′ → binsOf s ≤ scratch′
+    → first (prepareRows w h pic s room′ scratch′) ≡ 0
+rows-any w h pic s room scratch room′ scratch′ e l q =
+    let known : Work w h pic s room scratch = work w h pic s room scratch e in
+    sym (table-work w h pic s room′ scratch′
+    (sym (shared-room-any w h (length pic) s room room′ (table-both w h pic s room scratch e .0) l)) refl
+    (ap (λ t. cond t 14 0) (sym (known .loose)) ∙ work-tight w h pic s scratch′ refl q (known .greys) refl refl))

@@ -1,20 +1,20 @@
--- Refusal 14 and the footer, by the judgement of the factor.
+-- Refusal 14 and the footer, by the clip setting.
 -- Assumes nothing.
 use Prim.Native.Nat.{ℕ, _*_}
-use mathlib.Core.Bool.{true, false, not}
-use mathlib.Core.Path.{_≡_, refl, sym}
+use mathlib.Core.Bool.{Bool, true, false, not}
+use mathlib.Core.Path.{_≡_, refl, sym, ap, _∙_, subst}
 use native.Mathlib.Omega.{arith}
 use lib.Dec.{ltb}
+use borrow.Author.Tests.{not-false}
 use lib.Ieee.{Float, ofBits, binary32, binary64}
 use Rattle.limit.specs.declared.Clip.{Clip}
 use Rattle.limit.specs.declared.Clip.the-variants.{Off, Factor}
-use Rattle.limit.specs.declared.Judged.the-variants.{Refused, One, Above}
-use Rattle.limit.specs.Limit.{accepted, judgeOf, limitOf, usedOf, LimitAsks, UsedAsks, tooTight}
+use Rattle.limit.specs.Limit.{allowed, isOne, limitOf, usedOf, LimitAsks, UsedAsks, tooTight}
 use Rattle.limit.proofs.Laws.{limit-room, loose-off, loose-one, tight-factor}
-use Rattle.settings.specs.Settings.{clipBad}
+use Rattle.settings.specs.declared.Settings.{Settings}
+use Rattle.settings.specs.Settings.{binsOf, clipBad, clipOne}
 use Rattle.settings.specs.declared.Footer.{Footer}
-use Rattle.settings.proofs.Clips.{refused-not, one-is, above-is}
-use Rattle.prepare.specs.Prepare.{footerOf, TightAsks}
+use Rattle.prepare.specs.Prepare.{pixelsIn, footerOf, footOf, TightAsks}
 
 module _ (clip : Clip) (n b : ℕ) (asks : TightAsks clip n b) where
   -- clip off is never too tight
@@ -26,34 +26,41 @@ module _ (clip : Clip) (n b : ℕ) (asks : TightAsks clip n b) where
   footer-off e = rw e refl
 
   module _ (f : Float) (e : clip ≡ Factor f) where
-    -- a factor that is accepted is not refused
-    pub not-refused : judgeOf f ≡ Refused → ⊥
-    not-refused j =
-        let g : clipBad clip ≡ false = asks .good in
-        let q : clipBad clip ≡ true = rw (e, refused-not f j) refl in
-        let z : _≡_ {A = ℕ} 0 1 = cc in
-        omega arith
+    -- a factor that is allowed is not refused
+    -- the factor is allowed
+    fair : allowed f ≡ true
+    fair = not-false (allowed f) (subst (λ x. clipBad x ≡ false) e (asks .good))
 
     -- at 1.0 there is no 14
-    pub tight-one : judgeOf f ≡ One → false ≡ tooTight clip n b
-    tight-one j = rw e (sym (loose-one f n b (one-is f j .1)))
+    pub tight-one : isOne f ≡ true → false ≡ tooTight clip n b
+    tight-one q = rw e (sym (loose-one f n b q))
 
-    pub footer-one : judgeOf f ≡ One
+    pub footer-one : isOne f ≡ true
         → _≡_ {A = Footer} (record { limit = 0; asked = ofBits binary32 1065353216; used = ofBits binary64 4607182418800017408 }) (footerOf clip n b)
     unfolding footerOf ofBits
-    footer-one j = rw (e, one-is f j .1) refl
+    footer-one q = rw (e, q) refl
 
-    pub limit-asks : judgeOf f ≡ Above → LimitAsks f n b
-    limit-asks j = record { good = above-is f j .0; pixels = asks .pixels; least = asks .least; most = asks .most }
+    pub limit-asks : LimitAsks f n b
+    limit-asks = record { good = fair; pixels = asks .pixels; least = asks .least; most = asks .most }
 
     -- above 1.0 it is the limit times the bins that decides
-    pub tight-above : {l : ℕ} → judgeOf f ≡ Above → l ≡ limitOf f n b → ltb (l * b) n ≡ tooTight clip n b
-    tight-above j q = rw (e, q) (sym (tight-factor f n b (above-is f j .1)))
+    pub tight-above : {l : ℕ} → isOne f ≡ false → l ≡ limitOf f n b → ltb (l * b) n ≡ tooTight clip n b
+    tight-above q p = rw (e, p) (sym (tight-factor f n b q))
 
-    pub footer-above : {l : ℕ} {u : Float} → judgeOf f ≡ Above → l ≡ limitOf f n b → u ≡ usedOf l b n
+    pub footer-above : {l : ℕ} {u : Float} → isOne f ≡ false → l ≡ limitOf f n b → u ≡ usedOf l b n
         → _≡_ {A = Footer} (record { limit = l; asked = f; used = u }) (footerOf clip n b)
     unfolding footerOf
-    footer-above j q r = rw (r, q, e, above-is f j .1) refl
+    footer-above q p r = rw (r, p, e, q) refl
 
-    pub used-asks : {l : ℕ} → judgeOf f ≡ Above → l ≡ limitOf f n b → UsedAsks l b
-    used-asks j q = record { exact = rw q (limit-room f n b (above-is f j .0) (asks .pixels) (asks .least) (asks .most)) }
+    pub used-asks : {l : ℕ} → l ≡ limitOf f n b → UsedAsks l b
+    used-asks q = record { exact = rw q (limit-room f n b fair (asks .pixels) (asks .least) (asks .most)) }
+
+-- the footer of a film with a factor that is not 1.0 shows the limit
+pub foot-limit : (w h : ℕ) (s : Settings) {f : Float} → s .clip ≡ Factor f → clipOne (s .clip) ≡ false → footOf w h s .limit ≡ limitOf f (pixelsIn w h s 0) (binsOf s)
+unfolding footOf footerOf
+foot-limit w h s {f} e o = let one : isOne f ≡ false = sym (ap clipOne e) ∙ o in rw (e, one) refl
+
+-- the footer of a film, by its clip setting, its first tile's pixels and its bins
+pub foot-is : (w h : ℕ) (s : Settings) → footerOf (s .clip) (pixelsIn w h s 0) (binsOf s) ≡ footOf w h s
+unfolding footOf
+foot-is w h s = refl

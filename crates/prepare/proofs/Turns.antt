@@ -3,7 +3,7 @@
 use Prim.Native.Nat.{ℕ, _+_, _*_, _≤_, _<_}
 use mathlib.Core.List.{List}
 use mathlib.Core.Path.{_≡_, refl, ap, _∙_}
-use native.Mathlib.Nat.{mul-le-mul, mul-le-mul-right}
+use native.Mathlib.Nat.{mul-le-mul-right}
 use native.Mathlib.Omega.{arith}
 use lib.ListN.{length, drop}
 use Rattle.lists.specs.Lists.{blocks, filled}
@@ -14,10 +14,6 @@ use Rattle.settings.specs.declared.Settings.{Settings}
 use Rattle.settings.specs.Settings.{binsOf}
 use Rattle.prepare.specs.Prepare.{tileMap, mappings, TilesAsk, TileAsks, TileDone, TilesDone}
 use Rattle.prepare.proofs.Films.{length-tile-map}
-
--- the tiles are at most 256
-pub tiles-most : {w h : ℕ} {pic : List ℕ} {s : Settings} {room scratch : ℕ} → TilesAsk w h pic s room scratch → s .across * s .down ≤ 256
-tiles-most asks = mul-le-mul (asks .work .ready .acrossmost) (asks .work .ready .downmost)
 
 -- before tile k: the mappings of the tiles before it are laid down, and the scratch behind its first B entries is as it was
 pub record Laid (w h : ℕ) (pic : List ℕ) (s : Settings) (m₀ m t₀ t : List ℕ) (k : ℕ) : Type 0 where

@@ -21,39 +21,53 @@ use Rattle.tile.specs.Tile.{tileMapping}
 use Rattle.settings.specs.declared.Settings.{Settings}
 use Rattle.settings.specs.declared.MapRecord.{MapRecord}
 use Rattle.settings.specs.declared.Footer.{Footer}
-use Rattle.settings.specs.Settings.{binsOf, recordOf, tileWidth, tileHeight, tilePixels, clipBad, clipOne, sharedRows, Ready}
+use Rattle.settings.specs.Settings.{binsOf, recordOf, clipBad, clipOne, sharedRows, Tiled, Ready}
 use Rattle.render.specs.Render.{renderOf, whole}
 use Rattle.prepare.specs.declared.Prepared.{Prepared}
 use Rattle.prepare.specs.declared.Prepared.the-variants as Prepared
 use Rattle.prepare.specs.declared.Enhanced.{Enhanced}
 use Rattle.prepare.specs.declared.Enhanced.the-variants as Enhanced
 
--- tile k of a film, "tiles row by row"
-unfoldable pub tileRect : ℕ → ℕ → Settings → ℕ → Rect
-tileRect w h s k =
-    record {
-      left = k % s .across * tileWidth w s;
-      top = k / s .across * tileHeight h s;
-      width = tileWidth w s;
-      height = tileHeight h s;
-    }
+-- tile k of a film, "tiles row by row": "tw and th are tile width and height"
+unfoldable pub tileRect : ℕ → ℕ → ℕ → ℕ → ℕ → Rect
+tileRect w h across down k =
+    record { left = k % across * (w / across); top = k / across * (h / down); width = w / across; height = h / down }
+
+-- its pixels, "N = tw x th"
+unfoldable pub tilePixels : ℕ → ℕ → ℕ → ℕ → ℕ → ℕ
+tilePixels w h across down k = tileRect w h across down k .width * tileRect w h across down k .height
+
+-- tile k of a film with these settings
+abbrev pub tileOf : ℕ → ℕ → Settings → ℕ → Rect
+tileOf w h s k = tileRect w h (s .across) (s .down) k
+
+-- and its pixels
+abbrev pub pixelsIn : ℕ → ℕ → Settings → ℕ → ℕ
+pixelsIn w h s k = tilePixels w h (s .across) (s .down) k
 
 -- the mapping of tile k, from that tile's own pixels
 unfoldable pub tileMap : ℕ → ℕ → List ℕ → Settings → ℕ → List ℕ
-tileMap w h pic s k = tileMapping (s .min) (s .max) (binsOf s) (s .clip) (greysOf pic w (tileRect w h s k))
+tileMap w h pic s k = tileMapping (s .min) (s .max) (binsOf s) (s .clip) (greysOf pic w (tileOf w h s k))
 
 -- "the mappings, tiles row by row, bins upward"
 unfoldable pub mappings : ℕ → ℕ → List ℕ → Settings → List ℕ
 mappings w h pic s = joined (s .across * s .down) (tileMap w h pic s)
 
--- "Prepare and enhance: 1 to 14 upward": 12 "scratch shorter than B", 13 "a pixel outside Min to Max"
+-- 12 and 13: "scratch shorter than B", "a pixel outside Min to Max"
+unfoldable pub lentRows : List ℕ → Settings → ℕ → List Row
+lentRows pic s scratch = row 12 (ltb scratch (binsOf s)) ∷ row 13 (not (all (within (s .min) (s .max)) pic)) ∷ []
+
+-- 14: "factor above 1.0 and L x B < N", which is the same of every tile
+unfoldable pub tightRows : ℕ → ℕ → Settings → List Row
+tightRows w h s = row 14 (tooTight (s .clip) (pixelsIn w h s 0) (binsOf s)) ∷ []
+
+-- 12 to 14
+unfoldable pub workRows : ℕ → ℕ → List ℕ → Settings → ℕ → List Row
+workRows w h pic s scratch = lentRows pic s scratch ++ tightRows w h s
+
+-- "Prepare and enhance: 1 to 14 upward"
 unfoldable pub prepareRows : ℕ → ℕ → List ℕ → Settings → ℕ → ℕ → List Row
-prepareRows w h pic s room scratch =
-    sharedRows w h (length pic) s room
-    ++ (row 12 (ltb scratch (binsOf s))
-    ∷ row 13 (not (all (within (s .min) (s .max)) pic))
-    ∷ row 14 (tooTight (s .clip) (tilePixels w h s) (binsOf s))
-    ∷ [])
+prepareRows w h pic s room scratch = sharedRows w h (length pic) s room ++ workRows w h pic s scratch
 
 -- ---- the answers
 
@@ -82,6 +96,10 @@ footerOf (Factor f) n b =
     cond (isOne f) (record { limit = 0; asked = one; used = one })
     (record { limit = limitOf f n b; asked = f; used = usedOf (limitOf f n b) b n })
 
+-- the footer of a film: its tiles have the pixels of the first
+unfoldable pub footOf : ℕ → ℕ → Settings → Footer
+footOf w h s = footerOf (s .clip) (pixelsIn w h s 0) (binsOf s)
+
 -- ---- prepare
 
 -- what prepare leaves: its answer, the map buffer and the scratch
@@ -99,7 +117,7 @@ ending r m t = record { answer = r; map = m; scratch = t }
 unfoldable pub preparedOf : ℕ → ℕ → ℕ → List ℕ → Settings → List ℕ → List ℕ → Ended
 preparedOf film w h pic s m t =
     record {
-      answer = Prepared.Done (recordOf film w h s) (footerOf (s .clip) (tilePixels w h s) (binsOf s));
+      answer = Prepared.Done (recordOf film w h s) (footOf w h s);
       map = cond (clipOne (s .clip)) m (onto m (mappings w h pic s));
       scratch = cond (clipOne (s .clip)) t (filled (λ k. 0) t (binsOf s));
     }
@@ -126,7 +144,7 @@ overing r pic m t = record { answer = r; picture = pic; map = m; scratch = t }
 unfoldable pub enhancedOf : ℕ → ℕ → List ℕ → Settings → List ℕ → List ℕ → Over
 enhancedOf w h pic s m t =
     record {
-      answer = Enhanced.Done (footerOf (s .clip) (tilePixels w h s) (binsOf s));
+      answer = Enhanced.Done (footOf w h s);
       picture = cond (clipOne (s .clip)) pic (renderOf w h s (mappings w h pic s) (whole w h) pic);
       map = cond (clipOne (s .clip)) m (onto m (mappings w h pic s));
       scratch = cond (clipOne (s .clip)) t (filled (λ k. 0) t (binsOf s));
@@ -138,6 +156,17 @@ enhanceOf w h pic s m t =
     unless (first (prepareRows w h pic s (length m) (length t))) (λ n. overing (Enhanced.Refused n) pic m t) (enhancedOf w h pic s m t)
 
 -- ---- what the functions below ask
+
+-- what a tile's rectangle asks: a grid of which tile k is one
+pub record RectAsks (across down k : ℕ) : Type 0 where
+  pub columns : 0 < across
+  pub rows : 0 < down
+  pub tile : k < 256
+
+-- what the footer and the search for 12 to 14 ask: settings of which none is refused
+pub record FilmAsks (w h : ℕ) (s : Settings) : Type 0 where
+  pub tiled : Tiled w h s
+  pub fair : clipBad (s .clip) ≡ false
 
 -- a clip setting that is not refused, and a tile's sizes as document 01 has them
 pub record TightAsks (clip : Clip) (n b : ℕ) : Type 0 where
@@ -151,7 +180,7 @@ pub record Work (w h : ℕ) (pic : List ℕ) (s : Settings) (room scratch : ℕ)
   pub ready : Ready w h (length pic) s room
   pub bins : binsOf s ≤ scratch
   pub greys : all (within (s .min) (s .max)) pic ≡ true
-  pub loose : tooTight (s .clip) (tilePixels w h s) (binsOf s) ≡ false
+  pub loose : tooTight (s .clip) (pixelsIn w h s 0) (binsOf s) ≡ false
 
 -- what `map_tiles` asks: that, and a factor that is not 1.0
 pub record TilesAsk (w h : ℕ) (pic : List ℕ) (s : Settings) (room scratch : ℕ) : Type 0 where

@@ -1,12 +1,12 @@
 // The calls prepare and enhance: the tile mappings of a film, and the whole film rendered in place.
 ghost use mathlib.Core.Path.{_≡_};
-ghost use Prim.Native.Nat.{_<_};
+ghost use Prim.Native.Nat.{_<_, _*_};
 ghost use lib.ListN.{length};
 ghost use Rattle.limit.specs.Limit.{tooTight};
 ghost use Rattle.refuse.specs.Refuse.{first};
-ghost use Rattle.prepare.specs.Prepare.{prepareRows, footerOf, tileRect, prepareOf, enhanceOf, ending, overing, TightAsks, TileAsks, TilesAsk, TileDone, TilesDone};
+ghost use Rattle.settings.specs.Settings.{Tiled};
+ghost use Rattle.prepare.specs.Prepare.{workRows, prepareRows, footerOf, footOf, tileRect, pixelsIn, prepareOf, enhanceOf, ending, overing, RectAsks, FilmAsks, TightAsks, TileAsks, TilesAsk, TileDone, TilesDone};
 use limit::Clip;
-use limit::Judged;
 use settings::Footer;
 use settings::MapRecord;
 use settings::Settings;
@@ -33,21 +33,17 @@ fn too_tight(clip: Clip, pixels: u32, bins: u32) -> bool
     match clip {
         Clip::Off => false,
         Clip::Factor(f) => {
-            let judged = limit::judge(f);
-            match judged {
-                Judged::Refused => false,
-                Judged::One => false,
-                Judged::Above => {
-                    let limit = limit::limit(f, pixels, bins);
-                    (limit as u64) * (bins as u64) < (pixels as u64)
-                }
+            if settings::clip_one(clip) {
+                return false;
             }
+            let limit = limit::limit(f, pixels, bins);
+            (limit as u64) * (bins as u64) < (pixels as u64)
         }
     }
 }
 
 // The footer of a film whose tiles have `pixels` pixels.
-fn footer(clip: Clip, pixels: u32, bins: u32) -> Footer
+pub fn footer(clip: Clip, pixels: u32, bins: u32) -> Footer
     requires { ⌜ TightAsks clip pixels bins ⌝ }
     ensures { λ r. ⌜ r ≡ footerOf clip pixels bins ⌝ }
 {
@@ -58,30 +54,77 @@ fn footer(clip: Clip, pixels: u32, bins: u32) -> Footer
             used: 0.0,
         },
         Clip::Factor(f) => {
-            let judged = limit::judge(f);
-            match judged {
-                Judged::Refused => Footer {
-                    limit: 0,
-                    asked: 0.0,
-                    used: 0.0,
-                },
-                Judged::One => Footer {
+            if settings::clip_one(clip) {
+                return Footer {
                     limit: 0,
                     asked: 1.0,
                     used: 1.0,
-                },
-                Judged::Above => {
-                    let limit = limit::limit(f, pixels, bins);
-                    let used = limit::used(limit, bins, pixels);
-                    Footer {
-                        limit,
-                        asked: f,
-                        used,
-                    }
-                }
+                };
+            }
+            let limit = limit::limit(f, pixels, bins);
+            let used = limit::used(limit, bins, pixels);
+            Footer {
+                limit,
+                asked: f,
+                used,
             }
         }
     }
+}
+
+// The rectangle of tile k.
+pub fn tile_rect(width: u32, height: u32, across: u32, down: u32, k: usize) -> Rect
+    requires { ⌜ RectAsks across down k ⌝ }
+    ensures { λ r. ⌜ r ≡ tileRect width height across down k ⌝ }
+{
+    let columns = across as usize;
+    let w = (width / across) as usize;
+    let h = (height / down) as usize;
+    Rect {
+        left: k % columns * w,
+        top: k / columns * h,
+        width: w,
+        height: h,
+    }
+}
+
+// The pixels of tile k.
+pub fn tile_pixels(width: u32, height: u32, s: Settings, k: usize) -> u32
+    requires { ⌜ Tiled width height s × (k < s .across * s .down) ⌝ }
+    ensures { λ r. ⌜ r ≡ pixelsIn width height s k ⌝ }
+{
+    let rect = tile_rect(width, height, s.across, s.down, k);
+    (rect.width * rect.height) as u32
+}
+
+// The footer of a film.
+pub fn foot(width: u32, height: u32, s: Settings) -> Footer
+    requires { ⌜ FilmAsks width height s ⌝ }
+    ensures { λ r. ⌜ r ≡ footOf width height s ⌝ }
+{
+    let clip = s.clip;
+    let pixels = tile_pixels(width, height, s, 0);
+    footer(clip, pixels, settings::bins(s))
+}
+
+// The first of the refusals 12 to 14 that applies, else 0.
+fn work_refusal(width: u32, height: u32, picture: &[u16], s: Settings, scratch: usize) -> u32
+    requires { ⌜ FilmAsks width height s ⌝ }
+    ensures { λ r. ⌜ r ≡ first (workRows width height (now (picture .entry)) s scratch) ⌝ }
+{
+    let bins = settings::bins(s);
+    if scratch < (bins as usize) {
+        return 12;
+    }
+    if !scan::all_within(picture, s.min, s.max) {
+        return 13;
+    }
+    let clip = s.clip;
+    let pixels = tile_pixels(width, height, s, 0);
+    if too_tight(clip, pixels, bins) {
+        return 14;
+    }
+    0
 }
 
 // The first of the refusals 1 to 14 that applies, else 0.
@@ -99,35 +142,7 @@ fn refusal(
     if shared != 0 {
         return shared;
     }
-    let bins = settings::bins(s);
-    if scratch < (bins as usize) {
-        return 12;
-    }
-    if !scan::all_within(picture, s.min, s.max) {
-        return 13;
-    }
-    let clip = s.clip;
-    let pixels = (width / s.across) * (height / s.down);
-    if too_tight(clip, pixels, bins) {
-        return 14;
-    }
-    0
-}
-
-// The rectangle of tile k.
-fn tile_rect(width: u32, height: u32, s: Settings, k: usize) -> Rect
-    requires { ⌜ (0 < s .across) × (0 < s .down) × (k < 256) ⌝ }
-    ensures { λ r. ⌜ r ≡ tileRect width height s k ⌝ }
-{
-    let across = s.across as usize;
-    let w = (width / s.across) as usize;
-    let h = (height / s.down) as usize;
-    Rect {
-        left: k % across * w,
-        top: k / across * h,
-        width: w,
-        height: h,
-    }
+    work_refusal(width, height, picture, s, scratch)
 }
 
 // Makes the mapping of tile k, in its place in the map buffer.
@@ -143,7 +158,7 @@ fn map_tile(
     requires { ⌜ TileAsks width height (now picture) s k (length (now map)) (length (now scratch)) ⌝ }
     ensures { λ _. ⌜ TileDone width height (now (picture .entry)) s k (now (map .entry)) (now (map .exit)) (now (scratch .entry)) (now (scratch .exit)) ⌝ }
 {
-    let rect = tile_rect(width, height, s, k);
+    let rect = tile_rect(width, height, s.across, s.down, k);
     let clip = s.clip;
     let bins = settings::bins(s);
     let each = bins as usize;
@@ -201,8 +216,7 @@ pub fn prepare(
         return Prepared::Refused(refused);
     }
     let clip = s.clip;
-    let pixels = (width / s.across) * (height / s.down);
-    let foot = footer(clip, pixels, settings::bins(s));
+    let foot = foot(width, height, s);
     let kept = settings::kept(s);
     let record = MapRecord {
         film,
@@ -233,8 +247,7 @@ pub fn enhance(
         return Enhanced::Refused(refused);
     }
     let clip = s.clip;
-    let pixels = (width / s.across) * (height / s.down);
-    let foot = footer(clip, pixels, settings::bins(s));
+    let foot = foot(width, height, s);
     let unchanged = settings::clip_one(clip);
     if unchanged {
         return Enhanced::Done(foot);

@@ -12,16 +12,16 @@ use Rattle.settings.specs.declared.Settings.{Settings}
 use Rattle.settings.specs.declared.MapRecord.{MapRecord}
 use Rattle.settings.specs.declared.Footer.{Footer}
 use Rattle.settings.specs.declared.Window.{Window}
-use Rattle.settings.specs.Settings.{binsOf, recordOf, tilePixels, clipOne}
+use Rattle.settings.specs.Settings.{binsOf, recordOf, clipOne}
 use Rattle.render.specs.Render.{renderOf, rectOf}
 use Rattle.prepare.specs.declared.Prepared.the-variants as Prepared
 use Rattle.prepare.specs.declared.Enhanced.the-variants as Enhanced
-use Rattle.prepare.specs.Prepare.{prepareRows, preparedSays, enhancedSays, footerOf, Ended, ending, preparedOf, prepareOf, Over, overing, enhancedOf, enhanceOf, Work}
+use Rattle.prepare.specs.Prepare.{prepareRows, preparedSays, enhancedSays, footOf, Ended, ending, preparedOf, prepareOf, Over, overing, enhancedOf, enhanceOf, Work}
 use Rattle.prepare.proofs.Table.{work}
 use Rattle.prepare.proofs.Endings.{ends-refused, ends-done}
 use Rattle.prepare.proofs.Renders.{over-refused, over-done}
 use Rattle.draw.specs.declared.Drawn.the-variants as Drawn
-use Rattle.draw.specs.Draw.{drawRows, drawnSays, Shows, showing, drawOf}
+use Rattle.draw.specs.Draw.{drawnPixels, drawRows, drawnSays, Shows, showing, drawOf}
 use Rattle.draw.proofs.Works.{ends-well}
 use Rattle.draw.proofs.Works.{ends-refused as drawn-refused}
 
@@ -82,7 +82,7 @@ module _ {Y A : Type 0} {said : Y → Says A} {n : ℕ} {v : A} {done : Y} {lent
 module _ (film w h : ℕ) (pic : List ℕ) (s : Settings) (m t : List ℕ) where
   -- prepare goes by the rows 1 to 14
   pub prepare-table : ByTable (λ (x : Ended). preparedSays (x .answer)) (first (prepareRows w h pic s (length m) (length t)))
-      (recordOf film w h s, footerOf (s .clip) (tilePixels w h s) (binsOf s)) (preparedOf film w h pic s m t) (λ k. ending (Prepared.Refused k) m t) (prepareOf film w h pic s m t)
+      (recordOf film w h s, footOf w h s) (preparedOf film w h pic s m t) (λ k. ending (Prepared.Refused k) m t) (prepareOf film w h pic s m t)
   unfolding preparedOf preparedSays
   prepare-table =
       record {
@@ -110,7 +110,7 @@ module _ (film w h : ℕ) (pic : List ℕ) (s : Settings) (m t : List ℕ) where
     prepare-record = ap (λ (x : MapRecord × Footer). x .0) (table-accepted prepare-table done .1)
 
     -- and the footer
-    pub prepare-foot : footerOf (s .clip) (tilePixels w h s) (binsOf s) ≡ foot
+    pub prepare-foot : footOf w h s ≡ foot
     prepare-foot = ap (λ (x : MapRecord × Footer). x .1) (table-accepted prepare-table done .1)
 
 -- ---- enhance
@@ -118,7 +118,7 @@ module _ (film w h : ℕ) (pic : List ℕ) (s : Settings) (m t : List ℕ) where
 module _ (w h : ℕ) (pic : List ℕ) (s : Settings) (m t : List ℕ) where
   -- enhance goes by the same rows
   pub enhance-table : ByTable (λ (x : Over). enhancedSays (x .answer)) (first (prepareRows w h pic s (length m) (length t)))
-      (footerOf (s .clip) (tilePixels w h s) (binsOf s)) (enhancedOf w h pic s m t) (λ k. overing (Enhanced.Refused k) pic m t) (enhanceOf w h pic s m t)
+      (footOf w h s) (enhancedOf w h pic s m t) (λ k. overing (Enhanced.Refused k) pic m t) (enhanceOf w h pic s m t)
   unfolding enhancedOf enhancedSays
   enhance-table =
       record {
@@ -138,7 +138,7 @@ module _ (w h : ℕ) (pic : List ℕ) (s : Settings) (m t : List ℕ) where
     enhance-done = table-done enhance-table done
 
     -- the footer that is handed back
-    pub enhance-foot : footerOf (s .clip) (tilePixels w h s) (binsOf s) ≡ foot
+    pub enhance-foot : footOf w h s ≡ foot
     enhance-foot = table-accepted enhance-table done .1
 
 -- ---- draw
@@ -146,7 +146,7 @@ module _ (w h : ℕ) (pic : List ℕ) (s : Settings) (m t : List ℕ) where
 module _ (film w h : ℕ) (pic : List ℕ) (s : Settings) (r : MapRecord) (win : Window) (m out : List ℕ) where
   -- draw goes by its own
   pub draw-table : ByTable (λ (x : Shows). drawnSays (x .answer)) (first (drawRows film w h pic s r win m (length out))) tt
-      (showing Drawn.Done (cond (clipOne (s .clip)) (greysOf pic w (rectOf win)) (renderOf w h s m win (greysOf pic w (rectOf win)))))
+      (showing Drawn.Done (drawnPixels w h pic s win m))
       (λ k. showing (Drawn.Refused k) out) (drawOf film w h pic s r win m out)
   unfolding drawnSays
   draw-table =

@@ -11,14 +11,14 @@ use Rattle.refuse.specs.Refuse.{first, accepted, refused}
 use Rattle.tile.specs.Tile.{mappedOf}
 use Rattle.settings.specs.declared.MapRecord.{MapRecord}
 use Rattle.settings.specs.declared.Footer.{Footer}
-use Rattle.settings.specs.Settings.{binsOf, entriesOf, keptOf, tilePixels, clipOne, sameClip, sharedRows}
-use Rattle.prepare.specs.Prepare.{preparedSays, enhancedSays, Ended, prepareOf, Over, overing, enhanceOf}
+use Rattle.settings.specs.Settings.{binsOf, entriesOf, keptOf, clipOne, sameClip, sharedRows}
+use Rattle.prepare.specs.Prepare.{pixelsIn, preparedSays, enhancedSays, Ended, prepareOf, Over, overing, enhanceOf}
 use Rattle.draw.specs.Draw.{drawRows, drawnSays, Shows, showing, drawOf, Held}
 use Rattle.draw.proofs.Laws.{other-field}
 use Rattle.draw.proofs.Tables.{draw-ready}
 use Rattle.promises.specs.Films.{clippedCounts, ruleGrey, HandedOn}
 use Rattle.promises.proofs.Accepted.{refused-says, prepare-record}
-use Rattle.promises.proofs.Handed.{enhance-kept}
+use Rattle.prepare.proofs.Like.{enhance-kept}
 use Rattle.promises.proofs.Reuse.{left-settings}
 use Rattle.promises.proofs.Demand1.{draw-refusal-keeps, draw-says}
 use Rattle.promises.proofs.Demand2.{own-mapping, own-mapping-enhance, own-rendering, own-pixels, enhance-agrees, draw-agrees}
@@ -106,7 +106,7 @@ module _ {e : EnhanceCall} {foot : Footer} (ran : Enhances e) (enhanced : enhanc
   -- "the same buffers": each tile's own mapping lies in the map buffer
   pub enhanced-mapped-by-rule : clipOne (e .settings .clip) ≡ false → (k b : ℕ) → k < e .settings .across * e .settings .down → b < binsOf (e .settings)
       → getD (e .map′) (k * binsOf (e .settings) + b) 0
-      ≡ mappedOf (e .settings .min) (e .settings .max) (tilePixels (e .width) (e .height) (e .settings)) (clippedCounts (e .width) (e .height) (e .pixels) (e .settings) k) b
+      ≡ mappedOf (e .settings .min) (e .settings .max) (pixelsIn (e .width) (e .height) (e .settings) k) (clippedCounts (e .width) (e .height) (e .pixels) (e .settings) k) b
   enhanced-mapped-by-rule one k b l q =
       ap (λ (z : Over). getD (z .map) (k * binsOf (e .settings) + b) 0) (enhance-ends ran) ∙ own-mapping-enhance _ _ _ _ (e .map) (e .scratch) over one k b l q
 
@@ -124,7 +124,7 @@ module _ {p : PrepareCall} {r : MapRecord} {foot : Footer} (ran : Prepares p) (p
   -- each tile's own mapping lies in the map buffer
   pub prepared-by-rule : clipOne (p .settings .clip) ≡ false → (k b : ℕ) → k < p .settings .across * p .settings .down → b < binsOf (p .settings)
       → getD (p .map′) (k * binsOf (p .settings) + b) 0
-      ≡ mappedOf (p .settings .min) (p .settings .max) (tilePixels (p .width) (p .height) (p .settings)) (clippedCounts (p .width) (p .height) (p .pixels) (p .settings) k) b
+      ≡ mappedOf (p .settings .min) (p .settings .max) (pixelsIn (p .width) (p .height) (p .settings) k) (clippedCounts (p .width) (p .height) (p .pixels) (p .settings) k) b
   prepared-by-rule one k b l q =
       ap (λ (z : Ended). getD (z .map) (k * binsOf (p .settings) + b) 0) (prepare-ends ran) ∙ own-mapping _ _ _ _ _ _ _ done one k b l q
 

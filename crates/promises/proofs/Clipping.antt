@@ -7,15 +7,14 @@ use mathlib.Core.Path.{_≡_, refl, sym, ap, _∙_}
 use lib.Ieee.{Float}
 use lib.ListN.{length}
 use Rattle.refuse.specs.Refuse.{row, first, accepted, refused}
-use Rattle.limit.specs.declared.Clip.the-variants.{Factor}
 use Rattle.limit.specs.declared.Judged.{Judged}
-use Rattle.limit.specs.declared.Judged.the-variants.{Refused, One, Above}
+use Rattle.limit.specs.declared.Judged.the-variants as Judged
 use Rattle.limit.specs.Limit.{judgedNumber, judgedSays}
-use Rattle.limit.proofs.Laws.{one-accepted, judged-exactly}
+use Rattle.limit.proofs.Laws.{one-allowed, judged-exactly}
 use Rattle.settings.specs.declared.MapRecord.{MapRecord}
 use Rattle.settings.specs.declared.Footer.{Footer}
-use Rattle.settings.specs.Settings.{binsOf, tilePixels, clipBad}
-use Rattle.prepare.specs.Prepare.{preparedSays, enhancedSays, Ended, prepareOf, Over, enhanceOf}
+use Rattle.settings.specs.Settings.{binsOf, clipBad}
+use Rattle.prepare.specs.Prepare.{pixelsIn, preparedSays, enhancedSays, Ended, prepareOf, Over, enhanceOf}
 use Rattle.promises.specs.Films.{ClippingOn, ClipCase, FooterShows, FilmSound, earlierRows, FilmFilling}
 use Rattle.promises.proofs.Accepted.{says-refused, refused-says, prepare-work, enhance-work}
 use Rattle.promises.proofs.Demand1.{prepare-says, enhance-says}
@@ -30,7 +29,7 @@ module _ {p : PrepareCall} {r : MapRecord} {foot : Footer} (ran : Prepares p) (d
   prepared = sym (ap (λ (z : Ended). preparedSays (z .answer)) (prepare-ends ran)) ∙ done
 
   -- "a footer record with L, the factor asked as f32 and the factor used as f64": what it shows, by the clip setting
-  pub prepared-footer : FooterShows (p .settings .clip) (tilePixels (p .width) (p .height) (p .settings)) (binsOf (p .settings)) foot
+  pub prepared-footer : FooterShows (p .settings .clip) (pixelsIn (p .width) (p .height) (p .settings) 0) (binsOf (p .settings)) foot
   prepared-footer = footer-shows _ _ _ _ _ (p .map) (p .scratch) prepared
 
   -- which is off, exactly 1.0, or a factor above one
@@ -49,7 +48,7 @@ module _ {e : EnhanceCall} {foot : Footer} (ran : Enhances e) (done : enhancedSa
   enhanced = sym (ap (λ (z : Over). enhancedSays (z .answer)) (enhance-ends ran)) ∙ done
 
   -- "the same .. footer"
-  pub enhanced-footer : FooterShows (e .settings .clip) (tilePixels (e .width) (e .height) (e .settings)) (binsOf (e .settings)) foot
+  pub enhanced-footer : FooterShows (e .settings .clip) (pixelsIn (e .width) (e .height) (e .settings) 0) (binsOf (e .settings)) foot
   enhanced-footer = footer-shows-enhance _ _ _ _ (e .map) (e .scratch) enhanced
 
   -- by a clip setting that is off, exactly 1.0, or a factor above one
@@ -81,18 +80,19 @@ enhance-says-clip {e} ran on earlier =
     let law = clip-refusal (e .width) (e .height) (e .pixels) (e .settings) (length (e .map)) (length (e .scratch)) earlier on in
     ((λ q. law .0 (says-refused _ _ (sym (enhance-says ran) ∙ q))), (λ none. enhance-says ran ∙ refused-says _ _ (law .1 none)))
 
--- ---- the judgement of a factor
+-- ---- the judgement of a clip setting
 
--- what limit's judgement says of a factor is so: "factor NaN, infinite, below 1.0 or above 1024.0", "exactly 1.0", or above 1.0
-pub judge-says : {c : JudgeCall} → Judges c → judgedSays (c .answer) (c .factor)
-judge-says {c} ran = judged-exactly (c .factor) (c .answer) .0 (sym (judge-ends ran))
+-- what limit's judgement says of a clip setting is so: off, or a factor that is "NaN, infinite, below 1.0 or above 1024.0", "exactly 1.0", or above 1.0
+pub judge-says : {c : JudgeCall} → Judges c → judgedSays (c .answer) (c .clip)
+judge-says {c} ran = judged-exactly (c .clip) (c .answer) .0 (sym (judge-ends ran))
 
 -- and its number is that of the row of 10
-pub judge-number : {c : JudgeCall} → Judges c → judgedNumber (c .answer) ≡ first (row 10 (clipBad (Factor (c .factor))) ∷ [])
+pub judge-number : {c : JudgeCall} → Judges c → judgedNumber (c .answer) ≡ first (row 10 (clipBad (c .clip)) ∷ [])
 unfolding first
 judge-number {c} ran = go (c .answer) (judge-says ran)
   where
-    go : (j : Judged) → judgedSays j (c .factor) → judgedNumber j ≡ first (row 10 (clipBad (Factor (c .factor))) ∷ [])
-    go Refused s = rw s refl
-    go One s = rw (one-accepted (c .factor) s) refl
-    go Above s = rw (s .0) refl
+    go : (j : Judged) → judgedSays j (c .clip) → judgedNumber j ≡ first (row 10 (clipBad (c .clip)) ∷ [])
+    go Judged.Off s = rw s refl
+    go Judged.Refused s = rw (s .1, s .2) refl
+    go Judged.One s = rw (s .1, one-allowed (s .0) (s .2)) refl
+    go (Judged.Above f) s = rw (s .0, s .1) refl

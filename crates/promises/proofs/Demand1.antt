@@ -5,8 +5,8 @@ use Prim.Native.Nat.{ℕ}
 use mathlib.Core.Path.{_≡_, sym, ap, _∙_}
 use lib.ListN.{length}
 use Rattle.refuse.specs.Refuse.{first, refused, says}
-use Rattle.settings.specs.Settings.{binsOf, recordOf, tilePixels}
-use Rattle.prepare.specs.Prepare.{prepareRows, preparedSays, enhancedSays, footerOf, Ended, Over}
+use Rattle.settings.specs.Settings.{binsOf, recordOf}
+use Rattle.prepare.specs.Prepare.{prepareRows, preparedSays, enhancedSays, footOf, Ended, Over}
 use Rattle.draw.specs.Draw.{drawRows, drawnSays, Shows}
 use Rattle.promises.proofs.Accepted.{table-says, table-kept, prepare-table, enhance-table, draw-table}
 use Rattle.promises.proofs.Runs.{PrepareCall, Prepares, prepare-ends, EnhanceCall, Enhances, enhance-ends, DrawCall, Draws, draw-ends}
@@ -37,7 +37,7 @@ pub prepare-says : {p : PrepareCall} → Prepares p
     → preparedSays (p .answer)
     ≡ says (first (prepareRows (p .width) (p .height) (p .pixels) (p .settings) (length (p .map)) (length (p .scratch)))) (
       recordOf (p .film) (p .width) (p .height) (p .settings),
-      footerOf (p .settings .clip) (tilePixels (p .width) (p .height) (p .settings)) (binsOf (p .settings)),
+      footOf (p .width) (p .height) (p .settings),
     )
 prepare-says ran = ap (λ (y : Ended). preparedSays (y .answer)) (prepare-ends ran) ∙ table-says (prepare-table _ _ _ _ _ _ _)
 
@@ -45,7 +45,7 @@ prepare-says ran = ap (λ (y : Ended). preparedSays (y .answer)) (prepare-ends r
 pub enhance-says : {e : EnhanceCall} → Enhances e
     → enhancedSays (e .answer)
     ≡ says (first (prepareRows (e .width) (e .height) (e .pixels) (e .settings) (length (e .map)) (length (e .scratch))))
-    (footerOf (e .settings .clip) (tilePixels (e .width) (e .height) (e .settings)) (binsOf (e .settings)))
+    (footOf (e .width) (e .height) (e .settings))
 enhance-says ran = ap (λ (y : Over). enhancedSays (y .answer)) (enhance-ends ran) ∙ table-says (enhance-table _ _ _ _ _ _)
 
 -- draw's is that of draw's rows; where none applies there is no value to hand back

@@ -14,45 +14,32 @@ use Rattle.lists.proofs.Blocks.{block-fits}
 use Rattle.lists.proofs.Alls.{all-at}
 use Rattle.refuse.specs.Refuse.{first, accepted, says}
 use Rattle.scan.specs.Scan.{within}
-use Rattle.binning.specs.Binning.{binOf}
 use Rattle.tally.specs.Tally.{greysOf}
 use Rattle.tile.specs.Tile.{mappedOf}
-use Rattle.tile.proofs.Tiles.{getD-tile-mapping}
 use Rattle.settings.specs.declared.Settings.{Settings}
 use Rattle.settings.specs.declared.MapRecord.{MapRecord}
 use Rattle.settings.specs.declared.Footer.{Footer}
 use Rattle.settings.specs.declared.Window.{Window}
-use Rattle.settings.specs.Settings.{binsOf, entriesOf, tileWidth, tileHeight, tilePixels, clipOne}
-use Rattle.blend.specs.declared.Place.{Place}
-use Rattle.blend.specs.Blend.{placeOf, greyOf}
-use Rattle.render.specs.Render.{rectOf, mappedAt, pixelOf, renderedOf, renderOf, whole, PixelAsks}
-use Rattle.render.proofs.Pixels.{tile-index, pixel-bin}
-use Rattle.render.proofs.Rows.{pixel-asks}
+use Rattle.settings.specs.Settings.{binsOf, entriesOf, clipOne}
+use Rattle.render.specs.Render.{rectOf, renderedOf, renderOf, whole}
+use Rattle.render.proofs.Pixels.{tile-index}
 use Rattle.tally.proofs.Greys.{getD-greys}
-use Rattle.render.proofs.Laws.{render-at, window-law}
-use Rattle.prepare.specs.Prepare.{tileRect, tileMap, mappings, preparedSays, enhancedSays, Ended, prepareOf, preparedOf, Over, enhanceOf, enhancedOf, Work, TilesAsk}
-use Rattle.prepare.proofs.Films.{length-tile-greys, length-mappings, getD-mappings}
+use Rattle.render.proofs.Laws.{render-at, rendered-by, window-law}
+use Rattle.prepare.specs.Prepare.{pixelsIn, mappings, preparedSays, enhancedSays, Ended, prepareOf, preparedOf, Over, enhanceOf, enhancedOf, Work, TilesAsk}
+use Rattle.prepare.proofs.Table.{rows-any}
+use Rattle.prepare.proofs.Films.{length-mappings, mappings-own}
 use Rattle.prepare.proofs.Renders.{laid-mapped, laid-render}
 use Rattle.draw.specs.Draw.{drawRows, drawnSays, Shows, drawOf}
 use Rattle.promises.specs.Films.{clippedCounts, tileValue, ruleGrey, HandedOn}
 use Rattle.promises.proofs.Accepted.{table-says, prepare-accepts, prepare-work, prepare-done, prepare-foot, enhance-table, enhance-work, enhance-done, draw-table}
-use Rattle.promises.proofs.Handed.{draw-kept, draw-room}
-use Rattle.promises.proofs.Reuse.{rows-any, left-room, left-laid, left-asks, draw-free}
+use Rattle.draw.proofs.Like.{drawn-pixels, draw-kept, draw-room}
+use Rattle.promises.proofs.Reuse.{left-room, left-laid, left-asks, draw-free}
 
 -- ---- each tile's own mapping
 
--- the entry of tile k and bin b of the mappings
-pub mappings-own : (w h : ℕ) (pic : List ℕ) (s : Settings) (k b : ℕ) → k < s .across * s .down → b < binsOf s
-    → getD (mappings w h pic s) (k * binsOf s + b) 0 ≡ mappedOf (s .min) (s .max) (tilePixels w h s) (clippedCounts w h pic s k) b
-unfolding tileMap
-mappings-own w h pic s k b l q =
-    getD-mappings w h pic s k b l q
-    ∙ getD-tile-mapping (s .min) (s .max) (binsOf s) (s .clip) (greysOf pic w (tileRect w h s k)) b q
-    ∙ ap (λ n. mappedOf (s .min) (s .max) n (clippedCounts w h pic s k) b) (length-tile-greys w h pic s k)
-
--- and of a buffer that they were laid down in
+-- the entry of tile k and bin b of a buffer that the mappings were laid down in
 laid-own : (w h : ℕ) (pic : List ℕ) (s : Settings) (m : List ℕ) (k b : ℕ) → k < s .across * s .down → b < binsOf s
-    → getD (onto m (mappings w h pic s)) (k * binsOf s + b) 0 ≡ mappedOf (s .min) (s .max) (tilePixels w h s) (clippedCounts w h pic s k) b
+    → getD (onto m (mappings w h pic s)) (k * binsOf s + b) 0 ≡ mappedOf (s .min) (s .max) (pixelsIn w h s k) (clippedCounts w h pic s k) b
 unfolding onto
 laid-own w h pic s m k b l q =
     List·getD-append (mappings w h pic s) _ 0 (k * binsOf s + b)
@@ -63,7 +50,7 @@ laid-own w h pic s m k b l q =
 -- is the mapped value of that tile's own clipped counts, for every tile and bin
 pub own-mapping : (film w h : ℕ) (pic : List ℕ) (s : Settings) (m t : List ℕ) {r : MapRecord} {foot : Footer}
     → preparedSays (prepareOf film w h pic s m t .answer) ≡ accepted (r, foot) → clipOne (s .clip) ≡ false → (k b : ℕ) → k < s .across * s .down → b < binsOf s
-    → getD (prepareOf film w h pic s m t .map) (k * binsOf s + b) 0 ≡ mappedOf (s .min) (s .max) (tilePixels w h s) (clippedCounts w h pic s k) b
+    → getD (prepareOf film w h pic s m t .map) (k * binsOf s + b) 0 ≡ mappedOf (s .min) (s .max) (pixelsIn w h s k) (clippedCounts w h pic s k) b
 unfolding preparedOf
 own-mapping film w h pic s m t e one k b l q =
     ap (λ (x : Ended). getD (x .map) (k * binsOf s + b) 0) (prepare-done film w h pic s m t e)
@@ -73,7 +60,7 @@ own-mapping film w h pic s m t e one k b l q =
 -- the same of the map entries that enhance leaves
 pub own-mapping-enhance : (w h : ℕ) (pic : List ℕ) (s : Settings) (m t : List ℕ) {foot : Footer}
     → enhancedSays (enhanceOf w h pic s m t .answer) ≡ accepted foot → clipOne (s .clip) ≡ false → (k b : ℕ) → k < s .across * s .down → b < binsOf s
-    → getD (enhanceOf w h pic s m t .map) (k * binsOf s + b) 0 ≡ mappedOf (s .min) (s .max) (tilePixels w h s) (clippedCounts w h pic s k) b
+    → getD (enhanceOf w h pic s m t .map) (k * binsOf s + b) 0 ≡ mappedOf (s .min) (s .max) (pixelsIn w h s k) (clippedCounts w h pic s k) b
 unfolding enhancedOf
 own-mapping-enhance w h pic s m t e one k b l q =
     ap (λ (x : Over). getD (x .map) (k * binsOf s + b) 0) (enhance-done w h pic s m t e)
@@ -86,31 +73,10 @@ own-mapping-enhance w h pic s m t e one k b l q =
 laid-grey : (m : List ℕ) {w h : ℕ} {pic : List ℕ} {s : Settings} {scratch : ℕ} → TilesAsk w h pic s (length m) scratch → (x y : ℕ) → x < w → y < h
     → within (s .min) (s .max) (getD pic (y * w + x) 0) ≡ true
     → renderedOf w h s (onto m (mappings w h pic s)) x y (getD pic (y * w + x) 0) ≡ ruleGrey w h pic s x y
-unfolding renderedOf pixelOf mappedAt ruleGrey tileValue
+unfolding ruleGrey tileValue
 laid-grey m {w} {h} {pic} {s} asks x y l k g =
-    ap₂ (λ a b. greyOf column row a b (old (row .upper) (column .lower)) (old (row .upper) (column .upper))) (same (places .row .lower) (places .column .lower)) (same (places .row .lower) (places .column .upper))
-    ∙ ap₂ (greyOf column row (new (row .lower) (column .lower)) (new (row .lower) (column .upper))) (same (places .row .upper) (places .column .lower)) (same (places .row .upper) (places .column .upper))
-  where
-    column : Place
-    column = placeOf (tileWidth w s) (s .across) x
-
-    row : Place
-    row = placeOf (tileHeight h s) (s .down) y
-
-    bin : ℕ
-    bin = binOf (s .min) (s .max) (binsOf s) (getD pic (y * w + x) 0)
-
-    old : ℕ → ℕ → ℕ
-    old j i = getD (onto m (mappings w h pic s)) ((j * s .across + i) * binsOf s + bin) 0
-
-    new : ℕ → ℕ → ℕ
-    new j i = mappedOf (s .min) (s .max) (tilePixels w h s) (clippedCounts w h pic s (j * s .across + i)) bin
-
-    places : PixelAsks s (onto m (mappings w h pic s)) column row (getD pic (y * w + x) 0)
-    places = pixel-asks (laid-mapped m asks refl) l k g
-
-    same : {j i : ℕ} → j < s .down → i < s .across → old j i ≡ new j i
-    same {j} {i} p q = laid-own w h pic s m (j * s .across + i) bin (tile-index {across = s .across} {down = s .down} p q) (pixel-bin places)
+    rendered-by (laid-mapped m asks refl) (tileValue w h pic s (getD pic (y * w + x) 0)) (getD pic (y * w + x) 0) l k g
+    (λ j i p q bin. laid-own w h pic s m (j * s .across + i) _ (tile-index {across = s .across} {down = s .down} p q) bin)
 
 -- "The rendering of every accepted film is the one that the integer rule of document 01 gives for that film's own pixels and settings: whole":
 -- each pixel of enhance's picture
@@ -172,7 +138,9 @@ module _ (film w h : ℕ) (pic : List ℕ) (s : Settings) (m t : List ℕ) {r : 
     -- and draws it from those mappings
     drawn-from : drawOf film w h pic s′ r win m′ out .out
         ≡ cond (clipOne (s .clip)) (greysOf pic w (rectOf win)) (renderOf w h s (prepareOf film w h pic s m t .map) win (greysOf pic w (rectOf win)))
-    drawn-from = ap (λ (x : Shows). x .out) (draw-same ∙ draw-table film w h pic s r win (prepareOf film w h pic s m t .map) out .when-none draw-none)
+    drawn-from =
+        ap (λ (x : Shows). x .out) (draw-same ∙ draw-table film w h pic s r win (prepareOf film w h pic s m t .map) out .when-none draw-none)
+        ∙ drawn-pixels w h pic s win (prepareOf film w h pic s m t .map)
 
     -- "With the record and buffer that prepare left for the film, and the film's pixels as they were then, each drawn pixel is the one in enhance's picture."
     pub drawn-is-enhanced : (m₂ t₂ : List ℕ) → entriesOf s ≤ length m₂ → binsOf s ≤ length t₂ → (j i : ℕ) → j < win .height → i < win .width

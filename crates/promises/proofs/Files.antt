@@ -20,10 +20,10 @@ use Rattle.header.proofs.Refusals.{hash-complete, other-exactly}
 use Rattle.samples.specs.Samples.{isWide, unpacked}
 use Rattle.pgm.specs.declared.Turned.the-variants as Turned
 use Rattle.pgm.specs.declared.Written.the-variants as Written
-use Rattle.pgm.specs.Pgm.{rasterSize, headRows, rasterRows, turnRows, targetRows, writeRows, WriteAsks, judgedOf, readOf, sizesOf, rasterOf, sizesSays, turnedSays, writtenSays, Greyed, greyedAs, turnedOf, fileOf, Wrote, wroteAs, writeOf}
+use Rattle.pgm.specs.Pgm.{rasterSize, headRows, rasterRows, turnRows, writeRows, WriteAsks, judgedOf, readOf, sizesOf, rasterOf, sizesSays, turnedSays, writtenSays, Greyed, greyedAs, turnedOf, fileOf, Wrote, wroteAs, writeOf}
 use Rattle.pgm.proofs.Tables.{limit-numbered, within-none, judged-limit, judged-raster, judged-found, read-judged, read-refused, read-header, write-asks, write-fits, length-file}
 use Rattle.pgm.proofs.Parts.{greys-refused, greys-done, write-refused, write-done}
-use Rattle.pgm.proofs.Laws.{written-read, written-sizes, written-greys, read-asks}
+use Rattle.pgm.proofs.Laws.{written-read, written-sizes, written-greys, read-asks, turned-part}
 use Rattle.promises.proofs.Accepted.{refused-says, ByTable, table-accepted, table-done, table-says}
 
 -- ---- what read says
@@ -88,13 +88,6 @@ unfolding sizesSays
 refused-part (Head.Found w h m at) s e = absurd (let z : _≡_ {A = ℕ} 0 1 = cc in omega arith)
 refused-part (Head.Refused k) s e = refl
 
--- "a second call turns it into greys": handing on the part alone, or all bytes and the raster's start, is the same
-pub part-greys : (s : List ℕ) (at w h m : ℕ) (target : List ℕ) → turnedOf (drop at s) 0 w h m target ≡ turnedOf s at w h m target
-unfolding turnedOf turnRows targetRows
-part-greys s at w h m target =
-    let e : length (drop at s) - 0 ≡ length s - at = rw length-drop (omega arith) in
-    rw e refl
-
 -- ---- greys
 
 module _ (s : List ℕ) (start w h m : ℕ) (target : List ℕ) where
@@ -153,9 +146,9 @@ module _ (pic : List ℕ) (w h m room : ℕ) (ok : first (writeRows pic w h m ro
   unfolding turnedSays
   file-greys bytes start target e l =
       let x =
-      sym (part-greys bytes start w h m target)
+      sym (turned-part bytes start w h m target)
       ∙ ap (λ x. turnedOf x 0 w h m target) (e ∙ ap (λ x. rasterOf x (fileOf pic w h m)) (written-read pic w h m room ok))
-      ∙ part-greys (fileOf pic w h m) (length (headerBytes w h m)) w h m target
+      ∙ turned-part (fileOf pic w h m) (length (headerBytes w h m)) w h m target
       ∙ written-greys pic w h m room ok target l in
       (ap (λ (y : Greyed). turnedSays (y .answer)) x, ap (λ (y : Greyed). y .target) x)
 

@@ -1,6 +1,5 @@
 pub mod Numbers
 pub mod Accepted
-pub mod Handed
 pub mod Reuse
 pub mod Runs
 pub mod Outcomes

@@ -6,7 +6,8 @@ use lib.ListN.{take}
 use Rattle.settings.specs.Settings.{entriesOf, keptOf, recordOf}
 use Rattle.prepare.specs.Prepare.{Ended, prepareOf, Over, enhanceOf}
 use Rattle.draw.specs.Draw.{Shows, drawOf}
-use Rattle.promises.proofs.Handed.{prepare-kept, enhance-kept, draw-kept, draw-kept-record, draw-front}
+use Rattle.prepare.proofs.Like.{prepare-kept, enhance-kept}
+use Rattle.draw.proofs.Like.{draw-kept, draw-kept-record, draw-front}
 use Rattle.promises.proofs.Runs.{PrepareCall, Prepares, prepare-given, prepare-read, prepare-ends, EnhanceCall, Enhances, enhance-given, enhance-read, enhance-ends, DrawCall, Draws, draw-given, draw-read, draw-ends}
 
 -- ---- what is read

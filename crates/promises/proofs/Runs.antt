@@ -9,6 +9,7 @@ use denote.Ref.{now, ptr}
 use lib.Ieee.{Float}
 use lib.ListN.{take}
 use Rattle.refuse.specs.Run.{Run, Ran}
+use Rattle.limit.specs.declared.Clip.{Clip}
 use Rattle.limit.specs.declared.Judged.{Judged}
 use Rattle.limit.specs.Limit.{judgeOf}
 use Rattle.limit.proofs.judge.Kinds as judge
@@ -258,18 +259,18 @@ Writes = Ran write-values
 pub write-ends : {c : WriteCall} → Writes c → wroteAs (c .answer) (c .out′) ≡ writeOf (c .pixels) (c .width) (c .height) (c .maxval) (c .out)
 write-ends ran = rw (ran .named) (ran .run .allowed)
 
--- ---- the judgement of a factor
+-- ---- the judgement of a clip setting
 
 pub record JudgeCall : Type 0 where
-  pub factor : Float
+  pub clip : Clip
   pub answer : Judged
 
 abbrev pub judge-values : Run judge.ps judge.r judge-reads.Post → JudgeCall
-judge-values run = let (factor, end) = run .handed in record { factor = factor; answer = run .answer }
+judge-values run = let (clip, end) = run .handed in record { clip = clip; answer = run .answer }
 
 -- judge ran with these values
 abbrev pub Judges : JudgeCall → Type 0
 Judges = Ran judge-values
 
-pub judge-ends : {c : JudgeCall} → Judges c → c .answer ≡ judgeOf (c .factor)
+pub judge-ends : {c : JudgeCall} → Judges c → c .answer ≡ judgeOf (c .clip)
 judge-ends ran = rw (ran .named) (ran .run .allowed)

@@ -13,13 +13,14 @@ use Rattle.settings.specs.declared.MapRecord.{MapRecord}
 use Rattle.settings.specs.declared.Footer.{Footer}
 use Rattle.settings.specs.declared.Window.{Window}
 use Rattle.settings.specs.Settings.{binsOf, entriesOf, recordOf, clipOne}
-use Rattle.render.specs.Render.{rectOf}
+use Rattle.render.specs.Render.{renderOf, rectOf}
 use Rattle.prepare.specs.Prepare.{preparedSays, prepareOf, enhanceOf}
 use Rattle.draw.specs.declared.Drawn.the-variants.{Done}
 use Rattle.draw.specs.Draw.{drawnSays, Shows, showing, drawOf, Held, DrawReady}
 use Rattle.settings.proofs.Clips.{same-clip-one}
+use Rattle.settings.proofs.Like.{bins-kept}
 use Rattle.render.proofs.Laws.{render-fields}
-use Rattle.draw.proofs.Laws.{bins-kept}
+use Rattle.draw.proofs.Like.{drawn-pixels}
 use Rattle.draw.proofs.Tables.{draw-ready}
 use Rattle.promises.specs.Films.{ruleGrey, HandedOn}
 use Rattle.promises.proofs.Accepted.{table-accepted, table-done, prepare-work, prepare-record, draw-table}
@@ -60,12 +61,16 @@ module _ (film w h : ℕ) (pic : List ℕ) (s : Settings) (m t : List ℕ) {r : 
   pub accepted-same : drawOf film′ w′ h′ pic s′ r win m′ out ≡ drawOf film w h pic s r win m′ out
   accepted-same =
       table-done (draw-table film′ w′ h′ pic s′ r win m′ out) drawn
-      ∙ rw (held .wide, held .high, same-clip-one (s′ .clip) (s .clip) (known .shown .ready .clip) (prepare-work film w h pic s m t done .ready .clip) (held .clip))
-      (ap (λ ys. showing Done (cond (clipOne (s .clip)) greys ys)) (render-fields w h s s′ m′ win greys (held .across) (held .down) bins (held .least) (held .most)))
+      ∙ ap (showing Done) (drawn-pixels w′ h′ pic s′ win m′ ∙ pixels ∙ sym (drawn-pixels w h pic s win m′))
       ∙ sym (table-done (draw-table film w h pic s r win m′ out) (draw-agrees film w h pic s m t done s m′ win out accepted-handed))
     where
       greys : List ℕ
       greys = greysOf pic w (rectOf win)
+
+      pixels : cond (clipOne (s′ .clip)) (greysOf pic w′ (rectOf win)) (renderOf w′ h′ s′ m′ win (greysOf pic w′ (rectOf win))) ≡ cond (clipOne (s .clip)) greys (renderOf w h s m′ win greys)
+      pixels =
+          rw (held .wide, held .high, same-clip-one (s′ .clip) (s .clip) (known .shown .ready .clip) (prepare-work film w h pic s m t done .ready .clip) (held .clip))
+          (ap (cond (clipOne (s .clip)) greys) (render-fields w h s s′ m′ win greys (held .across) (held .down) bins (held .least) (held .most)))
 
   -- demand 2, "through a window from the record and mappings prepared for those pixels and unchanged since": whatever else was handed to draw, each drawn pixel of an accepted
   -- window is the one of the integer rule

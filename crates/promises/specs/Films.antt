@@ -3,50 +3,49 @@
 -- w and h are the film's width and height, pic its pixels.
 -- Assumes nothing.
 use Prim.Native.Nat.{ℕ, _+_, _-_, _*_, _/_, _≤_, _<_}
-use mathlib.Core.Bool.{true, false, not}
-use mathlib.Core.List.{List, [], _∷_, _++_}
+use mathlib.Core.Bool.{true, false}
+use mathlib.Core.List.{List, _++_}
 use mathlib.Core.Logic.{_⊎_}
 use mathlib.Core.Path.{_≡_}
-use lib.Dec.{ltb}
 use lib.Ieee.{Float}
 use lib.ListN.{length, getD, take}
-use Rattle.lists.specs.Lists.{total, all}
-use Rattle.refuse.specs.Refuse.{Row, row}
+use Rattle.lists.specs.Lists.{total}
+use Rattle.refuse.specs.Refuse.{Row}
 use Rattle.limit.specs.declared.Clip.{Clip}
 use Rattle.limit.specs.declared.Clip.the-variants.{Off, Factor}
 use Rattle.limit.specs.Limit.{isOne, AboveOne, limitOf, usedOf}
 use Rattle.clip.specs.Clip.{share}
-use Rattle.scan.specs.Scan.{within}
 use Rattle.binning.specs.Binning.{binOf}
 use Rattle.tally.specs.Tally.{greysOf, countsOf}
 use Rattle.tile.specs.Tile.{mappedOf, tileCounts}
 use Rattle.settings.specs.declared.Settings.{Settings}
 use Rattle.settings.specs.declared.Footer.{Footer}
 use Rattle.settings.specs.declared.Window.{Window}
-use Rattle.settings.specs.Settings.{binsOf, entriesOf, keptOf, clipOne, tileWidth, tileHeight, tilePixels, sharedRows}
-use Rattle.blend.specs.Blend.{placeOf, greyOf}
-use Rattle.prepare.specs.Prepare.{tileRect, none, one}
+use Rattle.settings.specs.Settings.{binsOf, entriesOf, keptOf, clipOne, sharedRows}
+use Rattle.blend.specs.Blend.{greyOf}
+use Rattle.render.specs.Render.{columnPlace, rowPlace}
+use Rattle.prepare.specs.Prepare.{tileOf, pixelsIn, lentRows, none, one}
 
 -- ---- a tile
 
 -- each bin's "own count": how many of tile k's pixels are in it
 abbrev pub rawCounts : ℕ → ℕ → List ℕ → Settings → ℕ → List ℕ
-rawCounts w h pic s k = countsOf (s .min) (s .max) (binsOf s) (greysOf pic w (tileRect w h s k))
+rawCounts w h pic s k = countsOf (s .min) (s .max) (binsOf s) (greysOf pic w (tileOf w h s k))
 
 -- "the clipped counts" of tile k, the raw ones where the clip is off
 abbrev pub clippedCounts : ℕ → ℕ → List ℕ → Settings → ℕ → List ℕ
-clippedCounts w h pic s k = tileCounts (s .min) (s .max) (binsOf s) (s .clip) (greysOf pic w (tileRect w h s k))
+clippedCounts w h pic s k = tileCounts (s .min) (s .max) (binsOf s) (s .clip) (greysOf pic w (tileOf w h s k))
 
 -- the mapped value of a grey v by the tile in tile row j and tile column i: of that tile's own clipped counts, at the grey's bin
 unfoldable pub tileValue : ℕ → ℕ → List ℕ → Settings → ℕ → ℕ → ℕ → ℕ
 tileValue w h pic s v j i =
-    mappedOf (s .min) (s .max) (tilePixels w h s) (clippedCounts w h pic s (j * s .across + i)) (binOf (s .min) (s .max) (binsOf s) v)
+    mappedOf (s .min) (s .max) (pixelsIn w h s (j * s .across + i)) (clippedCounts w h pic s (j * s .across + i)) (binOf (s .min) (s .max) (binsOf s) v)
 
 -- the grey of the pixel in column x and row y by "the integer rule of document 01 .. for that film's own pixels and settings"
 unfoldable pub ruleGrey : ℕ → ℕ → List ℕ → Settings → ℕ → ℕ → ℕ
 ruleGrey w h pic s x y =
-    let column = placeOf (tileWidth w s) (s .across) x in
-    let row = placeOf (tileHeight h s) (s .down) y in
+    let column = columnPlace w s x in
+    let row = rowPlace h s y in
     let value = tileValue w h pic s (getD pic (y * w + x) 0) in
     greyOf column row (value (row .lower) (column .lower)) (value (row .lower) (column .upper)) (value (row .upper) (column .lower)) (value (row .upper) (column .upper))
 
@@ -69,7 +68,7 @@ pub data ClipCase (clip : Clip) : Type 0 where
 abbrev pub footer : ℕ → Float → Float → Footer
 footer l asked used = record { limit = l; asked = asked; used = used }
 
--- what a footer shows of a film with this clip setting, n pixels a tile and b bins
+-- what a footer shows of a film with this clip setting, n pixels in its first tile and b bins
 pub record FooterShows (clip : Clip) (n b : ℕ) (foot : Footer) : Type 0 where
   -- "Clip off: L 0, both factors 0.0."
   pub off : clip ≡ Off → foot ≡ footer 0 none none
@@ -102,7 +101,7 @@ pub record HandedOn (w h : ℕ) (s : Settings) (m : List ℕ) (s′ : Settings) 
 abbrev pub steepest : ℕ → ℕ → ℕ → ℕ → ℕ
 steepest lo hi n l = (l * (hi - lo) + n - 1) / n
 
--- a tile of n pixels and b bins with the limit l: its raw counts, its clipped counts, and the map entry of each bin
+-- a tile, or any rectangle, of n pixels and b bins with the limit l: its raw counts, its clipped counts, and the map entry of each bin
 pub record TileSound (lo hi n b l : ℕ) (raw clipped : List ℕ) (entry : ℕ → ℕ) : Type 0 where
   -- a count for each bin
   pub bins : length clipped ≡ b
@@ -125,15 +124,11 @@ pub record TileSound (lo hi n b l : ℕ) (raw clipped : List ℕ) (entry : ℕ �
 abbrev pub FilmSound : ℕ → ℕ → List ℕ → Settings → ℕ → List ℕ → Type 0
 FilmSound w h pic s l m =
     (k : ℕ) → k < s .across * s .down
-    → TileSound (s .min) (s .max) (tilePixels w h s) (binsOf s) l (rawCounts w h pic s k) (clippedCounts w h pic s k) (λ b. getD m (k * binsOf s + b) 0)
+    → TileSound (s .min) (s .max) (pixelsIn w h s k) (binsOf s) l (rawCounts w h pic s k) (clippedCounts w h pic s k) (λ b. getD m (k * binsOf s + b) 0)
 
--- the rows 1 to 13, which stand before the clip refusal in "01's order": `prepareRows` without its last row, so 12 and 13 stand here once more (Demand3: `rows-split`)
+-- the rows 1 to 13, which stand before the clip refusal in "01's order"
 unfoldable pub earlierRows : ℕ → ℕ → List ℕ → Settings → ℕ → ℕ → List Row
-earlierRows w h pic s room scratch =
-    sharedRows w h (length pic) s room
-    ++ (row 12 (ltb scratch (binsOf s))
-    ∷ row 13 (not (all (within (s .min) (s .max)) pic))
-    ∷ [])
+earlierRows w h pic s room scratch = sharedRows w h (length pic) s room ++ lentRows pic s scratch
 
 -- a "filling of the bins, none above the limit," that holds the tile's pixels: b counts, none above l, that add up to n
 pub record Filling (l b n : ℕ) : Type 0 where
@@ -142,6 +137,6 @@ pub record Filling (l b n : ℕ) : Type 0 where
   pub under : (i : ℕ) → i < b → getD counts i 0 ≤ l
   pub holds : total counts ≡ n
 
--- the same of the tiles of a film, with the limit of the factor f
+-- the same of the tiles of a film, which have the pixels of the first, with the limit of the factor f
 abbrev pub FilmFilling : ℕ → ℕ → Settings → Float → Type 0
-FilmFilling w h s f = Filling (limitOf f (tilePixels w h s) (binsOf s)) (binsOf s) (tilePixels w h s)
+FilmFilling w h s f = Filling (limitOf f (pixelsIn w h s 0) (binsOf s)) (binsOf s) (pixelsIn w h s 0)

@@ -21,17 +21,17 @@ same (x ∷ xs) [] = false
 same (x ∷ xs) (y ∷ ys) = eqb x y && same xs ys
 
 -- a worked number: what goes in, and last what the document says comes out
-pub data Row : Type 0 where
+pub data Worked : Type 0 where
   -- a factor's f32 bits, N and B: L, and whether 14 is given
-  limit : ℕ → ℕ → ℕ → ℕ → Bool → Row
+  limit : ℕ → ℕ → ℕ → ℕ → Bool → Worked
   -- L and counts: the clipped counts
-  clip : ℕ → List ℕ → List ℕ → Row
+  clip : ℕ → List ℕ → List ℕ → Worked
   -- Min, Max, N and counts: the mapping
-  mapping : ℕ → ℕ → ℕ → List ℕ → List ℕ → Row
+  mapping : ℕ → ℕ → ℕ → List ℕ → List ℕ → Worked
   -- Min, Max, B and a grey: its bin
-  bin : ℕ → ℕ → ℕ → ℕ → ℕ → Row
+  bin : ℕ → ℕ → ℕ → ℕ → ℕ → Worked
   -- a pixel of a film of 2 by 2 tiles, each 2 by 2, whose mapped values are 10, 20, 30, 41: its grey
-  grey : ℕ → ℕ → ℕ → Row
+  grey : ℕ → ℕ → ℕ → Worked
 
 -- the grey of that pixel
 unfoldable pub greyAt : ℕ → ℕ → ℕ
@@ -43,21 +43,21 @@ greyAt x y =
     (tile (row .lower) (column .lower)) (tile (row .lower) (column .upper))
     (tile (row .upper) (column .lower)) (tile (row .upper) (column .upper))
 
--- a row holds of the rules
-unfoldable pub holds : Row → Bool
+-- a worked number holds of the rules
+unfoldable pub holds : Worked → Bool
 holds (limit f n b l tight) = eqb (limitOf (ofBits binary32 f) n b) l && Bool·beq (tooTight (Factor (ofBits binary32 f)) n b) tight
 holds (clip l cs ds) = same (clipped l cs) ds
 holds (mapping lo hi n cs vs) = same (mappingOf lo hi n cs) vs
 holds (bin lo hi b v k) = eqb (binOf lo hi b v) k
 holds (grey x y v) = eqb (greyAt x y) v
 
--- all rows of a table hold: "rows of a single table under a single claim"
-unfoldable pub allHold : List Row → Bool
+-- all of a table hold: "rows of a single table under a single claim"
+unfoldable pub allHold : List Worked → Bool
 allHold [] = true
 allHold (r ∷ rs) = holds r && allHold rs
 
 -- the marked numbers, in the document's order
-unfoldable pub worked : List Row
+unfoldable pub worked : List Worked
 worked =
     -- N 100, B 64: factor 1.5 gives L 2; 1.25 gives L 1 and refusal 14. N 1, B 4, factor 2: L 1.
     limit 0x3fc00000 100 64 2 false

@@ -1,14 +1,17 @@
--- Laws of refusal tables: a walk along the rows, tables one behind the other, and what an accepting table tells.
+-- Laws of refusal tables: tables one behind the other, their numbers, and what an accepting table tells.
 -- Assumes nothing.
 use Prim.Native.Nat.{ℕ, suc, zero}
-use mathlib.Core.Bool.{Bool, true, false, cond}
+use mathlib.Core.Bool.{Bool, true, false}
 use mathlib.Core.List.{List, [], _∷_, _++_}
-use mathlib.Core.Logic.{_≢_, _↔_}
-use mathlib.Core.Path.{_≡_, refl, sym, _∙_}
+use mathlib.Core.Logic.{_≢_}
+use mathlib.Core.Path.{_≡_, refl, sym, ap, _∙_}
 use native.Mathlib.Omega.{arith}
-use lib.Dec.{eqb}
-use borrow.Author.Tests.{eqb-true, eqb-false}
-use Rattle.refuse.specs.Refuse.{Row, row, first, unless, None, Numbered, Past}
+use lib.Dec.{ltb}
+use borrow.Author.Tests.{ltb-true}
+use Rattle.lists.specs.Lists.{all}
+use Rattle.lists.proofs.Tabs.{and-left, and-right}
+use Rattle.lists.proofs.Alls.{all-both}
+use Rattle.refuse.specs.Refuse.{Row, row, first, unless, None, numbersOf, Each, Numbered}
 
 -- ---- one row
 
@@ -36,6 +39,25 @@ first-front [] t h = absurd (h refl)
 first-front (row n true ∷ s) t h = refl
 first-front (row n false ∷ s) t h = first-front s t h
 
+-- ---- the numbers of a table
+
+-- the numbers of two tables, one behind the other
+pub numbers-append : (s t : List Row) → numbersOf (s ++ t) ≡ numbersOf s ++ numbersOf t
+unfolding numbersOf
+numbers-append [] t = refl
+numbers-append (row n b ∷ s) t = ap (λ ns. n ∷ ns) (numbers-append s t)
+
+-- what holds of the numbers of both tables holds of those of the two together
+pub each-append : (p : ℕ → Bool) (s t : List Row) → Each p s → Each p t → Each p (s ++ t)
+each-append p s t h k = rw (numbers-append s t) (all-both p (numbersOf s) (numbersOf t) h k)
+
+-- what holds of each number of a table, and of 0, holds of the one that the table gives
+pub each-first : (p : ℕ → Bool) (rows : List Row) → p 0 ≡ true → Each p rows → p (first rows) ≡ true
+unfolding first all numbersOf
+each-first p [] z h = z
+each-first p (row n true ∷ rows) z h = and-left (p n) (all p (numbersOf rows)) h
+each-first p (row n false ∷ rows) z h = each-first p rows z (and-right (p n) (all p (numbersOf rows)) h)
+
 -- ---- what an accepting table tells
 
 -- no row applies: the table gives 0
@@ -46,10 +68,17 @@ none-first (row n b ∷ rows) h = first-skip n rows (h .0) ∙ none-first rows (
 
 -- the table gives 0: no row applies
 pub first-none : (rows : List Row) → Numbered rows → first rows ≡ 0 → None rows
-unfolding first
+unfolding first all numbersOf
 first-none [] k e = tt
-first-none (row n true ∷ rows) k e = absurd (omega (arith, k .0))
-first-none (row n false ∷ rows) k e = (refl, first-none rows (k .1) e)
+first-none (row n true ∷ rows) k e = absurd (omega (arith, ltb-true 0 n (and-left (ltb 0 n) (all (ltb 0) (numbersOf rows)) k)))
+first-none (row n false ∷ rows) k e = (refl, first-none rows (and-right (ltb 0 n) (all (ltb 0) (numbersOf rows)) k) e)
+
+-- two tables together give 0: each of them does
+pub first-both : (s t : List Row) → Numbered s → first (s ++ t) ≡ 0 → (first s ≡ 0) × (first t ≡ 0)
+unfolding first all numbersOf
+first-both [] t k e = (refl, e)
+first-both (row n true ∷ s) t k e = absurd (omega (arith, ltb-true 0 n (and-left (ltb 0 n) (all (ltb 0) (numbersOf s)) k)))
+first-both (row n false ∷ s) t k e = first-both s t (and-right (ltb 0 n) (all (ltb 0) (numbersOf s)) k) e
 
 -- no row of either table applies: none of both together
 pub none-append : (s t : List Row) → None s → None t → None (s ++ t)
@@ -65,58 +94,6 @@ none-front (row n b ∷ s) t h = (h .0, none-front s t (h .1))
 pub none-behind : (s t : List Row) → None (s ++ t) → None t
 none-behind [] t h = h
 none-behind (row n b ∷ s) t h = none-behind s t (h .1)
-
--- the three as one
-pub none-both : (s t : List Row) → None (s ++ t) ↔ (None s × None t)
-none-both s t = ((λ h. (none-front s t h, none-behind s t h)), (λ h. none-append s t (h .0) (h .1)))
-
--- the same of the numbers
-pub numbered-append : (s t : List Row) → Numbered s → Numbered t → Numbered (s ++ t)
-numbered-append [] t h k = k
-numbered-append (row n b ∷ s) t h k = (h .0, numbered-append s t (h .1) k)
-
--- two tables give the first one's number, and the second one's where the first gives 0
-pub first-append : (s t : List Row) → Numbered s → first (s ++ t) ≡ cond (eqb (first s) 0) (first t) (first s)
-first-append s t k = which (eqb (first s) 0) refl
-  where
-    which : (b : Bool) → eqb (first s) 0 ≡ b → first (s ++ t) ≡ cond (eqb (first s) 0) (first t) (first s)
-    which true e = rw e (first-behind s t (first-none s k (eqb-true (first s) 0 e)))
-    which false e = rw e (first-front s t (eqb-false (first s) 0 e))
-
--- ---- the walk
-
--- before the first row
-pub start : (rows : List Row) → Past rows rows
-start rows = record { same = refl }
-
--- a row that does not apply
-pub skip : {whole rest : List Row} {n : ℕ} {b : Bool} → Past whole (row n b ∷ rest) → b ≡ false → Past whole rest
-skip {whole} {rest} {n} p e = record { same = p .same ∙ first-skip n rest e }
-
--- a row that applies: its number is the table's
-pub hit : {whole rest : List Row} {n : ℕ} {b : Bool} → Past whole (row n b ∷ rest) → b ≡ true → first whole ≡ n
-hit {whole} {rest} p e = p .same ∙ first-hit rest e
-
--- behind the last row: the table gives 0
-pub over : {whole : List Row} → Past whole [] → first whole ≡ 0
-unfolding first
-over p = p .same
-
--- a whole table in front, of which no row applies
-pub skip-none : {whole : List Row} (t rest : List Row) → Past whole (t ++ rest) → None t → Past whole rest
-skip-none t rest p h = record { same = p .same ∙ first-behind t rest h }
-
--- the same where the table is known to give 0
-pub skip-table : {whole : List Row} (t rest : List Row) → Past whole (t ++ rest) → Numbered t → first t ≡ 0 → Past whole rest
-skip-table t rest p k e = skip-none t rest p (first-none t k e)
-
--- a whole table in front that gives a number: it is the whole one's
-pub hit-table : {whole : List Row} (t rest : List Row) → Past whole (t ++ rest) → first t ≢ 0 → first whole ≡ first t
-hit-table t rest p h = p .same ∙ first-front t rest h
-
--- a table that stands last decides
-pub last-table : {whole : List Row} (t : List Row) → Past whole t → first whole ≡ first t
-last-table t p = p .same
 
 -- ---- tables one behind the other, each answered by a call of its own
 

@@ -1,9 +1,11 @@
 -- Document 01, the refusal table: "The first that applies is given."
 -- Assumes nothing.
-use Prim.Native.Nat.{ℕ, zero, suc, _<_}
-use mathlib.Core.Bool.{Bool, false, cond}
+use Prim.Native.Nat.{ℕ, zero, suc}
+use mathlib.Core.Bool.{Bool, true, false, cond}
 use mathlib.Core.List.{List, [], _∷_}
 use mathlib.Core.Path.{_≡_}
+use lib.Dec.{ltb}
+use Rattle.lists.specs.Lists.{all}
 
 -- a row of a table: a refusal's number, and whether it applies
 pub data Row : Type 0 where
@@ -24,14 +26,18 @@ abbrev pub None : List Row → Type 0
 None [] = Unit {0}
 None (row n b ∷ rows) = (b ≡ false) × None rows
 
+-- the numbers of a table's rows, from the first on
+unfoldable pub numbersOf : List Row → List ℕ
+numbersOf [] = []
+numbersOf (row n b ∷ rows) = n ∷ numbersOf rows
+
+-- p holds of the number of each row
+abbrev pub Each : (ℕ → Bool) → List Row → Type 0
+Each p rows = all p (numbersOf rows) ≡ true
+
 -- each row's number is above 0, so that 0 says that no row applies
 abbrev pub Numbered : List Row → Type 0
-Numbered [] = Unit {0}
-Numbered (row n b ∷ rows) = (0 < n) × Numbered rows
-
--- the rows in front of `rest` do not apply: what is left of the table gives the whole table's number
-pub record Past (whole rest : List Row) : Type 0 where
-  pub same : first whole ≡ first rest
+Numbered rows = Each (ltb 0) rows
 
 -- an answer in document 01's terms: accepted, with the values that the call hands back, or refused with a number
 pub data Says (A : Type 0) : Type 0 where

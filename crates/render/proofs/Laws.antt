@@ -6,7 +6,7 @@ use mathlib.Core.List.{List}
 use mathlib.Core.Path.{_≡_, refl, sym, ap, ap₂, _∙_}
 use lib.ListN.{length, getD, take}
 use lib.Seq.{length-take-le}
-use native.Mathlib.Nat.{zero-add, zero-mul, div-add-mod', div-le-of-le-mul, mul-le-mul-right}
+use native.Mathlib.Nat.{zero-add}
 use native.Mathlib.Omega.{arith}
 use Rattle.lists.specs.Lists.{all, onto}
 use Rattle.lists.proofs.Tabs.{getD-tab, tab-cong}
@@ -22,8 +22,10 @@ use Rattle.blend.specs.declared.Place.{Place}
 use Rattle.blend.specs.Blend.{greyOf}
 use Rattle.settings.specs.declared.Settings.{Settings}
 use Rattle.settings.specs.declared.Window.{Window}
-use Rattle.settings.specs.Settings.{binsOf, entriesOf, Ready}
-use Rattle.render.specs.Render.{mappedAt, pixelOf, renderedOf, renderOf, whole, rectOf, Fits, Mapped, Shown, PixelAsks}
+use Rattle.settings.specs.Settings.{binsOf, entriesOf, keptOf, Ready}
+use Rattle.settings.proofs.Like.{bins-kept}
+use Rattle.settings.proofs.Ready.{tiles-exact, tile-some, tile-most}
+use Rattle.render.specs.Render.{mappedAt, pixelOf, columnPlace, rowPlace, renderedOf, renderOf, whole, rectOf, Fits, Mapped, Shown, PixelAsks}
 use Rattle.render.proofs.Pixels.{entry-index, pixel-bin, pixel-within}
 use Rattle.render.proofs.Rows.{pixel-asks}
 use Rattle.render.proofs.Strips.{strip, length-strip, render-strips}
@@ -49,6 +51,10 @@ pub render-fields : (w h : ℕ) (s s′ : Settings) (m : List ℕ) (win : Window
     → s′ .across ≡ s .across → s′ .down ≡ s .down → binsOf s′ ≡ binsOf s → s′ .min ≡ s .min → s′ .max ≡ s .max → renderOf w h s′ m win vs ≡ renderOf w h s m win vs
 unfolding renderOf renderedOf pixelOf mappedAt
 render-fields w h s s′ m win vs across down bins min max = rw (bins, across, down, min, max) refl
+
+-- and bins 0 are 128: with the settings as they are kept the pixels come out the same
+pub render-kept : (w h : ℕ) (s : Settings) (m : List ℕ) (win : Window) (vs : List ℕ) → renderOf w h (keptOf s) m win vs ≡ renderOf w h s m win vs
+render-kept w h s m win vs = render-fields w h s (keptOf s) m win vs refl refl (bins-kept s) refl refl
 
 -- a pixel of a window inside the film is the same pixel of the whole film
 pub window-law : (w h : ℕ) (s : Settings) (m : List ℕ) (win : Window) (pic : List ℕ) → win .left + win .width ≤ w → win .top + win .height ≤ h
@@ -125,22 +131,12 @@ render-front {w} {h} {s} {m} {win} {vs} mapped shown m′ e =
     joined-cong (win .height)
     (λ j l. tab-cong (win .width) (λ i k. rendered-front mapped m′ e _ _ _ (omega (arith, shown .across)) (omega (arith, shown .down)) (shown-within shown l k)))
 
--- mappings that are laid down in front of another buffer are the same mappings
-pub front-onto : (s : Settings) (d m : List ℕ) → entriesOf s ≤ length m → take (entriesOf s) (onto d (take (entriesOf s) m)) ≡ take (entriesOf s) m
-front-onto s d m h = take-onto d (take (entriesOf s) m) (entriesOf s) (length-take-le (entriesOf s) m h)
-
 -- ---- what a call knows once no refusal applies
-
--- a factor of a number above 0 is above 0
-factor-some : (n q k : ℕ) → n ≡ q * k → 0 < n → 0 < q
-factor-some n zero k e h = omega (arith, zero-mul k)
-factor-some n (suc q) k e h = omega arith
 
 -- a side of 1 to 4096 pixels, in 2 to 16 parts with nothing left over
 part-fits : (n k : ℕ) → k ≤ 16 → 0 < n → n ≤ 4096 → 2 ≤ k → n % k ≡ 0 → Fits n k
 part-fits n k few some most two none =
-    let whole : n ≡ n / k * k = omega (arith, div-add-mod' n k) in
-    record { few = few; some = factor-some n (n / k) k whole some; most = div-le-of-le-mul k (omega (arith, mul-le-mul-right 2048 two)); whole = whole }
+    record { few = few; some = tile-some n k some none; most = tile-most n k most two; whole = tiles-exact n k none }
 
 -- settings that are not refused, and mappings from Min to Max in a buffer that is long enough: pixels can be rendered
 pub ready-mapped : {w h size : ℕ} {s : Settings} {room : ℕ} {m : List ℕ} → Ready w h size s room → length m ≡ room → all (within (s .min) (s .max)) (take (entriesOf s) m) ≡ true
@@ -149,12 +145,31 @@ ready-mapped {w} {h} {size} {s} {room} {m} ready e g =
     record {
       maps =
           record {
-            across = ready .acrossmost;
-            down = ready .downmost;
-            scale = record { order = omega (arith, ready .min); most = ready .max; some = ready .bins; few = ready .binsmost };
+            across = ready .tiled .acrossmost;
+            down = ready .tiled .downmost;
+            scale = record { order = omega (arith, ready .tiled .min); most = ready .tiled .max; some = ready .tiled .bins; few = ready .tiled .binsmost };
             room = rw e (ready .fitting);
             greys = g;
           };
-      columns = part-fits w (s .across) (ready .acrossmost) (ready .wide) (ready .widest) (ready .across) (ready .columns);
-      rows = part-fits h (s .down) (ready .downmost) (ready .high) (ready .highest) (ready .down) (ready .rows);
+      columns = part-fits w (s .across) (ready .tiled .acrossmost) (ready .tiled .wide) (ready .tiled .widest) (ready .tiled .across) (ready .tiled .columns);
+      rows = part-fits h (s .down) (ready .tiled .downmost) (ready .tiled .high) (ready .tiled .highest) (ready .tiled .down) (ready .tiled .rows);
     }
+
+-- the rendered grey by the mapped values of the four tiles, where `value j i` is that of the pixel's bin in tile row j and tile column i
+pub rendered-by : {w h : ℕ} {s : Settings} {m : List ℕ} → Mapped w h s m → (value : ℕ → ℕ → ℕ) {x y : ℕ} (v : ℕ) → x < w → y < h → within (s .min) (s .max) v ≡ true
+    → ((j i : ℕ) → j < s .down → i < s .across → binOf (s .min) (s .max) (binsOf s) v < binsOf s
+    → getD m ((j * s .across + i) * binsOf s + binOf (s .min) (s .max) (binsOf s) v) 0 ≡ value j i)
+    → renderedOf w h s m x y v
+    ≡ greyOf (columnPlace w s x) (rowPlace h s y)
+    (value (rowPlace h s y .lower) (columnPlace w s x .lower)) (value (rowPlace h s y .lower) (columnPlace w s x .upper))
+    (value (rowPlace h s y .upper) (columnPlace w s x .lower)) (value (rowPlace h s y .upper) (columnPlace w s x .upper))
+unfolding renderedOf pixelOf mappedAt
+rendered-by {w} {h} {s} {m} mapped value {x} {y} v l k g same =
+    let places : PixelAsks s m (columnPlace w s x) (rowPlace h s y) v = pixel-asks mapped l k g in
+    let bin = pixel-bin places in
+    rw (
+      same _ _ (places .row .lower) (places .column .lower) bin,
+      same _ _ (places .row .lower) (places .column .upper) bin,
+      same _ _ (places .row .upper) (places .column .lower) bin,
+      same _ _ (places .row .upper) (places .column .upper) bin,
+    ) refl

@@ -64,7 +64,7 @@ module _ (f : Place → ℕ → ℕ) (alone : (p : Place) (j v : ℕ) → p .upp
 
   -- and is as long as it was cut
   pub ahead-length : length (take (part .end - i) (drop i vs)) ≡ part .end - i
-  ahead-length = length-part vs i (part .end) (omega (arith, cut .start)) (cut .end)
+  ahead-length = length-part vs (part .end - i) i (omega (arith, cut .start, cut .end))
 
   -- one section more, whose values were worked out of the moved weights
   pub section-next : {ys : List ℕ}
@@ -79,6 +79,6 @@ module _ (f : Place → ℕ → ℕ) (alone : (p : Place) (j v : ℕ) → p .upp
       each : (j : ℕ) → j < part .end - i → f (moved (part .column) j) (getD (take (part .end - i) (drop i vs)) j 0) ≡ placed f w grid left vs (i + j)
       each j l =
           let at : left + i + j ≡ left + (i + j) = omega arith in
-          ap (f (moved (part .column) j)) (getD-part vs i (part .end) j l)
+          ap (f (moved (part .column) j)) (getD-part vs (part .end - i) i l)
           ∙ run-place (λ p. f p (getD vs (i + j) 0)) (cut .run) j l (λ o. alone (part .column) j (getD vs (i + j) 0) o (omega (arith, cut .run .most)))
           ∙ ap (λ x. f (placeOf (w / grid) grid x) (getD vs (i + j) 0)) at

@@ -149,7 +149,7 @@ module _ {w : ℕ} {s : Settings} {ps : List ℕ} {left : ℕ} {row : Place} {ks
   strand-bin : {j : ℕ} → j < length (take (part .end - i) (drop i px)) → getD (take (part .end - i) (drop i px)) j 0 < binsOf s
   strand-bin {j} l =
       let here : j < part .end - i = omega (arith, strand-length) in
-      rw (strand-is, getD-part ks i (part .end) j here) (asks .bins (i + j) (omega (arith, cut .end)))
+      rw (strand-is, getD-part ks (part .end - i) i here) (asks .bins (i + j) (omega (arith, cut .end)))
 
   -- what a section asks
   pub strand-asks : WeaveRunAsks s ps (part .column) row (take (part .end - i) (drop i px))

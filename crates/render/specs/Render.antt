@@ -15,7 +15,7 @@ use Rattle.blend.specs.declared.Place.{Place}
 use Rattle.blend.specs.Blend.{placeOf, greyOf, pairOf, sidesOf, Sound, moved, Run}
 use Rattle.settings.specs.declared.Settings.{Settings}
 use Rattle.settings.specs.declared.Window.{Window}
-use Rattle.settings.specs.Settings.{binsOf, entriesOf, tileWidth, tileHeight}
+use Rattle.settings.specs.Settings.{binsOf, entriesOf}
 use Rattle.render.specs.declared.Section.{Section}
 
 -- the mapped value of bin k of the tile in tile row j and tile column i: "tiles row by row, bins upward"
@@ -34,11 +34,11 @@ pixelOf s m column row v =
 
 -- the place of column x among the tiles across
 abbrev pub columnPlace : ℕ → Settings → ℕ → Place
-columnPlace w s x = placeOf (tileWidth w s) (s .across) x
+columnPlace w s x = placeOf (w / s .across) (s .across) x
 
 -- and of row y among the tiles down
 abbrev pub rowPlace : ℕ → Settings → ℕ → Place
-rowPlace h s y = placeOf (tileHeight h s) (s .down) y
+rowPlace h s y = placeOf (h / s .down) (s .down) y
 
 -- the rendered grey of the pixel in column x and row y, whose grey is v
 unfoldable pub renderedOf : ℕ → ℕ → Settings → List ℕ → ℕ → ℕ → ℕ → ℕ

@@ -278,7 +278,7 @@ fn pairs_pay(s: Settings, wide: usize, room: usize) -> bool
 }
 
 // Renders pixels of row y in place, from column `left` on; the pairs are room to work in.
-fn render_row(
+pub fn render_row(
     pixels: &mut [u16],
     left: u32,
     y: u32,

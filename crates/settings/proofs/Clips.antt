@@ -1,4 +1,4 @@
--- What the judgement of a factor tells of a clip setting.
+-- What the judgement of a clip setting tells of it.
 -- Assumes nothing.
 use Prim.Native.Nat.{ℕ}
 use mathlib.Core.Bool.{Bool, true, false, not, true≢false}
@@ -8,77 +8,43 @@ use lib.Ieee.{Float}
 use borrow.Author.Tests.{not-false}
 use Rattle.limit.specs.declared.Clip.{Clip}
 use Rattle.limit.specs.declared.Clip.the-variants.{Off, Factor}
-use Rattle.limit.specs.declared.Judged.{Judged}
-use Rattle.limit.specs.declared.Judged.the-variants.{Refused, One, Above}
-use Rattle.limit.specs.Limit.{accepted, isOne, judgeOf, judgedBy}
-use Rattle.limit.proofs.Laws.{one-accepted, same-one}
+use Rattle.limit.specs.declared.Judged.the-variants as Judged
+use Rattle.limit.specs.Limit.{allowed, isOne, judgeOf}
+use Rattle.limit.proofs.Laws.{one-allowed, above-not-one, judged-exactly, same-one}
 use Rattle.settings.specs.Settings.{clipBad, clipOne, sameClip}
 
--- a judgement as the pair of its tests
-data Split (j : Judged) (a o : Bool) : Type 0 where
-  none : a ≡ false → j ≡ Refused → Split j a o
-  one : a ≡ true → o ≡ true → j ≡ One → Split j a o
-  above : a ≡ true → o ≡ false → j ≡ Above → Split j a o
-
-split : (a o : Bool) → Split (judgedBy a o) a o
-split false o = none refl refl
-split true true = one refl refl refl
-split true false = above refl refl refl
-
--- a refused factor is not accepted, and not 1.0
-pub refused-not : (f : Float) → judgeOf f ≡ Refused → accepted f ≡ false
-unfolding judgeOf
-refused-not f e = go (split (accepted f) (isOne f))
-  where
-    go : Split (judgedBy (accepted f) (isOne f)) (accepted f) (isOne f) → accepted f ≡ false
-    go (none a j) = a
-    go (one a o j) = let z : _≡_ {A = ℕ} 0 1 = cc in absurd (omega arith)
-    go (above a o j) = let z : _≡_ {A = ℕ} 0 1 = cc in absurd (omega arith)
-
-pub one-is : (f : Float) → judgeOf f ≡ One → (accepted f ≡ true) × (isOne f ≡ true)
-unfolding judgeOf
-one-is f e = go (split (accepted f) (isOne f))
-  where
-    go : Split (judgedBy (accepted f) (isOne f)) (accepted f) (isOne f) → (accepted f ≡ true) × (isOne f ≡ true)
-    go (none a j) = let z : _≡_ {A = ℕ} 0 1 = cc in absurd (omega arith)
-    go (one a o j) = (a, o)
-    go (above a o j) = let z : _≡_ {A = ℕ} 0 1 = cc in absurd (omega arith)
-
-pub above-is : (f : Float) → judgeOf f ≡ Above → (accepted f ≡ true) × (isOne f ≡ false)
-unfolding judgeOf
-above-is f e = go (split (accepted f) (isOne f))
-  where
-    go : Split (judgedBy (accepted f) (isOne f)) (accepted f) (isOne f) → (accepted f ≡ true) × (isOne f ≡ false)
-    go (none a j) = let z : _≡_ {A = ℕ} 0 1 = cc in absurd (omega arith)
-    go (one a o j) = let z : _≡_ {A = ℕ} 0 1 = cc in absurd (omega arith)
-    go (above a o j) = (a, o)
-
--- a factor that is not accepted is not 1.0
-pub bad-not-one : (f : Float) → accepted f ≡ false → isOne f ≡ false
+-- a factor that is not allowed is not 1.0
+pub bad-not-one : (f : Float) → allowed f ≡ false → isOne f ≡ false
 bad-not-one f e = go (isOne f) refl
   where
     go : (b : Bool) → isOne f ≡ b → isOne f ≡ false
     go false q = q
-    go true q = let h : accepted f ≡ true = one-accepted f q in let z : _≡_ {A = ℕ} 0 1 = cc in absurd (omega arith)
+    go true q = let h : allowed f ≡ true = one-allowed f q in let z : _≡_ {A = ℕ} 0 1 = cc in absurd (omega arith)
 
-module _ (clip : Clip) (f : Float) (e : clip ≡ Factor f) where
-  pub bad-refused : judgeOf f ≡ Refused → true ≡ clipBad clip
-  bad-refused j = rw (e, refused-not f j) refl
+module _ (clip : Clip) where
+  pub bad-off : judgeOf clip ≡ Judged.Off → false ≡ clipBad clip
+  bad-off j = rw (judged-exactly clip Judged.Off .0 j) refl
 
-  pub bad-one : judgeOf f ≡ One → false ≡ clipBad clip
-  bad-one j = rw (e, one-is f j .0) refl
+  pub bad-refused : judgeOf clip ≡ Judged.Refused → true ≡ clipBad clip
+  bad-refused j = let (f, e, a) = judged-exactly clip Judged.Refused .0 j in rw (e, a) refl
 
-  pub bad-above : judgeOf f ≡ Above → false ≡ clipBad clip
-  bad-above j = rw (e, above-is f j .0) refl
+  pub bad-one : judgeOf clip ≡ Judged.One → false ≡ clipBad clip
+  bad-one j = let (f, e, o) = judged-exactly clip Judged.One .0 j in rw (e, one-allowed f o) refl
 
-  pub one-refused : judgeOf f ≡ Refused → false ≡ clipOne clip
-  one-refused j = rw (e, bad-not-one f (refused-not f j)) refl
+  pub bad-above : {f : Float} → judgeOf clip ≡ Judged.Above f → false ≡ clipBad clip
+  bad-above {f} j = let (e, a, k) = judged-exactly clip (Judged.Above f) .0 j in rw (e, a) refl
 
-  pub one-one : judgeOf f ≡ One → true ≡ clipOne clip
-  one-one j = rw (e, one-is f j .1) refl
+  pub one-off : judgeOf clip ≡ Judged.Off → false ≡ clipOne clip
+  one-off j = rw (judged-exactly clip Judged.Off .0 j) refl
 
-  pub one-above : judgeOf f ≡ Above → false ≡ clipOne clip
-  one-above j = rw (e, above-is f j .1) refl
+  pub one-refused : judgeOf clip ≡ Judged.Refused → false ≡ clipOne clip
+  one-refused j = let (f, e, a) = judged-exactly clip Judged.Refused .0 j in rw (e, bad-not-one f a) refl
+
+  pub one-one : judgeOf clip ≡ Judged.One → true ≡ clipOne clip
+  one-one j = let (f, e, o) = judged-exactly clip Judged.One .0 j in rw (e, o) refl
+
+  pub one-above : {f : Float} → judgeOf clip ≡ Judged.Above f → false ≡ clipOne clip
+  one-above {f} j = let (e, a, k) = judged-exactly clip (Judged.Above f) .0 j in rw (e, above-not-one f k) refl
 
 -- two clip settings that are the same are both 1.0, or neither
 pub same-clip-one : (c c′ : Clip) → clipBad c ≡ false → clipBad c′ ≡ false → sameClip c c′ ≡ true → clipOne c ≡ clipOne c′
@@ -86,4 +52,4 @@ unfolding sameClip
 same-clip-one Off Off p q e = refl
 same-clip-one Off (Factor g) p q e = absurd (true≢false (sym e))
 same-clip-one (Factor f) Off p q e = absurd (true≢false (sym e))
-same-clip-one (Factor f) (Factor g) p q e = same-one f g (not-false (accepted f) p) (not-false (accepted g) q) e
+same-clip-one (Factor f) (Factor g) p q e = same-one f g (not-false (allowed f) p) (not-false (allowed g) q) e

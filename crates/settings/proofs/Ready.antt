@@ -1,48 +1,78 @@
--- What the rows 1 to 11 tell where none of them applies.
+-- The rows 1 to 11: their numbers, and what they tell where none of them applies.
 -- Assumes nothing.
 use Prim.Native.Nat.{ℕ, zero, suc, _+_, _*_, _/_, _%_, _≤_, _<_}
 use mathlib.Core.Bool.{Bool, true, false, cond}
-use mathlib.Core.List.{_++_}
+use mathlib.Core.List.{[], _∷_, _++_}
 use mathlib.Core.Path.{_≡_, refl, sym, _∙_}
 use native.Mathlib.Omega.{arith}
 use native.Mathlib.Nat.{div-add-mod', mul-le-mul, mul-le-mul-right, zero-mul, le-trans, div-le-of-le-mul}
-use lib.Dec.{eqb, lit<, lit≤}
-use borrow.Author.Tests.{ltb-false, leb-false, eqb-false, eqb-true, not-false}
-use Rattle.refuse.specs.Refuse.{first, Numbered}
-use Rattle.refuse.proofs.Walk.{first-none, numbered-append, front, behind}
+use lib.Dec.{eqb, ltb, lit≤}
+use borrow.Author.Tests.{le-ltb, ltb-false, leb-false, eqb-false, eqb-true, not-false}
+use Rattle.lists.specs.Lists.{all}
+use Rattle.lists.proofs.Orders.{pos}
+use Rattle.refuse.specs.Refuse.{first, numbersOf, Numbered}
+use Rattle.refuse.proofs.Walk.{first-none, first-both, behind}
 use Rattle.settings.specs.declared.Settings.{Settings}
-use Rattle.settings.specs.Settings.{binsOf, sizeRows, gridRows, greyRows, roomRows, sharedRows, Ready}
+use Rattle.settings.specs.Settings.{binsOf, entriesOf, clipBad, sideRows, lengthRows, sizeRows, gridRows, rangeRows, clipRows, greyRows, roomRows, settingRows, sharedRows, Tiled, Ready}
 
--- the numbers are above 0
+-- ---- the numbers, in the order of document 01
+
+pub side-numbers : (w h : ℕ) → numbersOf (sideRows w h) ≡ 1 ∷ 1 ∷ 1 ∷ 1 ∷ []
+unfolding numbersOf sideRows
+side-numbers w h = refl
+
+pub grid-numbers : (w h : ℕ) (s : Settings) → numbersOf (gridRows w h s) ≡ 3 ∷ 3 ∷ 4 ∷ 4 ∷ 5 ∷ 6 ∷ []
+unfolding numbersOf gridRows
+grid-numbers w h s = refl
+
+pub range-numbers : (s : Settings) → numbersOf (rangeRows s) ≡ 7 ∷ 8 ∷ 9 ∷ 9 ∷ []
+unfolding numbersOf rangeRows
+range-numbers s = refl
+
+-- of 1 to 10
+pub setting-numbers : (w h size : ℕ) (s : Settings)
+    → numbersOf (settingRows w h size s) ≡ 1 ∷ 1 ∷ 1 ∷ 1 ∷ 2 ∷ 3 ∷ 3 ∷ 4 ∷ 4 ∷ 5 ∷ 6 ∷ 7 ∷ 8 ∷ 9 ∷ 9 ∷ 10 ∷ []
+unfolding numbersOf settingRows sizeRows sideRows lengthRows gridRows greyRows rangeRows clipRows
+setting-numbers w h size s = refl
+
+-- of 11
+pub room-numbers : (s : Settings) (room : ℕ) → numbersOf (roomRows s room) ≡ 11 ∷ []
+unfolding numbersOf roomRows
+room-numbers s room = refl
+
+-- of 1 to 11
+pub shared-numbers : (w h size : ℕ) (s : Settings) (room : ℕ)
+    → numbersOf (sharedRows w h size s room) ≡ 1 ∷ 1 ∷ 1 ∷ 1 ∷ 2 ∷ 3 ∷ 3 ∷ 4 ∷ 4 ∷ 5 ∷ 6 ∷ 7 ∷ 8 ∷ 9 ∷ 9 ∷ 10 ∷ 11 ∷ []
+unfolding numbersOf sharedRows settingRows sizeRows sideRows lengthRows gridRows greyRows rangeRows clipRows roomRows
+shared-numbers w h size s room = refl
+
+-- all are above 0
+
+pub side-numbered : (w h : ℕ) → Numbered (sideRows w h)
+unfolding all
+side-numbered w h = rw (side-numbers w h) refl
 
 pub size-numbered : (w h size : ℕ) → Numbered (sizeRows w h size)
-unfolding sizeRows
-size-numbered w h size = (lit< tt, (lit< tt, (lit< tt, (lit< tt, (lit< tt, tt)))))
+unfolding all numbersOf sizeRows sideRows lengthRows
+size-numbered w h size = refl
 
 pub grid-numbered : (w h : ℕ) (s : Settings) → Numbered (gridRows w h s)
-unfolding gridRows
-grid-numbered w h s = (lit< tt, (lit< tt, (lit< tt, (lit< tt, (lit< tt, (lit< tt, tt))))))
+unfolding all
+grid-numbered w h s = rw (grid-numbers w h s) refl
 
-pub grey-numbered : (s : Settings) → Numbered (greyRows s)
-unfolding greyRows
-grey-numbered s = (lit< tt, (lit< tt, (lit< tt, (lit< tt, (lit< tt, tt)))))
+pub range-numbered : (s : Settings) → Numbered (rangeRows s)
+unfolding all
+range-numbered s = rw (range-numbers s) refl
 
-pub room-numbered : (s : Settings) (room : ℕ) → Numbered (roomRows s room)
-unfolding roomRows
-room-numbered s room = (lit< tt, tt)
+pub setting-numbered : (w h size : ℕ) (s : Settings) → Numbered (settingRows w h size s)
+unfolding all
+setting-numbered w h size s = rw (setting-numbers w h size s) refl
 
 pub shared-numbered : (w h size : ℕ) (s : Settings) (room : ℕ) → Numbered (sharedRows w h size s room)
-unfolding sharedRows
-shared-numbered w h size s room =
-    numbered-append (sizeRows w h size) (gridRows w h s ++ (greyRows s ++ roomRows s room)) (size-numbered w h size)
-    (numbered-append (gridRows w h s) (greyRows s ++ roomRows s room) (grid-numbered w h s)
-    (numbered-append (greyRows s) (roomRows s room) (grey-numbered s) (room-numbered s room)))
+unfolding all
+shared-numbered w h size s room = rw (shared-numbers w h size s room) refl
 
--- what each part tells
-
-pos : (n : ℕ) → eqb n 0 ≡ false → 0 < n
-pos zero e = let z : ⊥ = eqb-false 0 0 e refl in absurd z
-pos (suc n) e = omega arith
+-- ---- what each part tells where none of its rows applies
 
 -- bins that are 0 or 2 to 4096 are 2 to 4096 once 0 is read as 128
 bins-low : (n : ℕ) → eqb n 1 ≡ false → 2 ≤ cond (eqb n 0) 128 n
@@ -59,28 +89,23 @@ bins-high n h = go (eqb n 0)
     go true = omega arith
     go false = h
 
-pub grid-most : (w h : ℕ) (s : Settings) → first (gridRows w h s) ≡ 0 → (s .across ≤ 16) × (s .down ≤ 16)
-unfolding gridRows
-grid-most w h s e =
-    let n = first-none _ (grid-numbered w h s) e in (ltb-false _ _ (n .1 .0), ltb-false _ _ (n .1 .1 .1 .0))
+-- sides of 1 to 4096
+pub sides-most : (w h : ℕ) → first (sideRows w h) ≡ 0 → (w ≤ 4096) × (h ≤ 4096)
+unfolding sideRows
+sides-most w h e = let n = first-none _ (side-numbered w h) e in (ltb-false _ _ (n .1 .0), ltb-false _ _ (n .1 .1 .1 .0))
 
-pub grey-most : (s : Settings) → first (greyRows s) ≡ 0 → binsOf s ≤ 4096
-unfolding greyRows binsOf
-grey-most s e = let n = first-none _ (grey-numbered s) e in bins-high (s .bins) (ltb-false _ _ (n .1 .1 .1 .0))
-
--- none of the rows applies: what the work below relies on
-pub ready : (w h size : ℕ) (s : Settings) (room : ℕ) → first (sharedRows w h size s room) ≡ 0 → Ready w h size s room
-unfolding sharedRows sizeRows gridRows greyRows roomRows binsOf
-ready w h size s room e =
-    let n = first-none _ (shared-numbered w h size s room) e in
-    let g = n .1 .1 .1 .1 .1 in
-    let v = g .1 .1 .1 .1 .1 .1 in
+-- what counting asks of sides, grid, range and bins
+pub tiled : (w h : ℕ) (s : Settings) → first (sideRows w h) ≡ 0 → first (gridRows w h s) ≡ 0 → first (rangeRows s) ≡ 0 → Tiled w h s
+unfolding sideRows gridRows rangeRows binsOf
+tiled w h s sides grid range =
+    let n = first-none _ (side-numbered w h) sides in
+    let g = first-none _ (grid-numbered w h s) grid in
+    let v = first-none _ (range-numbered s) range in
     record {
       wide = pos w (n .0);
       widest = ltb-false _ _ (n .1 .0);
       high = pos h (n .1 .1 .0);
       highest = ltb-false _ _ (n .1 .1 .1 .0);
-      whole = eqb-true _ _ (not-false _ (n .1 .1 .1 .1 .0));
       across = ltb-false _ _ (g .0);
       acrossmost = ltb-false _ _ (g .1 .0);
       down = ltb-false _ _ (g .1 .1 .0);
@@ -91,33 +116,60 @@ ready w h size s room e =
       min = leb-false _ _ (v .1 .0);
       bins = bins-low (s .bins) (v .1 .1 .0);
       binsmost = bins-high (s .bins) (ltb-false _ _ (v .1 .1 .1 .0));
-      clip = v .1 .1 .1 .1 .0;
-      fitting = ltb-false _ _ (v .1 .1 .1 .1 .1 .0);
     }
 
--- the parts of the table one behind the other, as `shared` asks them
-module _ (w h size : ℕ) (s : Settings) (room : ℕ) where
-  pub shared-size : {r : ℕ} → r ≡ first (sizeRows w h size) → (r ≡ 0 → ⊥) → r ≡ first (sharedRows w h size s room)
-  unfolding sharedRows
-  shared-size e z = front (sizeRows w h size) _ e z
+-- 2: the pixels are the film's
+pub whole-length : (w h size : ℕ) → first (lengthRows w h size) ≡ 0 → size ≡ w * h
+unfolding all numbersOf lengthRows
+whole-length w h size e = eqb-true _ _ (not-false _ (first-none _ refl e .0))
 
-  pub shared-grid : {a r : ℕ} → a ≡ first (sizeRows w h size) → a ≡ 0 → r ≡ first (gridRows w h s) → (r ≡ 0 → ⊥) → r ≡ first (sharedRows w h size s room)
-  unfolding sharedRows
-  shared-grid e z f y = behind (sizeRows w h size) _ (size-numbered w h size) e z (front (gridRows w h s) _ f y)
+-- 10: the factor is not refused
+pub clip-fair : (s : Settings) → first (clipRows s) ≡ 0 → clipBad (s .clip) ≡ false
+unfolding all numbersOf clipRows
+clip-fair s e = first-none _ refl e .0
 
-  pub shared-grey : {a b r : ℕ} → a ≡ first (sizeRows w h size) → a ≡ 0 → b ≡ first (gridRows w h s) → b ≡ 0
-      → r ≡ first (greyRows s) → (r ≡ 0 → ⊥) → r ≡ first (sharedRows w h size s room)
-  unfolding sharedRows
-  shared-grey e z f y g x =
-      behind (sizeRows w h size) _ (size-numbered w h size) e z
-      (behind (gridRows w h s) _ (grid-numbered w h s) f y (front (greyRows s) _ g x))
+-- 11: the mappings fit
+pub room-fits : (s : Settings) (room : ℕ) → first (roomRows s room) ≡ 0 → entriesOf s ≤ room
+unfolding all numbersOf roomRows
+room-fits s room e = ltb-false _ _ (first-none _ refl e .0)
 
-  pub shared-room : {a b c r : ℕ} → a ≡ first (sizeRows w h size) → a ≡ 0 → b ≡ first (gridRows w h s) → b ≡ 0
-      → c ≡ first (greyRows s) → c ≡ 0 → r ≡ first (roomRows s room) → r ≡ first (sharedRows w h size s room)
-  unfolding sharedRows
-  shared-room e z f y g x q =
-      behind (sizeRows w h size) _ (size-numbered w h size) e z
-      (behind (gridRows w h s) _ (grid-numbered w h s) f y (behind (greyRows s) _ (grey-numbered s) g x q))
+-- and where they fit, 11 does not apply
+pub fits-room : (s : Settings) (room : ℕ) → entriesOf s ≤ room → first (roomRows s room) ≡ 0
+unfolding first roomRows
+fits-room s room l = rw (le-ltb room (entriesOf s) l) refl
+
+-- none of the rows 1 to 10 applies: what stands before 11
+pub setting-tiled : (w h size : ℕ) (s : Settings) → first (settingRows w h size s) ≡ 0 → Tiled w h s × (size ≡ w * h) × (clipBad (s .clip) ≡ false)
+unfolding settingRows sizeRows greyRows
+setting-tiled w h size s e =
+    let a = first-both (sizeRows w h size) _ (size-numbered w h size) e in
+    let b = first-both (gridRows w h s) _ (grid-numbered w h s) (a .1) in
+    let c = first-both (sideRows w h) _ (side-numbered w h) (a .0) in
+    let d = first-both (rangeRows s) _ (range-numbered s) (b .1) in
+    (tiled w h s (c .0) (b .0) (d .0), whole-length w h size (c .1), clip-fair s (d .1))
+
+-- none of the rows 1 to 11 applies: none of 1 to 10, and not 11
+pub shared-both : (w h size : ℕ) (s : Settings) (room : ℕ) → first (sharedRows w h size s room) ≡ 0 → (first (settingRows w h size s) ≡ 0) × (first (roomRows s room) ≡ 0)
+unfolding sharedRows
+shared-both w h size s room e = first-both (settingRows w h size s) (roomRows s room) (setting-numbered w h size s) e
+
+-- what the work below relies on
+pub ready : (w h size : ℕ) (s : Settings) (room : ℕ) → first (sharedRows w h size s room) ≡ 0 → Ready w h size s room
+ready w h size s room e =
+    let both = shared-both w h size s room e in
+    let (known, whole, fair) = setting-tiled w h size s (both .0) in
+    record { tiled = known; whole = whole; clip = fair; fitting = room-fits s room (both .1) }
+
+-- the same film with another map buffer that is long enough
+pub shared-room-any : (w h size : ℕ) (s : Settings) (room room′ : ℕ) → first (sharedRows w h size s room) ≡ 0 → entriesOf s ≤ room′ → first (sharedRows w h size s room′) ≡ 0
+unfolding sharedRows
+shared-room-any w h size s room room′ e l =
+    sym (behind (settingRows w h size s) (roomRows s room′) (setting-numbered w h size s) (sym (shared-both w h size s room e .0)) refl (sym (fits-room s room′ l)))
+
+-- 11 speaks of the map buffer's length alone
+pub shared-room-alike : (w h size : ℕ) (s : Settings) (room room′ : ℕ) → ltb room (entriesOf s) ≡ ltb room′ (entriesOf s) → sharedRows w h size s room ≡ sharedRows w h size s room′
+unfolding sharedRows roomRows
+shared-room-alike w h size s room room′ e = rw e refl
 
 -- a product of a grid and its bins is small
 pub entries-small : (a d b : ℕ) → a ≤ 16 → d ≤ 16 → b ≤ 4096 → a * d * b ≤ 1048576

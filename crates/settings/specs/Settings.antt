@@ -1,6 +1,6 @@
 -- Document 01, "Settings and sizes", and the rows of the refusal table that prepare, enhance and draw share.
 -- Assumes nothing.
-use Prim.Native.Nat.{ℕ, _+_, _*_, _/_, _%_, _≤_, _<_}
+use Prim.Native.Nat.{ℕ, _*_, _%_, _≤_, _<_}
 use mathlib.Core.Bool.{Bool, true, false, not, cond}
 use mathlib.Core.List.{List, [], _∷_, _++_}
 use mathlib.Core.Path.{_≡_}
@@ -8,7 +8,7 @@ use lib.Dec.{leb, ltb, eqb}
 use lib.Ieee.{eq}
 use Rattle.limit.specs.declared.Clip.{Clip}
 use Rattle.limit.specs.declared.Clip.the-variants.{Off, Factor}
-use Rattle.limit.specs.Limit.{accepted, isOne}
+use Rattle.limit.specs.Limit.{allowed, isOne}
 use Rattle.refuse.specs.Refuse.{Row, row}
 use Rattle.settings.specs.declared.Settings.{Settings}
 use Rattle.settings.specs.declared.MapRecord.{MapRecord}
@@ -25,18 +25,6 @@ keptOf s = record { across = s .across; down = s .down; bins = binsOf s; min = s
 abbrev pub recordOf : ℕ → ℕ → ℕ → Settings → MapRecord
 recordOf film w h s = record { film = film; width = w; height = h; settings = keptOf s }
 
--- "tw and th are tile width and height"
-abbrev pub tileWidth : ℕ → Settings → ℕ
-tileWidth w s = w / s .across
-
--- the height
-abbrev pub tileHeight : ℕ → Settings → ℕ
-tileHeight h s = h / s .down
-
--- "N = tw x th"
-abbrev pub tilePixels : ℕ → ℕ → Settings → ℕ
-tilePixels w h s = tileWidth w s * tileHeight h s
-
 -- "(grid across) x (grid down) x B"
 abbrev pub entriesOf : Settings → ℕ
 entriesOf s = s .across * s .down * binsOf s
@@ -44,7 +32,7 @@ entriesOf s = s .across * s .down * binsOf s
 -- 10: "factor NaN, infinite, below 1.0 or above 1024.0"
 abbrev pub clipBad : Clip → Bool
 clipBad Off = false
-clipBad (Factor f) = not (accepted f)
+clipBad (Factor f) = not (allowed f)
 
 -- "exactly 1.0"
 abbrev pub clipOne : Clip → Bool
@@ -58,10 +46,17 @@ sameClip Off (Factor g) = false
 sameClip (Factor f) Off = false
 sameClip (Factor f) (Factor g) = eq f g
 
--- 1 and 2: "width or height is 0 or above 4096", "picture length is not width x height"
+-- 1: "width or height is 0 or above 4096"
+unfoldable pub sideRows : ℕ → ℕ → List Row
+sideRows w h = row 1 (eqb w 0) ∷ row 1 (ltb 4096 w) ∷ row 1 (eqb h 0) ∷ row 1 (ltb 4096 h) ∷ []
+
+-- 2: "picture length is not width x height"
+unfoldable pub lengthRows : ℕ → ℕ → ℕ → List Row
+lengthRows w h size = row 2 (not (eqb size (w * h))) ∷ []
+
+-- 1 and 2
 unfoldable pub sizeRows : ℕ → ℕ → ℕ → List Row
-sizeRows w h size =
-    row 1 (eqb w 0) ∷ row 1 (ltb 4096 w) ∷ row 1 (eqb h 0) ∷ row 1 (ltb 4096 h) ∷ row 2 (not (eqb size (w * h))) ∷ []
+sizeRows w h size = sideRows w h ++ lengthRows w h size
 
 -- 3 to 6: "grid across / down is not 2 to 16", "width / height is no multiple of the grid"
 unfoldable pub gridRows : ℕ → ℕ → Settings → List Row
@@ -74,31 +69,36 @@ gridRows w h s =
     ∷ row 6 (not (eqb (h % s .down) 0))
     ∷ []
 
--- 7 to 10: "Max above 4095 / Min not below Max", "bins 1 or above 4096", the factor
+-- 7 to 9: "Max above 4095 / Min not below Max", "bins 1 or above 4096"
+unfoldable pub rangeRows : Settings → List Row
+rangeRows s = row 7 (ltb 4095 (s .max)) ∷ row 8 (leb (s .max) (s .min)) ∷ row 9 (eqb (s .bins) 1) ∷ row 9 (ltb 4096 (s .bins)) ∷ []
+
+-- 10: "factor NaN, infinite, below 1.0 or above 1024.0"
+unfoldable pub clipRows : Settings → List Row
+clipRows s = row 10 (clipBad (s .clip)) ∷ []
+
+-- 7 to 10
 unfoldable pub greyRows : Settings → List Row
-greyRows s =
-    row 7 (ltb 4095 (s .max))
-    ∷ row 8 (leb (s .max) (s .min))
-    ∷ row 9 (eqb (s .bins) 1)
-    ∷ row 9 (ltb 4096 (s .bins))
-    ∷ row 10 (clipBad (s .clip))
-    ∷ []
+greyRows s = rangeRows s ++ clipRows s
 
 -- 11: "map buffer shorter than (grid across) x (grid down) x B"
 unfoldable pub roomRows : Settings → ℕ → List Row
 roomRows s room = row 11 (ltb room (entriesOf s)) ∷ []
 
+-- the rows 1 to 10
+unfoldable pub settingRows : ℕ → ℕ → ℕ → Settings → List Row
+settingRows w h size s = sizeRows w h size ++ (gridRows w h s ++ greyRows s)
+
 -- the rows 1 to 11
 unfoldable pub sharedRows : ℕ → ℕ → ℕ → Settings → ℕ → List Row
-sharedRows w h size s room = sizeRows w h size ++ (gridRows w h s ++ (greyRows s ++ roomRows s room))
+sharedRows w h size s room = settingRows w h size s ++ roomRows s room
 
--- what a call knows once none of the rows 1 to 11 applies
-pub record Ready (w h size : ℕ) (s : Settings) (room : ℕ) : Type 0 where
+-- what a call knows of a film's tiles once none of the rows of sides, grid and range applies
+pub record Tiled (w h : ℕ) (s : Settings) : Type 0 where
   pub wide : 0 < w
   pub widest : w ≤ 4096
   pub high : 0 < h
   pub highest : h ≤ 4096
-  pub whole : size ≡ w * h
   pub across : 2 ≤ s .across
   pub acrossmost : s .across ≤ 16
   pub down : 2 ≤ s .down
@@ -109,5 +109,10 @@ pub record Ready (w h size : ℕ) (s : Settings) (room : ℕ) : Type 0 where
   pub min : s .min < s .max
   pub bins : 2 ≤ binsOf s
   pub binsmost : binsOf s ≤ 4096
+
+-- what a call knows once none of the rows 1 to 11 applies
+pub record Ready (w h size : ℕ) (s : Settings) (room : ℕ) : Type 0 where
+  pub tiled : Tiled w h s
+  pub whole : size ≡ w * h
   pub clip : clipBad (s .clip) ≡ false
   pub fitting : entriesOf s ≤ room

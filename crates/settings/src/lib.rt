@@ -2,7 +2,7 @@
 ghost use mathlib.Core.Path.{_≡_};
 ghost use Prim.Native.Nat.{_≤_};
 ghost use Rattle.refuse.specs.Refuse.{first};
-ghost use Rattle.settings.specs.Settings.{binsOf, keptOf, clipBad, clipOne, sameClip, sizeRows, gridRows, greyRows, roomRows, sharedRows};
+ghost use Rattle.settings.specs.Settings.{binsOf, keptOf, clipBad, clipOne, sameClip, sideRows, lengthRows, sizeRows, gridRows, rangeRows, clipRows, greyRows, roomRows, settingRows, sharedRows};
 use limit::Clip;
 use limit::Judged;
 
@@ -68,16 +68,12 @@ pub fn kept(s: Settings) -> Settings
 pub fn clip_bad(clip: Clip) -> bool
     ensures { λ r. ⌜ r ≡ clipBad clip ⌝ }
 {
-    match clip {
-        Clip::Off => false,
-        Clip::Factor(f) => {
-            let judged = limit::judge(f);
-            match judged {
-                Judged::Refused => true,
-                Judged::One => false,
-                Judged::Above => false,
-            }
-        }
+    let judged = limit::judge(clip);
+    match judged {
+        Judged::Off => false,
+        Judged::Refused => true,
+        Judged::One => false,
+        Judged::Above(_) => false,
     }
 }
 
@@ -85,16 +81,12 @@ pub fn clip_bad(clip: Clip) -> bool
 pub fn clip_one(clip: Clip) -> bool
     ensures { λ r. ⌜ r ≡ clipOne clip ⌝ }
 {
-    match clip {
-        Clip::Off => false,
-        Clip::Factor(f) => {
-            let judged = limit::judge(f);
-            match judged {
-                Judged::Refused => false,
-                Judged::One => true,
-                Judged::Above => false,
-            }
-        }
+    let judged = limit::judge(clip);
+    match judged {
+        Judged::Off => false,
+        Judged::Refused => false,
+        Judged::One => true,
+        Judged::Above(_) => false,
     }
 }
 
@@ -114,9 +106,9 @@ pub fn same_clip(a: Clip, b: Clip) -> bool
     }
 }
 
-// The first of the refusals 1 and 2 that applies, else 0.
-fn size_refusal(width: u32, height: u32, size: usize) -> u32
-    ensures { λ r. ⌜ r ≡ first (sizeRows width height size) ⌝ }
+// Refusal 1, where it applies, else 0.
+pub fn side_refusal(width: u32, height: u32) -> u32
+    ensures { λ r. ⌜ r ≡ first (sideRows width height) ⌝ }
 {
     if width == 0 {
         return 1;
@@ -130,14 +122,33 @@ fn size_refusal(width: u32, height: u32, size: usize) -> u32
     if 4096 < height {
         return 1;
     }
+    0
+}
+
+// Refusal 2, where it applies, else 0.
+pub fn length_refusal(width: u32, height: u32, size: usize) -> u32
+    requires { ⌜ (width ≤ 4096) × (height ≤ 4096) ⌝ }
+    ensures { λ r. ⌜ r ≡ first (lengthRows width height size) ⌝ }
+{
     if size != (width as usize) * (height as usize) {
         return 2;
     }
     0
 }
 
+// The first of the refusals 1 and 2 that applies, else 0.
+pub fn size_refusal(width: u32, height: u32, size: usize) -> u32
+    ensures { λ r. ⌜ r ≡ first (sizeRows width height size) ⌝ }
+{
+    let sides = side_refusal(width, height);
+    if sides != 0 {
+        return sides;
+    }
+    length_refusal(width, height, size)
+}
+
 // The first of the refusals 3 to 6 that applies, else 0.
-fn grid_refusal(width: u32, height: u32, s: Settings) -> u32
+pub fn grid_refusal(width: u32, height: u32, s: Settings) -> u32
     ensures { λ r. ⌜ r ≡ first (gridRows width height s) ⌝ }
 {
     if s.across < 2 {
@@ -161,9 +172,9 @@ fn grid_refusal(width: u32, height: u32, s: Settings) -> u32
     0
 }
 
-// The first of the refusals 7 to 10 that applies, else 0.
-fn grey_refusal(s: Settings) -> u32
-    ensures { λ r. ⌜ r ≡ first (greyRows s) ⌝ }
+// The first of the refusals 7 to 9 that applies, else 0.
+pub fn range_refusal(s: Settings) -> u32
+    ensures { λ r. ⌜ r ≡ first (rangeRows s) ⌝ }
 {
     if 4095 < s.max {
         return 7;
@@ -177,6 +188,13 @@ fn grey_refusal(s: Settings) -> u32
     if 4096 < s.bins {
         return 9;
     }
+    0
+}
+
+// Refusal 10, where it applies, else 0.
+pub fn clip_refusal(s: Settings) -> u32
+    ensures { λ r. ⌜ r ≡ first (clipRows s) ⌝ }
+{
     let clip = s.clip;
     if clip_bad(clip) {
         return 10;
@@ -184,8 +202,34 @@ fn grey_refusal(s: Settings) -> u32
     0
 }
 
+// The first of the refusals 7 to 10 that applies, else 0.
+pub fn grey_refusal(s: Settings) -> u32
+    ensures { λ r. ⌜ r ≡ first (greyRows s) ⌝ }
+{
+    let range = range_refusal(s);
+    if range != 0 {
+        return range;
+    }
+    clip_refusal(s)
+}
+
+// The first of the refusals 1 to 10 that applies, else 0.
+pub fn setting_refusal(width: u32, height: u32, size: usize, s: Settings) -> u32
+    ensures { λ r. ⌜ r ≡ first (settingRows width height size s) ⌝ }
+{
+    let sizes = size_refusal(width, height, size);
+    if sizes != 0 {
+        return sizes;
+    }
+    let grid = grid_refusal(width, height, s);
+    if grid != 0 {
+        return grid;
+    }
+    grey_refusal(s)
+}
+
 // Refusal 11, where it applies, else 0.
-fn room_refusal(s: Settings, room: usize) -> u32
+pub fn room_refusal(s: Settings, room: usize) -> u32
     requires { ⌜ (s .across ≤ 16) × (s .down ≤ 16) × (binsOf s ≤ 4096) ⌝ }
     ensures { λ r. ⌜ r ≡ first (roomRows s room) ⌝ }
 {
@@ -202,17 +246,9 @@ fn room_refusal(s: Settings, room: usize) -> u32
 pub fn shared(width: u32, height: u32, size: usize, s: Settings, room: usize) -> u32
     ensures { λ r. ⌜ r ≡ first (sharedRows width height size s room) ⌝ }
 {
-    let sizes = size_refusal(width, height, size);
-    if sizes != 0 {
-        return sizes;
-    }
-    let grid = grid_refusal(width, height, s);
-    if grid != 0 {
-        return grid;
-    }
-    let greys = grey_refusal(s);
-    if greys != 0 {
-        return greys;
+    let settings = setting_refusal(width, height, size, s);
+    if settings != 0 {
+        return settings;
     }
     room_refusal(s, room)
 }

@@ -1,15 +1,15 @@
 -- Laws of four counts that are added up: what `count_quarters` and `count_rows` do to them.
 -- Assumes nothing.
-use Prim.Native.Nat.{ℕ, _+_, _-_, _*_, _/_, _≤_, _<_}
-use mathlib.Core.Bool.{true}
+use Prim.Native.Nat.{ℕ, _+_, _-_, _*_, _≤_, _<_}
 use mathlib.Core.List.{List, [], _++_, map}
-use mathlib.Core.Path.{_≡_, refl, sym, ap, ap₂, subst, _∙_}
+use mathlib.Core.Path.{_≡_, refl, sym, ap, subst, _∙_}
 use lib.ListN.{length, take, drop, getD, replicate, getD-replicate, length-map, length-take, length-drop, take-append-drop}
-use lib.Seq.{getD-take, getD-drop, drop-drop, drop-at, take-all}
+use lib.Seq.{getD-take, drop-drop, take-all}
 use native.Mathlib.Omega.{arith}
-use Rattle.lists.specs.Lists.{joined, all, times, filled, tab}
-use Rattle.lists.proofs.Tabs.{map-append, length-tab}
+use Rattle.lists.specs.Lists.{joined, times, filled, tab}
+use Rattle.lists.proofs.Tabs.{map-append}
 use Rattle.lists.proofs.Fills.{joined-suc}
+use Rattle.lists.proofs.Steps.{drop-filled}
 use Rattle.lists.proofs.Tallies.{times-append, times-le, filled-cong, filled-tab}
 use Rattle.lists.proofs.Alls.{all-take, all-drop}
 use Rattle.tally.specs.declared.Rect.{Rect}
@@ -24,13 +24,6 @@ use Rattle.tally.proofs.Greys.{rowOf, rows-whole, rows-room, length-gre
 -- a grey of the first part
 pub part-first : (row : List ℕ) (each : ℕ) {x : ℕ} → x < each → getD row x 0 ≡ getD (part row each 0) x 0
 part-first row each {x} l = sym (getD-take each row x 0 l)
-
--- and of another
-pub part-at : (row : List ℕ) (each s : ℕ) {x : ℕ} → x < each → getD row (s + x) 0 ≡ getD (part row each s) x 0
-part-at row each s {x} l = sym (getD-take each (drop s row) x 0 l ∙ getD-drop s row x 0)
-
-pub length-part : (row : List ℕ) (each s : ℕ) → s + each ≤ length row → length (part row each s) ≡ each
-length-part row each s h = rw (length-take, length-drop) (omega arith)
 
 -- a number in a list that is cut in five
 times-five : (f : ℕ → ℕ) (k : ℕ) (xs : List ℕ) (w : ℕ) → w + w + w + w ≤ length xs
@@ -56,7 +49,7 @@ times-five f k xs w h = omega (arith, first, step w, step (w + w), step (w + w +
 -- what lies behind the bins stays
 drop-added : (lo hi n : ℕ) (cs vs : List ℕ) → drop n (addedOf lo hi n cs vs) ≡ drop n cs
 unfolding addedOf
-drop-added lo hi n cs vs = ap (drop n) (filled-tab _ cs n) ∙ drop-at (tab n _) (drop n cs) n (length-tab n _)
+drop-added lo hi n cs vs = drop-filled _ cs n
 
 -- ---- one row
 

@@ -5,7 +5,7 @@ use mathlib.Core.List.{List}
 use mathlib.Core.Path.{_≡_, sym, ap, ap₂, _∙_}
 use lib.ListN.{length, take, drop, getD}
 use native.Mathlib.Omega.{arith}
-use Rattle.lists.specs.Lists.{joined, all, onto, filled}
+use Rattle.lists.specs.Lists.{joined, onto, filled}
 use Rattle.lists.proofs.Fills.{joined-suc, length-filled}
 use Rattle.lists.proofs.Tallies.{getD-filled}
 use Rattle.tally.specs.declared.Rect.{Rect}

@@ -24,7 +24,7 @@ fn count_one(grey: u32, min: u32, max: u32, bins: u32, factor: u32, counts: &mut
 }
 
 // Adds the greys of one row to the counts.
-fn count_row(row: &[u16], min: u32, max: u32, bins: u32, factor: u32, counts: &mut [u32])
+pub fn count_row(row: &[u16], min: u32, max: u32, bins: u32, factor: u32, counts: &mut [u32])
     requires { ⌜ RowAsks (now row) min max bins factor (now counts) ⌝ }
     ensures { λ _. ⌜ now (counts .exit) ≡ addedOf min max bins (now (counts .entry)) (now (row .entry)) ⌝ }
 {

@@ -12,13 +12,13 @@ use Rattle.lists.specs.Lists.{total, all, onto}
 use Rattle.lists.proofs.Fills.{take-onto, drop-onto}
 use Rattle.limit.specs.declared.Clip.{Clip}
 use Rattle.limit.specs.declared.Clip.the-variants.{Off, Factor}
-use Rattle.limit.specs.Limit.{limitOf, accepted, LimitAsks}
+use Rattle.limit.specs.Limit.{limitOf, allowed, LimitAsks}
 use Rattle.clip.specs.Clip.{clipped}
 use Rattle.clip.specs.Asks.{ClipAsks}
 use Rattle.clip.proofs.Laws.{length-clipped, total-clipped, clipped-most}
 use Rattle.scan.specs.Scan.{within}
 use Rattle.tally.specs.Tally.{countsOf, greysOf}
-use Rattle.tile.specs.Tile.{clippedBy, mappedOf, mappingOf, tileCounts, tileMapping, Holds, off, factor, ClipByAsks, MapAsks, TileAsks, TileMapped}
+use Rattle.tile.specs.Tile.{clippedBy, mappedOf, mappingOf, tileCounts, tileMapping, Holds, factor, ClipByAsks, MapAsks, TileAsks, TileMapped}
 use Rattle.tally.specs.declared.Rect.{Rect}
 use Rattle.tally.proofs.Greys.{length-greys}
 use Rattle.tally.proofs.Counts.{length-counts, total-counts}
@@ -26,8 +26,8 @@ use Rattle.tile.proofs.Mapped.{length-mapping, getD-mapping, mapping-wi
 
 -- ---- what a clip setting asks and gives
 
-pub holds-accepted : {f : Float} {n b : ℕ} → Holds (Factor f) n b → accepted f ≡ true
-holds-accepted (factor good room) = good
+pub holds-allowed : {f : Float} {n b : ℕ} → Holds (Factor f) n b → allowed f ≡ true
+holds-allowed (factor good room) = good
 
 pub holds-room : {f : Float} {n b : ℕ} → Holds (Factor f) n b → n ≤ limitOf f n b * b
 holds-room (factor good room) = room
@@ -35,7 +35,7 @@ holds-room (factor good room) = room
 pub limit-asks : {clip : Clip} {f : Float} {n : ℕ} {cs : List ℕ} → ClipByAsks clip n cs → clip ≡ Factor f → LimitAsks f n (length cs)
 limit-asks {clip} {f} {n} {cs} asks e =
     let h : Holds (Factor f) n (length cs) = subst (λ c. Holds c n (length cs)) e (asks .holds) in
-    record { good = holds-accepted h; pixels = asks .few-pixels; least = asks .some; most = asks .few }
+    record { good = holds-allowed h; pixels = asks .few-pixels; least = asks .some; most = asks .few }
 
 pub clip-asks : {clip : Clip} {f : Float} {n : ℕ} {cs : List ℕ} {l : ℕ} → ClipByAsks clip n cs → clip ≡ Factor f → l ≡ limitOf f n (length cs)
     → ClipAsks l cs

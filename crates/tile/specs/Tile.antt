@@ -9,7 +9,7 @@ use lib.ListN.{length, take}
 use Rattle.lists.specs.Lists.{tab, total, onto}
 use Rattle.limit.specs.declared.Clip.{Clip}
 use Rattle.limit.specs.declared.Clip.the-variants.{Off, Factor}
-use Rattle.limit.specs.Limit.{limitOf, accepted}
+use Rattle.limit.specs.Limit.{limitOf, allowed}
 use Rattle.clip.specs.Clip.{clipped}
 use Rattle.tally.specs.declared.Rect.{Rect}
 use Rattle.tally.specs.Tally.{countsOf, CountAsks}
@@ -40,7 +40,7 @@ tileMapping lo hi b clip vs = mappingOf lo hi (length vs) (tileCounts lo hi b cl
 -- a clip setting whose limit can be worked out, and whose limit has room for n pixels in b bins
 pub data Holds : Clip → ℕ → ℕ → Type 0 where
   off : {n b : ℕ} → Holds Off n b
-  factor : {f : lib.Ieee.Float} {n b : ℕ} → accepted f ≡ true → n ≤ limitOf f n b * b → Holds (Factor f) n b
+  factor : {f : lib.Ieee.Float} {n b : ℕ} → allowed f ≡ true → n ≤ limitOf f n b * b → Holds (Factor f) n b
 
 -- what `map` asks: counts of at most the tile's pixels, and room for a mapped value of each bin
 pub record MapAsks (counts : List ℕ) (n lo hi room : ℕ) : Type 0 where

@@ -1,3 +1,5 @@
+-- `bin_by` gives the bin of a grey by that factor.
+-- Assumes nothing.
 use borrow.Author.Needs.{needs}
 use mathlib.Core.Path.{refl}
 use Prim.Native.Nat.{_-_, _*_, _≤_}

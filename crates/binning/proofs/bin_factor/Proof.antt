@@ -1,3 +1,5 @@
+-- `bin_factor` gives what stands for the division by the bin width.
+-- Assumes nothing.
 use borrow.Author.Needs.{needs}
 use mathlib.Core.Path.{refl}
 use Prim.Native.Nat.{_+_, _-_, _/_}

@@ -1,3 +1,5 @@
+-- `bin_few` gives the bin of a grey, in 32 bits.
+-- Assumes nothing.
 use borrow.Author.Needs.{needs}
 use Rattle.binning.specs.Binning.{binBy}
 use Rattle.binning.proofs.bin_few.Statement.{statement}

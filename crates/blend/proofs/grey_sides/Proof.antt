@@ -1,6 +1,6 @@
 -- `blend::grey_sides` meets its contract: the sum and its product with the factor stay in 64 bits, and the quotient is the grey.
 -- Assumes nothing.
-use Prim.Native.Nat.{_+_, _*_, _/_, _≤_, _<_}
+use Prim.Native.Nat.{_*_, _/_, _≤_, _<_}
 use mathlib.Core.Path.{_≡_, refl}
 use native.Mathlib.Nat.{mul-le-mul}
 use native.Mathlib.Omega.{arith}

@@ -1,3 +1,5 @@
+-- `copy_window` leaves the window's pixels, row by row, in the output.
+-- Assumes nothing.
 use Prim.Native.Nat.{_≤_, _-_, _+_, _*_}
 use mathlib.Core.Path.{_≡_, refl}
 use lib.ListN.{length}

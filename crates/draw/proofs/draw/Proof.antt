@@ -1,3 +1,5 @@
+-- `draw` answers and leaves what its table and the drawn pixels say.
+-- Assumes nothing.
 use mathlib.Core.Path.{sym, _∙_}
 use Rattle.draw.proofs.Tables.{draw-ready}
 use Rattle.draw.proofs.Works.{ends-refused, ends-well}

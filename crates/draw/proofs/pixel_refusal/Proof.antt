@@ -1,3 +1,5 @@
+-- `pixel_refusal` gives the first of 13 and 18 that applies.
+-- Assumes nothing.
 use mathlib.Core.Path.{refl, sym}
 use native.Mathlib.Nat.{mul-le-mul, lt-of-le-of-lt}
 use lib.Dec.{lit<}

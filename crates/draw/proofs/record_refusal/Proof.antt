@@ -1,74 +1,25 @@
-use mathlib.Core.Path.{refl}
-use Rattle.refuse.specs.Refuse.{first}
-use Rattle.draw.specs.Draw.{recordRows}
-use borrow.Author.Tests.{eq-eqb, ne-eqb}
+-- `record_refusal` gives 15 where the record is another film's, of another size or of other settings.
+-- Assumes nothing.
 use borrow.Author.Needs.{needs}
+use Rattle.refuse.proofs.Walk.{front, behind}
+use Rattle.draw.specs.Draw.{recordRows}
+use Rattle.draw.proofs.Tables.{film-numbered}
 use Rattle.draw.proofs.record_refusal.Statement.{statement}
 use Rattle.draw.proofs.record_refusal.Tie as tie
 
+film-refusal-requires : tie.Need-film-refusal-requires
+film-refusal-requires c κs = search needs
+
 returns : tie.Need-returns
-unfolding first recordRows
-returns c = rw (ne-eqb _ _ (c .if1 .taken)) refl
+unfolding recordRows
+returns c = front _ _ (c .before .film-refusal .ensures) (c .if1 .taken)
+
+kept-refusal-requires : tie.Need-kept-refusal-requires
+kept-refusal-requires c κs = search needs
 
 returns-2 : tie.Need-returns-2
-unfolding first recordRows
-returns-2 c = rw (eq-eqb _ _ (c .before .before .if1 .left), ne-eqb _ _ (c .if2 .taken)) refl
-
-returns-3 : tie.Need-returns-3
-unfolding first recordRows
-returns-3 c = rw (eq-eqb _ _ (c .before .before .before .before .if1 .left), eq-eqb _ _ (c .before .before .if2 .left), ne-eqb _ _ (c .if3 .taken)) refl
-
-returns-4 : tie.Need-returns-4
-unfolding first recordRows
-returns-4 c = rw (eq-eqb _ _ (c .before .before .before .before .before .before .before .if1 .left), eq-eqb _ _ (c .before .before .before .before .before .if2 .left), eq-eqb _ _ (c .before .before .before .if3 .left), ne-eqb _ _ (c .if4 .taken)) refl
-
-returns-5 : tie.Need-returns-5
-unfolding first recordRows
-returns-5 c = rw (eq-eqb _ _ (c .before .before .before .before .before .before .before .before .before .before .if1 .left), eq-eqb _ _ (c .before .before .before .before .before .before .before .before .if2 .left), eq-eqb _ _ (c .before .before .before .before .before .before .if3 .left), eq-eqb _ _ (c .before .before .before .if4 .left), ne-eqb _ _ (c .if5 .taken)) refl
-
-bins-requires : tie.Need-bins-requires
-bins-requires c κs = search needs
-
-bins-requires-2 : tie.Need-bins-requires-2
-bins-requires-2 c κs = search needs
-
-returns-6 : tie.Need-returns-6
-unfolding first recordRows
-returns-6 c = rw (← c .before .before .bins .ensures, ← c .before .bins2 .ensures, eq-eqb _ _ (c .before .before .before .before .before .before .before .before .before .before .before .before .before .if1 .left), eq-eqb _ _ (c .before .before .before .before .before .before .before .before .before .before .before .if2 .left), eq-eqb _ _ (c .before .before .before .before .before .before .before .before .before .if3 .left), eq-eqb _ _ (c .before .before .before .before .before .before .if4 .left), eq-eqb _ _ (c .before .before .before .if5 .left), ne-eqb _ _ (c .if6 .taken)) refl
-
-returns-7 : tie.Need-returns-7
-unfolding first recordRows
-returns-7 c = rw (← c .before .before .before .before .before .bins .ensures, ← c .before .before .before .before .bins2 .ensures, eq-eqb _ _ (c .before .before .before .before .before .before .before .before .before .before .before .before .before .before .before .before .if1 .left), eq-eqb _ _ (c .before .before .before .before .before .before .before .before .before .before .before .before .before .before .if2 .left), eq-eqb _ _ (c .before .before .before .before .before .before .before .before .before .before .before .before .if3 .left), eq-eqb _ _ (c .before .before .before .before .before .before .before .before .before .if4 .left), eq-eqb _ _ (c .before .before .before .before .before .before .if5 .left), eq-eqb _ _ (c .before .before .before .if6 .left), ne-eqb _ _ (c .if7 .taken)) refl
-
-returns-8 : tie.Need-returns-8
-unfolding first recordRows
-returns-8 c = rw (← c .before .before .before .before .before .before .before .before .bins .ensures, ← c .before .before .before .before .before .before .before .bins2 .ensures, eq-eqb _ _ (c .before .before .before .before .before .before .before .before .before .before .before .before .before .before .before .before .before .before .before .if1 .left), eq-eqb _ _ (c .before .before .before .before .before .before .before .before .before .before .before .before .before .before .before .before .before .if2 .left), eq-eqb _ _ (c .before .before .before .before .before .before .before .before .before .before .before .before .before .before .before .if3 .left), eq-eqb _ _ (c .before .before .before .before .before .before .before .before .before .before .before .before .if4 .left), eq-eqb _ _ (c .before .before .before .before .before .before .before .before .before .if5 .left), eq-eqb _ _ (c .before .before .before .before .before .before .if6 .left), eq-eqb _ _ (c .before .before .before .if7 .left), ne-eqb _ _ (c .if8 .taken)) refl
-
-same-clip-requires : tie.Need-same-clip-requires
-same-clip-requires c κs = search needs
-
-returns-9 : tie.Need-returns-9
-unfolding first recordRows
-returns-9 c = rw (← c .before .same-clip .ensures, ← c .before .before .before .before .before .before .before .before .before .before .bins .ensures, ← c .before .before .before .before .before .before .before .before .before .bins2 .ensures, eq-eqb _ _ (c .before .before .before .before .before .before .before .before .before .before .before .before .before .before .before .before .before .before .before .before .before .if1 .left), eq-eqb _ _ (c .before .before .before .before .before .before .before .before .before .before .before .before .before .before .before .before .before .before .before .if2 .left), eq-eqb _ _ (c .before .before .before .before .before .before .before .before .before .before .before .before .before .before .before .before .before .if3 .left), eq-eqb _ _ (c .before .before .before .before .before .before .before .before .before .before .before .before .before .before .if4 .left), eq-eqb _ _ (c .before .before .before .before .before .before .before .before .before .before .before .if5 .left), eq-eqb _ _ (c .before .before .before .before .before .before .before .before .if6 .left), eq-eqb _ _ (c .before .before .before .before .before .if7 .left), eq-eqb _ _ (c .before .before .if8 .left), c .if9 .taken) refl
-
-returns-10 : tie.Need-returns-10
-unfolding first recordRows
-returns-10 c = rw (← c .before .same-clip .ensures, ← c .before .before .before .before .before .before .before .before .before .before .bins .ensures, ← c .before .before .before .before .before .before .before .before .before .bins2 .ensures, eq-eqb _ _ (c .before .before .before .before .before .before .before .before .before .before .before .before .before .before .before .before .before .before .before .before .before .if1 .left), eq-eqb _ _ (c .before .before .before .before .before .before .before .before .before .before .before .before .before .before .before .before .before .before .before .if2 .left), eq-eqb _ _ (c .before .before .before .before .before .before .before .before .before .before .before .before .before .before .before .before .before .if3 .left), eq-eqb _ _ (c .before .before .before .before .before .before .before .before .before .before .before .before .before .before .if4 .left), eq-eqb _ _ (c .before .before .before .before .before .before .before .before .before .before .before .if5 .left), eq-eqb _ _ (c .before .before .before .before .before .before .before .before .if6 .left), eq-eqb _ _ (c .before .before .before .before .before .if7 .left), eq-eqb _ _ (c .before .before .if8 .left), c .if9 .left) refl
+unfolding recordRows
+returns-2 c = behind _ _ (film-numbered _ _ _ _) (c .before .before .before .film-refusal .ensures) (c .before .before .if1 .left) (c .kept-refusal .ensures)
 
 pub record-refusal-spec : {M : Type 1} → statement M
-record-refusal-spec =
-    tie.close
-    (tie.spec
-    returns
-    returns-2
-    returns-3
-    returns-4
-    returns-5
-    bins-requires
-    bins-requires-2
-    returns-6
-    returns-7
-    returns-8
-    same-clip-requires
-    returns-9
-    returns-10)
+record-refusal-spec = tie.close (tie.spec film-refusal-requires returns kept-refusal-requires returns-2)

@@ -1,3 +1,5 @@
+-- `window_refusal` gives the first of 16 and 17 that applies.
+-- Assumes nothing.
 use mathlib.Core.Path.{refl}
 use native.Mathlib.Nat.{mul-le-mul, lt-of-le-of-lt}
 use native.Mathlib.Omega.{arith}

@@ -1,3 +1,5 @@
+-- `window_within` tells whether all pixels of the window lie in Min to Max: each row is looked at, and one that does not is enough.
+-- Assumes nothing.
 use Prim.Native.Nat.{_≤_, _-_, _+_, _*_}
 use mathlib.Core.Bool.{true}
 use mathlib.Core.Path.{_≡_, sym, _∙_}

@@ -1,5 +1,8 @@
+-- `work` leaves the drawn pixels: copied at factor 1.0, else rendered where they were copied to.
+-- Assumes nothing.
 use mathlib.Core.Path.{sym, ap, _∙_}
 use Rattle.render.specs.Render.{renderOf}
+use Rattle.draw.specs.Draw.{drawnPixels}
 use Rattle.draw.proofs.Works.{copy-asks, render-asks}
 use borrow.Author.Needs.{needs}
 use Rattle.draw.proofs.work.Statement.{statement}
@@ -15,6 +18,7 @@ same-length : tie.Need-same-length
 same-length c = search needs
 
 returns : tie.Need-returns
+unfolding drawnPixels
 returns c = rw (← c .before .clip-one .ensures, c .if1 .taken) (c .before .before .before .before .copy-window .ensures)
 
 render-requires : tie.Need-render-requires
@@ -24,6 +28,7 @@ same-length-2 : tie.Need-same-length-2
 same-length-2 c = search needs
 
 returns-2 : tie.Need-returns-2
+unfolding drawnPixels
 returns-2 c = rw (← c .before .before .before .before .before .clip-one .ensures, c .before .before .before .before .if1 .left) (c .before .before .render .ensures ∙ ap (renderOf _ _ _ _ _) (c .before .before .before .before .before .before .before .before .copy-window .ensures))
 
 pub work-spec : {M : Type 1} → statement M

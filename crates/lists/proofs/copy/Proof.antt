@@ -1,3 +1,5 @@
+-- `copy` lays the entries down in front.
+-- Assumes nothing.
 use Prim.Native.Nat.{_≤_, _-_}
 use mathlib.Core.Path.{_≡_, refl, _∙_}
 use lib.ListN.{length, length-set, getD}

@@ -1,6 +1,6 @@
 -- The rows 22 to 25, and 27 and 26 behind them. Assumes nothing.
 use mathlib.Core.Path.{sym, _∙_}
-use Rattle.pgm.proofs.Tables.{within, raster-asks, grey-limit, grey-raster, grey-target}
+use Rattle.pgm.proofs.Tables.{head-within, raster-asks, grey-limit, grey-raster, grey-target}
 use borrow.Author.Needs.{needs}
 use Rattle.pgm.proofs.grey_refusal.Statement.{statement}
 use Rattle.pgm.proofs.grey_refusal.Tie as tie
@@ -15,7 +15,7 @@ behind-requires : tie.Need-behind-requires
 behind-requires c κs = search needs
 
 raster-refusal-requires : tie.Need-raster-refusal-requires
-raster-refusal-requires c κs = let t = within _ _ _ (sym (c .before .before .limit-refusal .ensures) ∙ c .before .if1 .left) in (t .widest, t .highest)
+raster-refusal-requires c κs = let t = head-within _ _ _ (sym (c .before .before .limit-refusal .ensures) ∙ c .before .if1 .left) in (t .widest, t .highest)
 
 returns-2 : tie.Need-returns-2
 returns-2 c = grey-raster _ _ _ _ _ _ (c .before .before .before .before .limit-refusal .ensures) (c .before .before .before .if1 .left) (c .before .before .behind .ensures) (c .before .raster-refusal .ensures) (c .if2 .taken)

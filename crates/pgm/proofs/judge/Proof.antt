@@ -1,6 +1,6 @@
 -- The rows 22 to 25 behind a header that was found. Assumes nothing.
 use mathlib.Core.Path.{sym, _∙_}
-use Rattle.pgm.proofs.Tables.{within, judged-limit, judged-raster, judged-found}
+use Rattle.pgm.proofs.Tables.{head-within, judged-limit, judged-raster, judged-found}
 use borrow.Author.Needs.{needs}
 use Rattle.pgm.proofs.judge.Statement.{statement}
 use Rattle.pgm.proofs.judge.Tie as tie
@@ -15,7 +15,7 @@ sub-raster-refusal : tie.Need-sub-raster-refusal
 sub-raster-refusal c = search needs
 
 raster-refusal-requires : tie.Need-raster-refusal-requires
-raster-refusal-requires c κs = let t = within _ _ _ (sym (c .before .limit-refusal .ensures) ∙ c .if1 .left) in (t .widest, t .highest)
+raster-refusal-requires c κs = let t = head-within _ _ _ (sym (c .before .limit-refusal .ensures) ∙ c .if1 .left) in (t .widest, t .highest)
 
 returns-2 : tie.Need-returns-2
 returns-2 c = judged-raster _ _ _ _ _ (c .before .before .before .limit-refusal .ensures) (c .before .before .if1 .left) (c .before .raster-refusal .ensures) (c .if2 .taken)

@@ -1,19 +1,16 @@
-use native.Mathlib.Nat.{lt-of-le-of-lt}
-use native.Mathlib.Omega.{arith}
-use lib.Dec.{lit<}
-use Rattle.prepare.proofs.Table.{tile-pixels-most}
-use Rattle.prepare.proofs.Endings.{asks-work, asks-footer, asks-tiles}
+-- `enhance` meets its contract: refused, at the factor 1.0, or with the picture rendered.
+-- Assumes nothing.
+use Rattle.prepare.proofs.Endings.{asks-foot, asks-tiles}
 use Rattle.prepare.proofs.Renders.{asks-render, over-refused, over-one, over-well}
 use borrow.Author.Needs.{needs}
 use Rattle.prepare.proofs.enhance.Statement.{statement}
 use Rattle.prepare.proofs.enhance.Tie as tie
 use Rattle.prepare.proofs.enhance.Reads as reads
 use Rattle.prepare.proofs.enhance.Lts as lts
-use Rattle.prepare.proofs.footer.Reads as footer-reads
+use Rattle.prepare.proofs.foot.Reads as foot-reads
 use Rattle.prepare.proofs.map_tiles.Reads as map-tiles-reads
 use Rattle.prepare.proofs.refusal.Reads as refusal-reads
 use Rattle.render.proofs.render.Reads as render-reads
-use Rattle.settings.proofs.bins.Reads as bins-reads
 use Rattle.settings.proofs.clip_one.Reads as clip-one-reads
 
 refusal-requires : tie.Need-refusal-requires
@@ -23,27 +20,10 @@ same-length : tie.Need-same-length
 same-length c = search needs
 
 returns : tie.Need-returns
-returns c =
-    over-refused _ _ _ _ _ _ (c .before .refusal .ensures) (c .if1 .taken)
+returns c = over-refused _ _ _ _ _ _ (c .before .refusal .ensures) (c .if1 .taken)
 
-div-pixels : tie.Need-div-pixels
-div-pixels c =
-    omega (arith, asks-work _ _ _ _ _ _ (c .before .before .refusal .ensures) (c .before .if1 .left) .ready .across)
-
-div-pixels-2 : tie.Need-div-pixels-2
-div-pixels-2 c =
-    omega (arith, asks-work _ _ _ _ _ _ (c .before .before .before .refusal .ensures) (c .before .before .if1 .left) .ready .down)
-
-mul-pixels : tie.Need-mul-pixels
-mul-pixels c =
-    record { fits = lt-of-le-of-lt (tile-pixels-most (asks-work _ _ _ _ _ _ (c .before .before .before .refusal .ensures) (c .before .before .if1 .left) .ready)) (lit< tt) }
-
-bins-requires : tie.Need-bins-requires
-bins-requires c κs = search needs
-
-footer-requires : tie.Need-footer-requires
-footer-requires c κs =
-    asks-footer _ _ _ _ _ _ (c .before .before .before .before .refusal .ensures) (c .before .before .before .if1 .left) (c .bins .ensures)
+foot-requires : tie.Need-foot-requires
+foot-requires c κs = asks-foot _ _ _ _ _ _ (c .before .refusal .ensures) (c .if1 .left)
 
 clip-one-requires : tie.Need-clip-one-requires
 clip-one-requires c κs = search needs
@@ -52,18 +32,13 @@ same-length-2 : tie.Need-same-length-2
 same-length-2 c = search needs
 
 returns-2 : tie.Need-returns-2
-returns-2 c =
-    over-one _ _ _ _ _ _ (c .before .before .before .before .before .before .before .refusal .ensures) (c .before .before .before .before .before .before .if1 .left) (c .before .before .before .bins .ensures) (c .before .before .footer .ensures)
-    (c .before .clip-one .ensures) (c .if2 .taken)
+returns-2 c = over-one _ _ _ _ _ _ (c .before .before .before .before .refusal .ensures) (c .before .before .before .if1 .left) (c .before .before .foot .ensures) (c .before .clip-one .ensures) (c .if2 .taken)
 
 map-tiles-requires : tie.Need-map-tiles-requires
-map-tiles-requires c κs =
-    asks-tiles _ _ _ _ _ _ (c .before .before .before .before .before .before .before .before .before .before .refusal .ensures) (c .before .before .before .before .before .before .before .before .before .if1 .left) (c .before .before .before .before .clip-one .ensures) (c .before .before .before .if2 .left)
+map-tiles-requires c κs = asks-tiles _ _ _ _ _ _ (c .before .before .before .before .before .before .before .refusal .ensures) (c .before .before .before .before .before .before .if1 .left) (c .before .before .before .before .clip-one .ensures) (c .before .before .before .if2 .left)
 
 render-requires : tie.Need-render-requires
-render-requires c κs =
-    asks-render (asks-tiles _ _ _ _ _ _ (c .before .before .before .before .before .before .before .before .before .before .before .before .before .before .before .before .before .refusal .ensures) (c .before .before .before .before .before .before .before .before .before .before .before .before .before .before .before .before .if1 .left)
-    (c .before .before .before .before .before .before .before .before .before .before .before .clip-one .ensures) (c .before .before .before .before .before .before .before .before .before .before .if2 .left)) (c .before .before .before .before .before .before .map-tiles .ensures)
+render-requires c κs = asks-render (asks-tiles _ _ _ _ _ _ (c .before .before .before .before .before .before .before .before .before .before .before .before .before .before .refusal .ensures) (c .before .before .before .before .before .before .before .before .before .before .before .before .before .if1 .left) (c .before .before .before .before .before .before .before .before .before .before .before .clip-one .ensures) (c .before .before .before .before .before .before .before .before .before .before .if2 .left)) (c .before .before .before .before .before .before .map-tiles .ensures)
 
 same-length-3 : tie.Need-same-length-3
 same-length-3 c = search needs
@@ -75,10 +50,7 @@ same-length-5 : tie.Need-same-length-5
 same-length-5 c = search needs
 
 returns-3 : tie.Need-returns-3
-returns-3 c =
-    over-well _ _ _ _ _ _ (c .before .before .before .before .before .before .before .before .before .before .before .before .before .before .before .before .before .before .before .before .refusal .ensures) (c .before .before .before .before .before .before .before .before .before .before .before .before .before .before .before .before .before .before .before .if1 .left)
-    (c .before .before .before .before .before .before .before .before .before .before .before .before .before .before .before .before .bins .ensures) (c .before .before .before .before .before .before .before .before .before .before .before .before .before .before .before .footer .ensures) (c .before .before .before .before .before .before .before .before .before .before .before .before .before .before .clip-one .ensures) (c .before .before .before .before .before .before .before .before .before .before .before .before .before .if2 .left)
-    (c .before .before .before .before .before .before .before .before .before .map-tiles .ensures) (c .before .before .render .ensures)
+returns-3 c = over-well _ _ _ _ _ _ (c .before .before .before .before .before .before .before .before .before .before .before .before .before .before .before .before .before .refusal .ensures) (c .before .before .before .before .before .before .before .before .before .before .before .before .before .before .before .before .if1 .left) (c .before .before .before .before .before .before .before .before .before .before .before .before .before .before .before .foot .ensures) (c .before .before .before .before .before .before .before .before .before .before .before .before .before .before .clip-one .ensures) (c .before .before .before .before .before .before .before .before .before .before .before .before .before .if2 .left) (c .before .before .before .before .before .before .before .before .before .map-tiles .ensures) (c .before .before .render .ensures)
 
 pub enhance-spec : {M : Type 1} → statement M
 enhance-spec =
@@ -87,11 +59,7 @@ enhance-spec =
     refusal-requires
     same-length
     returns
-    div-pixels
-    div-pixels-2
-    mul-pixels
-    bins-requires
-    footer-requires
+    foot-requires
     clip-one-requires
     same-length-2
     returns-2

@@ -1,13 +1,15 @@
+-- `footer` gives the footer of the clip setting, a tile's pixels and the bins.
+-- Assumes nothing.
 use mathlib.Core.Path.{sym, _∙_}
-use Rattle.prepare.proofs.Tight.{footer-off, footer-one, footer-above, not-refused, limit-asks, used-asks}
+use Rattle.prepare.proofs.Tight.{footer-off, footer-one, footer-above, limit-asks, used-asks}
 use borrow.Author.Needs.{needs}
 use Rattle.prepare.proofs.footer.Statement.{statement}
 use Rattle.prepare.proofs.footer.Tie as tie
 use Rattle.prepare.proofs.footer.Reads as reads
 use Rattle.prepare.proofs.footer.Lts as lts
-use Rattle.limit.proofs.judge.Reads as judge-reads
 use Rattle.limit.proofs.limit.Reads as limit-reads
 use Rattle.limit.proofs.used.Reads as used-reads
+use Rattle.settings.proofs.clip_one.Reads as clip-one-reads
 
 enum-told : tie.Need-enum-told
 enum-told c = search needs
@@ -15,35 +17,23 @@ enum-told c = search needs
 enum-known-clip : tie.Need-enum-known-clip
 enum-known-clip c = search needs
 
-judge-requires : tie.Need-judge-requires
-judge-requires c κs = search needs
-
-enum-told-2 : tie.Need-enum-told-2
-enum-told-2 c = search needs
-
-enum-told-3 : tie.Need-enum-told-3
-enum-told-3 c = search needs
-
-enum-told-4 : tie.Need-enum-told-4
-enum-told-4 c = search needs
-
-limit-requires : tie.Need-limit-requires
-limit-requires c κs = limit-asks _ _ _ (c .before .before .before .before .before .before .pre) _ (c .before .before .before .before .clip .given .1) (sym (c .before .before .judge .ensures) ∙ c .enum-told4 .given .1)
-
-used-requires : tie.Need-used-requires
-used-requires c κs = used-asks _ _ _ (c .before .before .before .before .before .before .before .pre) _ (c .before .before .before .before .before .clip .given .1) (sym (c .before .before .before .judge .ensures) ∙ c .before .enum-told4 .given .1) (c .limit .ensures)
+clip-one-requires : tie.Need-clip-one-requires
+clip-one-requires c κs = search needs
 
 returns : tie.Need-returns
-returns c = footer-off _ _ _ (c .before .before .pre) (c .enum-told .given .1)
+returns c = footer-one _ _ _ (c .before .before .before .before .before .pre) _ (c .before .before .before .clip .given .1) (sym (c .before .clip-one .ensures) ∙ c .if1 .taken)
+
+limit-requires : tie.Need-limit-requires
+limit-requires c κs = limit-asks _ _ _ (c .before .before .before .before .before .pre) _ (c .before .before .before .clip .given .1)
+
+used-requires : tie.Need-used-requires
+used-requires c κs = used-asks _ _ _ (c .before .before .before .before .before .before .pre) _ (c .before .before .before .before .clip .given .1) (c .limit .ensures)
 
 returns-2 : tie.Need-returns-2
-returns-2 c = absurd (not-refused _ _ _ (c .before .before .before .before .before .before .pre) _ (c .before .before .before .before .clip .given .1) (sym (c .before .before .judge .ensures) ∙ c .enum-told2 .given .1))
+returns-2 c = footer-off _ _ _ (c .before .before .pre) (c .enum-told .given .1)
 
 returns-3 : tie.Need-returns-3
-returns-3 c = footer-one _ _ _ (c .before .before .before .before .before .before .pre) _ (c .before .before .before .before .clip .given .1) (sym (c .before .before .judge .ensures) ∙ c .enum-told3 .given .1)
-
-returns-4 : tie.Need-returns-4
-returns-4 c = footer-above _ _ _ (c .before .before .before .before .before .before .before .before .pre) _ (c .before .before .before .before .before .before .clip .given .1) (sym (c .before .before .before .before .judge .ensures) ∙ c .before .before .enum-told4 .given .1) (c .before .limit .ensures) (c .used .ensures)
+returns-3 c = footer-above _ _ _ (c .before .before .before .before .before .before .before .pre) _ (c .before .before .before .before .before .clip .given .1) (sym (c .before .before .before .clip-one .ensures) ∙ c .before .before .if1 .left) (c .before .limit .ensures) (c .used .ensures)
 
 pub footer-spec : {M : Type 1} → statement M
 footer-spec =
@@ -51,13 +41,9 @@ footer-spec =
     (tie.spec
     enum-told
     enum-known-clip
-    judge-requires
-    enum-told-2
-    enum-told-3
-    enum-told-4
+    clip-one-requires
+    returns
     limit-requires
     used-requires
-    returns
     returns-2
-    returns-3
-    returns-4)
+    returns-3)

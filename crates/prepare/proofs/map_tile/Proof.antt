@@ -1,5 +1,8 @@
+-- `map_tile` lays the mapping of tile k in its place.
+-- Assumes nothing.
 use native.Mathlib.Omega.{arith}
-use Rattle.prepare.proofs.Films.{rect-asks, tile-small, tile-room, tile-asks, tile-done}
+use Rattle.prepare.proofs.Tiles.{rect-asks}
+use Rattle.prepare.proofs.Films.{tile-small, tile-room, tile-asks, tile-done}
 use borrow.Author.Needs.{needs}
 use Rattle.prepare.proofs.map_tile.Statement.{statement}
 use Rattle.prepare.proofs.map_tile.Tie as tie
@@ -10,7 +13,7 @@ use Rattle.settings.proofs.bins.Reads as bins-reads
 use Rattle.tile.proofs.mapping.Reads as mapping-reads
 
 tile-rect-requires : tie.Need-tile-rect-requires
-tile-rect-requires c κs = rect-asks (c .before .before .before .pre)
+tile-rect-requires c κs = rect-asks (c .before .before .before .pre .film .work .ready .tiled) (c .before .before .before .pre .tile)
 
 bins-requires : tie.Need-bins-requires
 bins-requires c κs = search needs

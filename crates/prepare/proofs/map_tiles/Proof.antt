@@ -1,7 +1,10 @@
+-- `map_tiles` lays the mappings of all tiles, and clears the scratch.
+-- Assumes nothing.
 use Prim.Native.Nat.{_-_, _≤_}
 use native.Mathlib.Omega.{arith}
 use borrow.Author.Needs.{needs}
-use Rattle.prepare.proofs.Turns.{tiles-most, Laid, laid-first, laid-asks, laid-length, laid-next, laid-end}
+use Rattle.prepare.proofs.Tiles.{tiles-most}
+use Rattle.prepare.proofs.Turns.{Laid, laid-first, laid-asks, laid-length, laid-next, laid-end}
 use Rattle.prepare.proofs.map_tiles.Statement.{statement}
 use Rattle.prepare.proofs.map_tiles.Tie as tie
 use Rattle.prepare.proofs.map_tiles.Reads as reads
@@ -17,10 +20,10 @@ abbrev μ-loop : tie.MeasureT-loop
 μ-loop picture width height s map₀ scratch₀ tiles k₀ map scratch k = tiles - k
 
 mul-tiles : tie.Need-mul-tiles Inv-loop μ-loop
-mul-tiles c = omega (arith, tiles-most (c .before .before .before .before .pre))
+mul-tiles c = omega (arith, tiles-most (c .before .before .before .before .pre .work .ready .tiled))
 
 cast-tiles : tie.Need-cast-tiles Inv-loop μ-loop
-cast-tiles c = omega (arith, tiles-most (c .before .before .before .before .pre))
+cast-tiles c = omega (arith, tiles-most (c .before .before .before .before .pre .work .ready .tiled))
 
 loop-holds : tie.Need-loop-holds Inv-loop μ-loop
 loop-holds c = (search needs, laid-first)
@@ -29,7 +32,7 @@ map-tile-requires : tie.Need-map-tile-requires Inv-loop μ-loop
 map-tile-requires c κs = laid-asks (c .before .before .before .before .before .before .before .before .pre) (c .before .before .before .loop .inv .1) (search needs)
 
 add-k : tie.Need-add-k Inv-loop μ-loop
-add-k c = omega (arith, tiles-most (c .before .before .before .before .before .before .before .before .before .before .before .before .before .pre))
+add-k c = omega (arith, tiles-most (c .before .before .before .before .before .before .before .before .before .before .before .before .before .pre .work .ready .tiled))
 
 loop-less : tie.Need-loop-less Inv-loop μ-loop
 loop-less c = search needs

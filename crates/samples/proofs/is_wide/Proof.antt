@@ -1,3 +1,5 @@
+-- `is_wide` says whether a sample has two bytes.
+-- Assumes nothing.
 use mathlib.Core.Path.{refl}
 use Rattle.samples.specs.Samples.{isWide}
 use Rattle.samples.proofs.is_wide.Statement.{statement}

@@ -7,7 +7,7 @@ use lib.ListN.{length, length-set, getD}
 use native.Mathlib.Nat.{mul-one}
 use native.Mathlib.Omega.{arith}
 use borrow.Author.Needs.{needs}
-use Rattle.lists.proofs.Blocks.{over-one}
+use Rattle.lists.proofs.Overs.{set-over}
 use Rattle.samples.specs.Samples.{isWide, sizeOf}
 use Rattle.samples.proofs.Bounds.{bound-at}
 use Rattle.samples.proofs.Packing.{laid, laid-first, laid-next, laid-end}
@@ -51,7 +51,7 @@ loop-again c =
       search needs,
       search needs,
       rw length-set (search needs),
-      laid-next _ _ _ (loop .i) (loop .inv .3) (rw mul-one (over-one (loop .out) (loop .i) (getD greys (loop .i) 0) (search needs))),
+      laid-next _ _ _ (loop .i) (loop .inv .3) (rw mul-one (set-over (loop .out) (loop .i) (getD greys (loop .i) 0) (search needs))),
     )
 
 same-length : tie.Need-same-length Inv-loop μ-loop

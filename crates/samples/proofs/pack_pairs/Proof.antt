@@ -6,7 +6,7 @@ use mathlib.Core.Path.{_≡_, refl}
 use lib.ListN.{length, length-set, getD}
 use native.Mathlib.Omega.{arith}
 use borrow.Author.Needs.{needs}
-use Rattle.lists.proofs.Blocks.{over-two}
+use Rattle.lists.proofs.Overs.{over-two}
 use Rattle.samples.specs.Samples.{sizeOf}
 use Rattle.samples.proofs.Packing.{laid, laid-first, laid-next, laid-end}
 use Rattle.samples.proofs.pack_pairs.Statement.{statement}

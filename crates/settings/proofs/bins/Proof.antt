@@ -1,3 +1,5 @@
+-- `bins` gives the bins, with 0 read as 128.
+-- Assumes nothing.
 use borrow.Author.Tests.{eq-eqb, ne-eqb}
 use mathlib.Core.Path.{refl}
 use Rattle.settings.specs.Settings.{binsOf}

@@ -1,5 +1,7 @@
+-- `clip_bad` says whether the factor is refused.
+-- Assumes nothing.
 use mathlib.Core.Path.{sym, _∙_}
-use Rattle.settings.proofs.Clips.{bad-refused, bad-one, bad-above}
+use Rattle.settings.proofs.Clips.{bad-off, bad-refused, bad-one, bad-above}
 use borrow.Author.Needs.{needs}
 use Rattle.settings.proofs.clip_bad.Statement.{statement}
 use Rattle.settings.proofs.clip_bad.Tie as tie
@@ -7,14 +9,11 @@ use Rattle.settings.proofs.clip_bad.Reads as reads
 use Rattle.settings.proofs.clip_bad.Lts as lts
 use Rattle.limit.proofs.judge.Reads as judge-reads
 
-enum-told : tie.Need-enum-told
-enum-told c = search needs
-
-enum-known-clip : tie.Need-enum-known-clip
-enum-known-clip c = search needs
-
 judge-requires : tie.Need-judge-requires
 judge-requires c κs = search needs
+
+enum-told : tie.Need-enum-told
+enum-told c = search needs
 
 enum-told-2 : tie.Need-enum-told-2
 enum-told-2 c = search needs
@@ -26,27 +25,23 @@ enum-told-4 : tie.Need-enum-told-4
 enum-told-4 c = search needs
 
 returns : tie.Need-returns
-returns c = search needs
+returns c = bad-off _ (sym (c .before .before .judge .ensures) ∙ c .enum-told .given .1)
 
 returns-2 : tie.Need-returns-2
-returns-2 c =
-    bad-refused _ _ (c .before .before .before .before .clip .given .1) (sym (c .before .before .judge .ensures) ∙ c .enum-told2 .given .1)
+returns-2 c = bad-refused _ (sym (c .before .before .judge .ensures) ∙ c .enum-told2 .given .1)
 
 returns-3 : tie.Need-returns-3
-returns-3 c =
-    bad-one _ _ (c .before .before .before .before .clip .given .1) (sym (c .before .before .judge .ensures) ∙ c .enum-told3 .given .1)
+returns-3 c = bad-one _ (sym (c .before .before .judge .ensures) ∙ c .enum-told3 .given .1)
 
 returns-4 : tie.Need-returns-4
-returns-4 c =
-    bad-above _ _ (c .before .before .before .before .clip .given .1) (sym (c .before .before .judge .ensures) ∙ c .enum-told4 .given .1)
+returns-4 c = bad-above _ (sym (c .before .before .judge .ensures) ∙ c .enum-told4 .given .1)
 
 pub clip-bad-spec : {M : Type 1} → statement M
 clip-bad-spec =
     tie.close
     (tie.spec
-    enum-told
-    enum-known-clip
     judge-requires
+    enum-told
     enum-told-2
     enum-told-3
     enum-told-4

@@ -1,3 +1,5 @@
+-- `grid_refusal` gives the first of 3 to 6 that applies.
+-- Assumes nothing.
 use Rattle.refuse.specs.Refuse.{first}
 use Rattle.settings.specs.Settings.{gridRows}
 use mathlib.Core.Path.{refl}

@@ -1,3 +1,5 @@
+-- `kept` gives the settings with bins 0 as 128.
+-- Assumes nothing.
 use mathlib.Core.Path.{refl}
 use borrow.Author.Needs.{needs}
 use Rattle.settings.proofs.kept.Statement.{statement}

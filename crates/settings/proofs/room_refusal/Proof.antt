@@ -1,3 +1,5 @@
+-- `room_refusal` gives 11 where the map buffer is too short.
+-- Assumes nothing.
 use native.Mathlib.Nat.{mul-le-mul, lt-of-le-of-lt}
 use lib.Dec.{lit<}
 use mathlib.Core.Path.{refl}

@@ -1,3 +1,5 @@
+-- `same_clip` says whether two clip settings are the same.
+-- Assumes nothing.
 use mathlib.Core.Path.{refl}
 use Rattle.settings.specs.Settings.{sameClip}
 use borrow.Author.Needs.{needs}

@@ -1,6 +1,6 @@
 -- `tally::add_up` meets its contract: the entries passed are added up, those ahead are as they were.
 -- Assumes nothing.
-use Prim.Native.Nat.{_+_, _≤_, _<_, _-_}
+use Prim.Native.Nat.{_≤_, _-_}
 use mathlib.Core.Path.{_≡_, refl, ap, _∙_}
 use lib.ListN.{length, length-set, getD}
 use native.Mathlib.Omega.{arith}

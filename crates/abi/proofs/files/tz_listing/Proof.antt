@@ -1,10 +1,12 @@
-use Rattle.abi.proofs.Handed.{written-bytes, written-refused}
+-- `abi::tz_listing` meets its contract: the text's length goes to its cell, or the refusal is returned.
+-- Assumes nothing.
+use Rattle.flat.proofs.Handed.{written-bytes, written-refused}
 use borrow.Author.Needs.{needs}
 use Rattle.abi.proofs.files.tz_listing.Statement.{statement}
 use Rattle.abi.proofs.files.tz_listing.Tie as tie
 use Rattle.abi.proofs.files.tz_listing.Reads as reads
 use Rattle.abi.proofs.files.tz_listing.Lts as lts
-use Rattle.lister.proofs.list.Reads as list-reads
+use Rattle.listing.proofs.list.Reads as list-reads
 
 list-requires : tie.Need-list-requires
 list-requires c κs = search needs

@@ -1,4 +1,6 @@
-use Rattle.abi.proofs.Handed.{greys-done, greys-refused}
+-- `abi::tz_read_greys` meets its contract: the target is what read_greys leaves, and its answer is returned.
+-- Assumes nothing.
+use Rattle.flat.proofs.Handed.{greys-done, greys-refused}
 use borrow.Author.Needs.{needs}
 use Rattle.abi.proofs.files.tz_read_greys.Statement.{statement}
 use Rattle.abi.proofs.files.tz_read_greys.Tie as tie

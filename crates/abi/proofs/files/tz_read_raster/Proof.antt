@@ -1,7 +1,9 @@
+-- `abi::tz_read_raster` meets its contract: the raster's length is within the file's, so where it starts is a difference.
+-- Assumes nothing.
 use denote.Ref.{now}
 use Rattle.pgm.specs.Pgm.{readOf}
 use mathlib.Core.Path.{refl}
-use Rattle.abi.proofs.Handed.{raster-size, raster-found, raster-refused}
+use Rattle.flat.proofs.Handed.{raster-size, raster-found, raster-refused}
 use borrow.Author.Needs.{needs}
 use Rattle.abi.proofs.files.tz_read_raster.Statement.{statement}
 use Rattle.abi.proofs.files.tz_read_raster.Tie as tie

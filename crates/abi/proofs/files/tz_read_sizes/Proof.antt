@@ -1,4 +1,6 @@
-use Rattle.abi.proofs.Handed.{sizes-found, sizes-refused}
+-- `abi::tz_read_sizes` meets its contract: width, height and maxval go to their cells, or the refusal is returned.
+-- Assumes nothing.
+use Rattle.flat.proofs.Handed.{sizes-found, sizes-refused}
 use borrow.Author.Needs.{needs}
 use Rattle.abi.proofs.files.tz_read_sizes.Statement.{statement}
 use Rattle.abi.proofs.files.tz_read_sizes.Tie as tie

@@ -1,4 +1,6 @@
-use Rattle.abi.proofs.Handed.{written-bytes, written-refused}
+-- `abi::tz_write` meets its contract: the byte count goes to its cell, or the refusal is returned.
+-- Assumes nothing.
+use Rattle.flat.proofs.Handed.{written-bytes, written-refused}
 use borrow.Author.Needs.{needs}
 use Rattle.abi.proofs.files.tz_write.Statement.{statement}
 use Rattle.abi.proofs.files.tz_write.Tie as tie

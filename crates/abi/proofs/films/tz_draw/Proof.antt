@@ -1,11 +1,13 @@
-use Rattle.abi.proofs.Handed.{drawn-done, drawn-refused}
+-- `abi::tz_draw` meets its contract: draw is asked with the record and the window made of their numbers, and its answer is returned.
+-- Assumes nothing.
+use Rattle.flat.proofs.Handed.{drawn-done, drawn-refused}
 use borrow.Author.Needs.{needs}
 use Rattle.abi.proofs.films.tz_draw.Statement.{statement}
 use Rattle.abi.proofs.films.tz_draw.Tie as tie
 use Rattle.abi.proofs.films.tz_draw.Reads as reads
 use Rattle.abi.proofs.films.tz_draw.Lts as lts
-use Rattle.abi.proofs.flat.record_from.Reads as record-from-reads
-use Rattle.abi.proofs.flat.settings_from.Reads as settings-from-reads
+use Rattle.flat.proofs.record_from.Reads as record-from-reads
+use Rattle.flat.proofs.settings_from.Reads as settings-from-reads
 use Rattle.draw.proofs.draw.Reads as draw-reads
 
 settings-from-requires : tie.Need-settings-from-requires

@@ -1,10 +1,13 @@
-use Rattle.abi.proofs.Handed.{enhanced-done, enhanced-refused}
+-- `abi::tz_enhance` meets its contract: enhance's footer goes to its cells, or its refusal is returned.
+-- Assumes nothing.
+use Rattle.flat.proofs.Handed.{enhanced-done, enhanced-refused}
 use borrow.Author.Needs.{needs}
 use Rattle.abi.proofs.films.tz_enhance.Statement.{statement}
 use Rattle.abi.proofs.films.tz_enhance.Tie as tie
 use Rattle.abi.proofs.films.tz_enhance.Reads as reads
 use Rattle.abi.proofs.films.tz_enhance.Lts as lts
-use Rattle.abi.proofs.flat.settings_from.Reads as settings-from-reads
+use Rattle.flat.proofs.put_footer.Reads as put-footer-reads
+use Rattle.flat.proofs.settings_from.Reads as settings-from-reads
 use Rattle.prepare.proofs.enhance.Reads as enhance-reads
 
 settings-from-requires : tie.Need-settings-from-requires
@@ -15,6 +18,9 @@ enhance-requires c κs = search needs
 
 enum-known-answer : tie.Need-enum-known-answer
 enum-known-answer c = search needs
+
+put-footer-requires : tie.Need-put-footer-requires
+put-footer-requires c κs = search needs
 
 enum-known-answer-2 : tie.Need-enum-known-answer-2
 enum-known-answer-2 c = search needs
@@ -29,7 +35,7 @@ same-length-3 : tie.Need-same-length-3
 same-length-3 c = search needs
 
 returns : tie.Need-returns
-returns c = rw (← c .before .before .before .before .before .before .before .before .before .before .before .before .before .settings-from .ensures) (enhanced-done _ _ (c .before .before .before .before .before .before .before .before .before .enhance .ensures) (c .before .answer .given .1))
+returns c = rw (← c .before .before .before .before .before .before .before .before .before .before .before .before .before .before .before .before .before .settings-from .ensures) (enhanced-done _ _ (c .before .before .before .before .before .before .before .before .before .before .before .before .before .enhance .ensures) (c .before .before .before .before .before .answer .given .1) (c .put-footer .ensures))
 
 same-length-4 : tie.Need-same-length-4
 same-length-4 c = search needs
@@ -50,6 +56,7 @@ tz-enhance-spec =
     settings-from-requires
     enhance-requires
     enum-known-answer
+    put-footer-requires
     enum-known-answer-2
     same-length
     same-length-2

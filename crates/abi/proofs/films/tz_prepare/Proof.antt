@@ -1,12 +1,14 @@
-use Rattle.abi.proofs.Handed.{prepared-done, prepared-refused}
+-- `abi::tz_prepare` meets its contract: prepare's record and footer go to their cells, or its refusal is returned.
+-- Assumes nothing.
+use Rattle.flat.proofs.Handed.{prepared-done, prepared-refused}
 use borrow.Author.Needs.{needs}
 use Rattle.abi.proofs.films.tz_prepare.Statement.{statement}
 use Rattle.abi.proofs.films.tz_prepare.Tie as tie
 use Rattle.abi.proofs.films.tz_prepare.Reads as reads
 use Rattle.abi.proofs.films.tz_prepare.Lts as lts
-use Rattle.abi.proofs.flat.clip_factor.Reads as clip-factor-reads
-use Rattle.abi.proofs.flat.put_record.Reads as put-record-reads
-use Rattle.abi.proofs.flat.settings_from.Reads as settings-from-reads
+use Rattle.flat.proofs.put_footer.Reads as put-footer-reads
+use Rattle.flat.proofs.put_record.Reads as put-record-reads
+use Rattle.flat.proofs.settings_from.Reads as settings-from-reads
 use Rattle.prepare.proofs.prepare.Reads as prepare-reads
 
 settings-from-requires : tie.Need-settings-from-requires
@@ -21,8 +23,8 @@ enum-known-answer c = search needs
 put-record-requires : tie.Need-put-record-requires
 put-record-requires c κs = search needs
 
-clip-factor-requires : tie.Need-clip-factor-requires
-clip-factor-requires c κs = search needs
+put-footer-requires : tie.Need-put-footer-requires
+put-footer-requires c κs = search needs
 
 enum-known-answer-2 : tie.Need-enum-known-answer-2
 enum-known-answer-2 c = search needs
@@ -34,7 +36,7 @@ same-length-2 : tie.Need-same-length-2
 same-length-2 c = search needs
 
 returns : tie.Need-returns
-returns c = rw (← c .before .before .before .before .before .before .before .before .before .before .before .before .before .before .settings-from .ensures) (prepared-done _ _ _ _ (c .before .before .before .before .before .before .before .before .before .before .before .prepare .ensures) (c .before .before .before .before .before .answer .given .1) (c .before .before .put-record .ensures) (c .clip-factor .ensures))
+returns c = rw (← c .before .before .before .before .before .before .before .before .before .before .before .before .before .before .before .before .before .settings-from .ensures) (prepared-done _ _ _ _ (c .before .before .before .before .before .before .before .before .before .before .before .before .before .before .prepare .ensures) (c .before .before .before .before .before .before .before .before .answer .given .1) (c .before .before .before .before .put-record .ensures .0) (c .before .before .before .before .put-record .ensures .1) (c .put-footer .ensures))
 
 same-length-3 : tie.Need-same-length-3
 same-length-3 c = search needs
@@ -53,7 +55,7 @@ tz-prepare-spec =
     prepare-requires
     enum-known-answer
     put-record-requires
-    clip-factor-requires
+    put-footer-requires
     enum-known-answer-2
     same-length
     same-length-2

@@ -1,2 +1,0 @@
--- Laws that the proofs of the program cite. Assumes nothing.
-pub mod Nans

@@ -1,0 +1,2 @@
+-- Laws that the proofs of the film set cite. Assumes nothing.
+pub mod Nans

@@ -1,0 +1,56 @@
+-- `filmset::digest::bytes` is safe and ends: the place is within the buffer. The measure is the entries left. Assumes nothing.
+use borrow.Author.Needs.{needs}
+use native.Mathlib.Omega.{arith}
+use Prim.Native.Nat.{_≤_, _-_}
+use lib.ListN.{length}
+use Rattle.filmset.proofs.digest.bytes.Statement.{statement}
+use Rattle.filmset.proofs.digest.bytes.Tie as tie
+
+abbrev Inv-loop : tie.InvT-loop
+Inv-loop entries h₀ i₀ h i = i ≤ length entries
+
+abbrev μ-loop : tie.MeasureT-loop
+μ-loop entries h₀ i₀ h i = length entries - i
+
+loop-holds : tie.Need-loop-holds Inv-loop μ-loop
+loop-holds c = search needs
+
+shared-slice-read-taken : tie.Need-shared-slice-read-taken Inv-loop μ-loop
+shared-slice-read-taken c = search needs
+
+cast-taken : tie.Need-cast-taken Inv-loop μ-loop
+cast-taken c = omega (arith, c .shared-slice-known2 .given (c .before .before .loop .i))
+
+taken-requires : tie.Need-taken-requires Inv-loop μ-loop
+taken-requires c κs = search needs
+
+add-i : tie.Need-add-i Inv-loop μ-loop
+add-i c = search needs
+
+loop-less : tie.Need-loop-less Inv-loop μ-loop
+loop-less c = search needs
+
+loop-again : tie.Need-loop-again Inv-loop μ-loop
+loop-again c = search needs
+
+taken-requires-2 : tie.Need-taken-requires-2 Inv-loop μ-loop
+taken-requires-2 c κs = search needs
+
+returns : tie.Need-returns Inv-loop μ-loop
+returns c = search needs
+
+pub bytes-spec : {M : Type 1} → statement M
+bytes-spec =
+    tie.close
+    (tie.spec
+    Inv-loop
+    μ-loop
+    loop-holds
+    shared-slice-read-taken
+    cast-taken
+    taken-requires
+    add-i
+    loop-less
+    loop-again
+    taken-requires-2
+    returns)

@@ -1,0 +1,54 @@
+// The digest of a buffer: from 7 on, each entry and last the buffer's length are taken in.
+ghost use Prim.Native.Nat.{_≤_};
+
+const SPAN: u64 = 4294967296;
+
+// The digest h with one entry more.
+fn taken(h: u64, v: u64) -> u64 {
+    ((h % SPAN) * 31 + v % SPAN + 1) % SPAN
+}
+
+// Of the first n entries, or of all where there are no more.
+pub fn first(entries: &[u16], n: u64) -> u64 {
+    let end = least(n as usize, entries.len());
+    let mut h = 7;
+    let mut i = 0;
+    while i < end {
+        h = taken(h, entries[i] as u64);
+        i += 1;
+    }
+    taken(h, end as u64)
+}
+
+fn least(a: usize, b: usize) -> usize
+    ensures { λ r. ⌜ r ≤ b ⌝ }
+{
+    if a < b {
+        return a;
+    }
+    b
+}
+
+pub fn greys(entries: &[u16]) -> u64 {
+    first(entries, entries.len() as u64)
+}
+
+pub fn words(entries: &[u32]) -> u64 {
+    let mut h = 7;
+    let mut i = 0;
+    while i < entries.len() {
+        h = taken(h, entries[i] as u64);
+        i += 1;
+    }
+    taken(h, entries.len() as u64)
+}
+
+pub fn bytes(entries: &[u8]) -> u64 {
+    let mut h = 7;
+    let mut i = 0;
+    while i < entries.len() {
+        h = taken(h, entries[i] as u64);
+        i += 1;
+    }
+    taken(h, entries.len() as u64)
+}

@@ -1,0 +1,340 @@
+// The files, greys, writes and listings: raw PGM read, turned into greys, written and listed.
+use crate::column;
+use crate::digest;
+use crate::film;
+use crate::film::Shot;
+use crate::made;
+use crate::text;
+use crate::whole::Row;
+use crate::whole::at;
+use crate::whole::front;
+use crate::whole::front_bytes;
+use crate::whole::part;
+use crate::whole::word;
+use pgm::Sizes;
+use pgm::Turned;
+use pgm::Written;
+
+// What a target of greys counts up from.
+const TARGET_BASE: u64 = 40000;
+
+// The answer of a call for the sizes, and the sizes where it accepted.
+pub struct Found {
+    pub number: u32,
+    pub width: u32,
+    pub height: u32,
+    pub maxval: u32,
+}
+
+// The answer of write or of the listing, and the byte count where it accepted.
+pub struct Laid {
+    pub number: u32,
+    pub count: usize,
+}
+
+// The bytes of a row that are turned: where the raster starts, how long the target is, and how much of it is digested.
+pub struct Turn {
+    pub letter: u8,
+    pub no: u64,
+    pub start: usize,
+    pub room: u64,
+    pub seen: u64,
+}
+
+fn sizes_c(bytes: &[u8]) -> Found {
+    let mut sizes = [0u32; 3];
+    let number = abi::files::tz_read_sizes(bytes, &mut sizes);
+    Found {
+        number,
+        width: sizes[0],
+        height: sizes[1],
+        maxval: sizes[2],
+    }
+}
+
+// Asks for the sizes.
+fn sizes(by_c: bool, bytes: &[u8]) -> Found {
+    if by_c {
+        return sizes_c(bytes);
+    }
+    let answer = pgm::read_sizes(bytes);
+    match answer {
+        Sizes::Found(width, height, maxval) => Found {
+            number: 0,
+            width,
+            height,
+            maxval,
+        },
+        Sizes::Refused(number) => Found {
+            number,
+            width: 0,
+            height: 0,
+            maxval: 0,
+        },
+    }
+}
+
+// The raster by the call for C: all bytes, which no raster is, where its answer is not that for the sizes.
+fn raster_c(bytes: &[u8], number: u32) -> &[u8] {
+    let mut place = [bytes.len(), 0];
+    if abi::files::tz_read_raster(bytes, &mut place) != number {
+        return bytes;
+    }
+    part(bytes, place[0], place[1])
+}
+
+// Asks for the raster.
+fn raster(by_c: bool, bytes: &[u8], number: u32) -> &[u8] {
+    if by_c {
+        return raster_c(bytes, number);
+    }
+    pgm::read_raster(bytes)
+}
+
+fn turned_number(t: Turned) -> u32 {
+    match t {
+        Turned::Done => 0,
+        Turned::Refused(n) => n,
+    }
+}
+
+// Turns a raster into greys; answers the call's number.
+fn turn_by(by_c: bool, bytes: &[u8], start: usize, f: Found, target: &mut [u16]) -> u32 {
+    if by_c {
+        return abi::files::tz_read_greys(bytes, start, f.width, f.height, f.maxval, target);
+    }
+    turned_number(pgm::read_greys(bytes, start, f.width, f.height, f.maxval, target))
+}
+
+// The lines of a raster turned into greys: answer, digests and target; and how the front of the target looks.
+fn turned_lines(t: Turn, number: u32, bytes: &[u8], target: &[u16]) -> Shot {
+    let of_file = t.letter == b'G';
+    text::one(t.letter, t.no, number);
+    text::two(
+        text::either(of_file, b'g', b'h'),
+        t.no,
+        digest::bytes(bytes),
+        digest::greys(target),
+    );
+    text::small(text::either(of_file, b't', b'u'), t.no, target);
+    Shot {
+        number,
+        digest: digest::first(target, t.seen),
+    }
+}
+
+// Makes the target and turns the raster into greys.
+fn turned(by_c: bool, t: Turn, f: Found, bytes: &[u8]) -> Shot {
+    let mut target = [0u16; 9219];
+    let g = front(&mut target, t.room);
+    made::output(g, TARGET_BASE);
+    let number = turn_by(by_c, bytes, t.start, f, g);
+    turned_lines(t, number, bytes, &g[..])
+}
+
+// The line of the sizes.
+fn sizes_line(no: u64, f: Found) {
+    if f.number != 0 {
+        text::one(b'S', no, f.number);
+        return;
+    }
+    text::start(b'S', no);
+    text::word(0);
+    text::word(f.width);
+    text::word(f.height);
+    text::word(f.maxval);
+    text::end();
+}
+
+// The line of the raster; answers where it starts.
+fn raster_line(no: u64, raster: &[u8], bytes: &[u8]) -> usize {
+    text::three(
+        b'R',
+        no,
+        raster.len() as u64,
+        digest::bytes(raster),
+        digest::bytes(bytes),
+    );
+    std::num::wrapping_sub_usize(bytes.len(), raster.len())
+}
+
+// The reading steps over the bytes of a file.
+fn reading(by_c: bool, no: u64, room: u64, seen: u64, bytes: &[u8]) -> Shot {
+    let f = sizes(by_c, bytes);
+    sizes_line(no, f);
+    let start = raster_line(no, raster(by_c, bytes, f.number), bytes);
+    if f.number != 0 {
+        return Shot {
+            number: f.number,
+            digest: 0,
+        };
+    }
+    let t = Turn {
+        letter: b'G',
+        no,
+        start,
+        room,
+        seen,
+    };
+    turned(by_c, t, f, bytes)
+}
+
+// A row of the files: no, target length, count and the bytes.
+pub fn file(by_c: bool, row: Row) {
+    let bytes = made::listed(row, column::FILE_BYTES);
+    reading(
+        by_c,
+        at(row, column::NO),
+        at(row, column::ROOM),
+        0,
+        part(&bytes, 0, at(row, column::COUNT) as usize),
+    );
+}
+
+// A row of the greys: no, target length, count, start, width, height, maxval and the bytes.
+pub fn greys(by_c: bool, row: Row) {
+    let bytes = made::listed(row, column::RASTER_BYTES);
+    let t = Turn {
+        letter: b'H',
+        no: at(row, column::NO),
+        start: at(row, column::START) as usize,
+        room: at(row, column::ROOM),
+        seen: 0,
+    };
+    let f = Found {
+        number: 0,
+        width: word(row, column::RASTER_WIDTH),
+        height: word(row, column::RASTER_HEIGHT),
+        maxval: word(row, column::RASTER_MAXVAL),
+    };
+    turned(by_c, t, f, part(&bytes, 0, at(row, column::COUNT) as usize));
+}
+
+fn written_c(row: Row, picture: &[u16], out: &mut [u8]) -> Laid {
+    let mut count = 0;
+    let number = abi::files::tz_write(
+        picture,
+        word(row, column::WIDTH),
+        word(row, column::HEIGHT),
+        word(row, column::MAXVAL),
+        out,
+        &mut count,
+    );
+    Laid { number, count }
+}
+
+fn written_number(w: Written) -> u32 {
+    match w {
+        Written::Bytes(_) => 0,
+        Written::Refused(n) => n,
+    }
+}
+
+fn laid_of(w: Written) -> Laid {
+    Laid {
+        number: written_number(w),
+        count: listing::laid(w),
+    }
+}
+
+// Writes a picture.
+fn write_by(by_c: bool, row: Row, picture: &[u16], out: &mut [u8]) -> Laid {
+    if by_c {
+        return written_c(row, picture, out);
+    }
+    laid_of(pgm::write(
+        picture,
+        word(row, column::WIDTH),
+        word(row, column::HEIGHT),
+        word(row, column::MAXVAL),
+        out,
+    ))
+}
+
+// The answer of write or of the listing.
+fn laid_line(letter: u8, no: u64, laid: Laid) {
+    text::start(letter, no);
+    text::word(laid.number);
+    if laid.number == 0 {
+        text::field(laid.count as u64);
+    }
+    text::end();
+}
+
+// The lines of write: the answer, the digests of picture and out, and the out.
+fn written_lines(no: u64, laid: Laid, picture: &[u16], out: &[u8]) {
+    laid_line(b'B', no, laid);
+    text::two(b'b', no, digest::greys(picture), digest::bytes(out));
+    text::small_bytes(b'c', no, out);
+}
+
+// What was written, if it was, is read back and held against the picture.
+fn read_back(by_c: bool, row: Row, laid: Laid, picture: &[u16], out: &[u8]) {
+    if laid.number != 0 {
+        return;
+    }
+    let seen = picture.len() as u64;
+    let shot = reading(
+        by_c,
+        at(row, column::NO),
+        at(row, column::BACK_ROOM),
+        seen,
+        part(out, 0, laid.count),
+    );
+    let made = Shot {
+        number: 0,
+        digest: digest::greys(picture),
+    };
+    film::same(at(row, column::NO), made, shot);
+}
+
+// Makes the out and writes the picture.
+fn written(by_c: bool, row: Row, picture: &[u16]) {
+    let mut out = made::out();
+    let o = front_bytes(&mut out, at(row, column::BYTES_ROOM));
+    let laid = write_by(by_c, row, picture, o);
+    written_lines(at(row, column::NO), laid, picture, &o[..]);
+    read_back(by_c, row, laid, picture, &o[..]);
+}
+
+// A row of the writes: no, maxval, the film rule's columns, out length and target length.
+pub fn write(by_c: bool, row: Row) {
+    let mut picture = [0u16; 9216];
+    let p = front(&mut picture, at(row, column::LENGTH));
+    made::picture(row, p);
+    written(by_c, row, &p[..]);
+}
+
+fn list_c(bytes: &[u8], out: &mut [u8]) -> Laid {
+    let mut count = 0;
+    let number = abi::files::tz_listing(bytes, out, &mut count);
+    Laid { number, count }
+}
+
+// Lists a file.
+fn list_by(by_c: bool, bytes: &[u8], out: &mut [u8]) -> Laid {
+    if by_c {
+        return list_c(bytes, out);
+    }
+    laid_of(listing::list(bytes, out))
+}
+
+// Makes the out and lists; the answer, and the digests of the bytes and of the out.
+fn listed(by_c: bool, row: Row, bytes: &[u8]) {
+    let mut out = made::out();
+    let o = front_bytes(&mut out, at(row, column::ROOM));
+    let laid = list_by(by_c, bytes, o);
+    laid_line(b'L', at(row, column::NO), laid);
+    text::two(
+        b'l',
+        at(row, column::NO),
+        digest::bytes(bytes),
+        digest::bytes(&o[..]),
+    );
+}
+
+// A row of the listings: no, out length, count and the bytes.
+pub fn list(by_c: bool, row: Row) {
+    let bytes = made::listed(row, column::FILE_BYTES);
+    listed(by_c, row, part(&bytes, 0, at(row, column::COUNT) as usize));
+}

@@ -1,0 +1,403 @@
+// The films and the draws: prepare, draw and enhance.
+use crate::column;
+use crate::digest;
+use crate::kept;
+use crate::kept::Kept;
+use crate::kept::Ten;
+use crate::made;
+use crate::text;
+use crate::whole::Row;
+use crate::whole::at;
+use crate::whole::front;
+use crate::whole::front_words;
+use crate::whole::low;
+use crate::whole::with;
+use crate::whole::word;
+use draw::Drawn;
+use settings::Window;
+
+// What an output of draw counts up from.
+const OUTPUT_BASE: u64 = 50000;
+
+// The letter of a film's row.
+pub const FILM: u64 = 70;
+
+// The number of no field of a record.
+const NO_FIELD: u64 = 10;
+
+// The place of no entry.
+const NOWHERE: u64 = 18446744073709551615;
+
+// What prepare or enhance left: the answer with the record for draw, the picture's digest, and the map.
+pub struct Made {
+    pub kept: Kept,
+    pub digest: u64,
+    pub map: [u16; 65536],
+}
+
+// What came of a row: 0 where each call accepted, and the digest of the rendered pixels.
+pub struct Shot {
+    pub number: u32,
+    pub digest: u64,
+}
+
+// Whether a row is a film's: it is drawn whole, with nothing changed before.
+fn is_film(drawn: Row) -> bool {
+    at(drawn, column::LETTER) == FILM
+}
+
+// The number in a column that draws alone have, or what stands for it where a film is drawn whole.
+fn own(drawn: Row, place: usize, whole: u64) -> u64 {
+    if is_film(drawn) {
+        return whole;
+    }
+    at(drawn, place)
+}
+
+fn window(drawn: Row) -> Window {
+    Window {
+        left: low(own(drawn, column::LEFT, 0)),
+        top: low(own(drawn, column::TOP, 0)),
+        width: word(drawn, column::WIDTH),
+        height: word(drawn, column::HEIGHT),
+    }
+}
+
+// Calls prepare for C. A refusal leaves the made record where it was.
+fn prepare_c(
+    letter: u8,
+    no: u64,
+    t: Ten,
+    picture: &[u16],
+    map: &mut [u16],
+    scratch: &mut [u32],
+) -> Kept {
+    let mut numbers = kept::nine(t);
+    let mut factor = t.factor;
+    let mut limit = 0;
+    let mut asked = 0.0;
+    let mut used = 0.0;
+    let number = abi::films::tz_prepare(
+        t.film,
+        t.width,
+        t.height,
+        picture,
+        t.across,
+        t.down,
+        t.bins,
+        t.min,
+        t.max,
+        t.clip,
+        t.factor,
+        map,
+        scratch,
+        &mut numbers,
+        &mut factor,
+        &mut limit,
+        &mut asked,
+        &mut used,
+    );
+    kept::of_c(letter, no, number, numbers, factor, limit, asked, used)
+}
+
+// Calls prepare, and prints its answer under the letter.
+fn prepare_by(
+    by_c: bool,
+    letter: u8,
+    row: Row,
+    picture: &[u16],
+    map: &mut [u16],
+    scratch: &mut [u32],
+) -> Kept {
+    let no = at(row, column::NO);
+    let t = kept::made(row);
+    if by_c {
+        return prepare_c(letter, no, t, picture, map, scratch);
+    }
+    let s = kept::settings(t);
+    let answer = prepare::prepare(t.film, t.width, t.height, picture, s, map, scratch);
+    kept::of_prepared(letter, no, t, answer)
+}
+
+// Calls enhance for C.
+fn enhance_c(no: u64, t: Ten, picture: &mut [u16], map: &mut [u16], scratch: &mut [u32]) -> Kept {
+    let mut limit = 0;
+    let mut asked = 0.0;
+    let mut used = 0.0;
+    let number = abi::films::tz_enhance(
+        t.width,
+        t.height,
+        picture,
+        t.across,
+        t.down,
+        t.bins,
+        t.min,
+        t.max,
+        t.clip,
+        t.factor,
+        map,
+        scratch,
+        &mut limit,
+        &mut asked,
+        &mut used,
+    );
+    let k = Kept { number, ten: t };
+    kept::line(b'E', no, k, limit, asked, used);
+    k
+}
+
+// Calls enhance, and prints its answer.
+fn enhance_by(
+    by_c: bool,
+    row: Row,
+    picture: &mut [u16],
+    map: &mut [u16],
+    scratch: &mut [u32],
+) -> Kept {
+    let no = at(row, column::NO);
+    let t = kept::made(row);
+    if by_c {
+        return enhance_c(no, t, picture, map, scratch);
+    }
+    let s = kept::settings(t);
+    let answer = prepare::enhance(t.width, t.height, picture, s, map, scratch);
+    kept::of_enhanced(no, t, answer)
+}
+
+// Calls enhance under the letter E, else prepare.
+fn call_by(
+    by_c: bool,
+    letter: u8,
+    row: Row,
+    picture: &mut [u16],
+    map: &mut [u16],
+    scratch: &mut [u32],
+) -> Kept {
+    if letter == b'E' {
+        return enhance_by(by_c, row, picture, map, scratch);
+    }
+    prepare_by(by_c, letter, row, &picture[..], map, scratch)
+}
+
+// The digests of picture, map and scratch behind a call, and what it wrote; nothing under the letter 0. Answers the picture's.
+fn called_lines(letter: u8, no: u64, picture: &[u16], map: &[u16], scratch: &[u32]) -> u64 {
+    let digest = digest::greys(picture);
+    if letter == 0 {
+        return digest;
+    }
+    let b = digest::greys(map);
+    let c = digest::words(scratch);
+    text::three(letter % 128 + 32, no, digest, b, c);
+    if letter == b'E' {
+        text::small(b'i', no, picture);
+        return digest;
+    }
+    text::small(b'm', no, map);
+    digest
+}
+
+// Makes map and scratch and calls, and prints what comes of it under the letter.
+fn called(by_c: bool, letter: u8, row: Row, picture: &mut [u16]) -> Made {
+    let mut map = [0; 65536];
+    let mut scratch = made::scratch();
+    let m = front(&mut map, at(row, column::MAP_ROOM));
+    made::map(row, m);
+    let s = front_words(&mut scratch, at(row, column::SCRATCH_ROOM));
+    let kept = call_by(by_c, letter, row, picture, m, s);
+    let digest = called_lines(letter, at(row, column::NO), &picture[..], &m[..], &s[..]);
+    Made { kept, digest, map }
+}
+
+// Calls draw for C; answers its number.
+fn draw_c(drawn: Row, t: Ten, kept: Ten, picture: &[u16], map: &[u16], out: &mut [u16]) -> u32 {
+    let numbers = kept::nine(kept);
+    let win = window(drawn);
+    abi::films::tz_draw(
+        word(drawn, column::FILM),
+        t.width,
+        t.height,
+        picture,
+        t.across,
+        t.down,
+        t.bins,
+        t.min,
+        t.max,
+        t.clip,
+        t.factor,
+        &numbers,
+        kept.factor,
+        win.left,
+        win.top,
+        win.width,
+        win.height,
+        map,
+        out,
+    )
+}
+
+fn drawn_number(d: Drawn) -> u32 {
+    match d {
+        Drawn::Done => 0,
+        Drawn::Refused(n) => n,
+    }
+}
+
+// Calls draw with the record; answers its number.
+fn draw_by(
+    by_c: bool,
+    drawn: Row,
+    t: Ten,
+    kept: Ten,
+    picture: &[u16],
+    map: &[u16],
+    out: &mut [u16],
+) -> u32 {
+    if by_c {
+        return draw_c(drawn, t, kept, picture, map, out);
+    }
+    let s = kept::settings(t);
+    let record = kept::record(kept);
+    let win = window(drawn);
+    drawn_number(draw::draw(
+        word(drawn, column::FILM),
+        t.width,
+        t.height,
+        picture,
+        s,
+        record,
+        win,
+        map,
+        out,
+    ))
+}
+
+// The column of a record's field in a film's row: film, width and height stand before the picture's columns, the settings behind.
+fn place(field: u64) -> usize {
+    if field < 3 {
+        return (field + 2) as usize;
+    }
+    (field % 16 + 9) as usize
+}
+
+// The record that is handed to draw: the one that prepare left, or the made one with a field changed.
+fn handed(row: Row, drawn: Row, kept: Ten) -> Ten {
+    let field = own(drawn, column::FIELD, NO_FIELD);
+    if NO_FIELD <= field {
+        return kept;
+    }
+    kept::made(with(row, place(field), at(drawn, column::VALUE)))
+}
+
+// The lines of draw: the answer, the digests of picture, map and output, and the output.
+fn drawn_lines(drawn: Row, number: u32, picture: &[u16], map: &[u16], out: &[u16]) -> Shot {
+    let no = at(drawn, column::NO);
+    let of_film = is_film(drawn);
+    let digest = digest::greys(out);
+    text::one(text::either(of_film, b'D', b'W'), no, number);
+    text::three(
+        text::either(of_film, b'd', b'w'),
+        no,
+        digest::greys(picture),
+        digest::greys(map),
+        digest,
+    );
+    text::small(text::either(of_film, b'o', b'v'), no, out);
+    Shot { number, digest }
+}
+
+// Makes the output and draws from the map.
+fn drawn_from(
+    by_c: bool,
+    drawn: Row,
+    t: Ten,
+    kept: Ten,
+    picture: &[u16],
+    map: &[u16],
+    out: &mut [u16],
+) -> Shot {
+    let o = front(out, at(drawn, column::OUT_ROOM));
+    made::output(o, OUTPUT_BASE);
+    let number = draw_by(by_c, drawn, t, kept, picture, map, o);
+    drawn_lines(drawn, number, picture, map, &o[..])
+}
+
+// Changes the map where the row says so, and draws.
+fn drawn_of(
+    by_c: bool,
+    row: Row,
+    drawn: Row,
+    made: Made,
+    picture: &[u16],
+    out: &mut [u16],
+) -> Shot {
+    let mut map = made.map;
+    let k = made.kept;
+    let m = front(&mut map, at(row, column::MAP_ROOM));
+    made::poke(
+        m,
+        own(drawn, column::MAP_AT, NOWHERE),
+        at(drawn, column::MAP_VALUE),
+    );
+    let kept = handed(row, drawn, k.ten);
+    drawn_from(by_c, drawn, kept::made(row), kept, picture, &m[..], out)
+}
+
+// What came of two calls, the second of which rendered.
+fn joined(number: u32, shot: Shot) -> Shot {
+    if number == 0 {
+        return shot;
+    }
+    Shot { number, digest: 0 }
+}
+
+// Makes the film, prepares it, and draws; the lines of prepare are a film's own.
+fn shot_of(by_c: bool, row: Row, drawn: Row, picture: &mut [u16], out: &mut [u16]) -> Shot {
+    let p = front(picture, at(row, column::LENGTH));
+    made::picture(row, p);
+    let letter = text::either(is_film(drawn), b'P', 0);
+    let made = called(by_c, letter, row, p);
+    made::poke(
+        p,
+        own(drawn, column::PIXEL_AT, NOWHERE),
+        at(drawn, column::PIXEL_VALUE),
+    );
+    let shot = drawn_of(by_c, row, drawn, made, &p[..], out);
+    let k = made.kept;
+    joined(k.number, shot)
+}
+
+// Makes the film anew and enhances it.
+fn enhanced_of(by_c: bool, row: Row, picture: &mut [u16]) -> Shot {
+    let p = front(picture, at(row, column::LENGTH));
+    made::picture(row, p);
+    let made = called(by_c, b'E', row, p);
+    let k = made.kept;
+    Shot {
+        number: k.number,
+        digest: made.digest,
+    }
+}
+
+// The line K: whether two pictures have the same digest, where all calls accepted.
+pub fn same(no: u64, a: Shot, b: Shot) {
+    let c = joined(a.number, b);
+    if c.number != 0 {
+        return;
+    }
+    if a.digest == b.digest {
+        text::one(b'K', no, 1);
+        return;
+    }
+    text::one(b'K', no, 0);
+}
+
+// A row of the films, over rooms for the largest picture and the largest output.
+pub fn film(by_c: bool, row: Row, picture: &mut [u16], out: &mut [u16]) {
+    let drawn = shot_of(by_c, row, row, picture, out);
+    same(at(row, column::NO), drawn, enhanced_of(by_c, row, picture));
+}
+
+// A row of the draws, with that of its film.
+pub fn draw(by_c: bool, row: Row, drawn: Row, picture: &mut [u16], out: &mut [u16]) {
+    shot_of(by_c, row, drawn, picture, out);
+}

@@ -1,0 +1,239 @@
+// The ten numbers of a film's record, and what the calls of prepare make of them.
+use crate::column;
+use crate::text;
+use crate::whole::Row;
+use crate::whole::word;
+use limit::Clip;
+use prepare::Enhanced;
+use prepare::Prepared;
+use settings::MapRecord;
+use settings::Settings;
+
+// A film's number, sizes and settings, as flat as C hands them.
+pub struct Ten {
+    pub film: u32,
+    pub width: u32,
+    pub height: u32,
+    pub across: u32,
+    pub down: u32,
+    pub bins: u32,
+    pub min: u32,
+    pub max: u32,
+    pub clip: u32,
+    pub factor: f32,
+}
+
+// An answer, 0 where the call accepted, and the record that prepare returned or, where it refused, the made one.
+pub struct Kept {
+    pub number: u32,
+    pub ten: Ten,
+}
+
+// The f32 of a bit pattern; one NaN stands for all.
+fn factor_of(bits: u32) -> f32 {
+    if 0x7f800000 < bits % 0x80000000 {
+        return 0.0 / 0.0;
+    }
+    f32::from_bits(bits)
+}
+
+// The made record of a film's row.
+pub fn made(row: Row) -> Ten {
+    Ten {
+        film: word(row, column::FILM),
+        width: word(row, column::WIDTH),
+        height: word(row, column::HEIGHT),
+        across: word(row, column::ACROSS),
+        down: word(row, column::DOWN),
+        bins: word(row, column::BINS),
+        min: word(row, column::MIN),
+        max: word(row, column::MAX),
+        clip: word(row, column::CLIP),
+        factor: factor_of(word(row, column::FACTOR)),
+    }
+}
+
+fn clip_of(t: Ten) -> Clip {
+    if t.clip == 0 {
+        return Clip::Off;
+    }
+    Clip::Factor(t.factor)
+}
+
+// The settings among the ten.
+pub fn settings(t: Ten) -> Settings {
+    let clip = clip_of(t);
+    Settings {
+        across: t.across,
+        down: t.down,
+        bins: t.bins,
+        min: t.min,
+        max: t.max,
+        clip,
+    }
+}
+
+pub fn record(t: Ten) -> MapRecord {
+    let settings = settings(t);
+    MapRecord {
+        film: t.film,
+        width: t.width,
+        height: t.height,
+        settings,
+    }
+}
+
+fn clip_number(c: Clip) -> u32 {
+    match c {
+        Clip::Off => 0,
+        Clip::Factor(_) => 1,
+    }
+}
+
+fn clip_factor(c: Clip) -> f32 {
+    match c {
+        Clip::Off => 0.0,
+        Clip::Factor(f) => f,
+    }
+}
+
+// The ten numbers of a record.
+fn flat(r: MapRecord) -> Ten {
+    let s = r.settings;
+    let c = s.clip;
+    Ten {
+        film: r.film,
+        width: r.width,
+        height: r.height,
+        across: s.across,
+        down: s.down,
+        bins: s.bins,
+        min: s.min,
+        max: s.max,
+        clip: clip_number(c),
+        factor: clip_factor(c),
+    }
+}
+
+fn ten_fields(t: Ten) {
+    text::word(t.film);
+    text::word(t.width);
+    text::word(t.height);
+    text::word(t.across);
+    text::word(t.down);
+    text::word(t.bins);
+    text::word(t.min);
+    text::word(t.max);
+    text::word(t.clip);
+    text::factor_field(t.factor);
+}
+
+// The line of prepare or enhance: the answer, of an accepted call the footer, and of prepare the record. None under the letter 0.
+pub fn line(letter: u8, no: u64, k: Kept, limit: u32, asked: f32, used: f64) {
+    if letter == 0 {
+        return;
+    }
+    text::start(letter, no);
+    text::word(k.number);
+    if k.number == 0 {
+        text::word(limit);
+        text::factor_field(asked);
+        text::used_field(used);
+        if letter == b'P' {
+            let ten = k.ten;
+            ten_fields(ten);
+        }
+    }
+    text::end();
+}
+
+// The ten but for the factor, in the order in which C has them.
+pub fn nine(t: Ten) -> [u32; 9] {
+    [
+        t.film,
+        t.width,
+        t.height,
+        t.across,
+        t.down,
+        t.bins,
+        t.min,
+        t.max,
+        t.clip,
+    ]
+}
+
+fn nth(numbers: [u32; 9], i: usize) -> u32 {
+    if i < 9 {
+        return numbers[i];
+    }
+    0
+}
+
+// The ten of these nine and the factor.
+fn ten_of(n: [u32; 9], factor: f32) -> Ten {
+    Ten {
+        film: nth(n, 0),
+        width: nth(n, 1),
+        height: nth(n, 2),
+        across: nth(n, 3),
+        down: nth(n, 4),
+        bins: nth(n, 5),
+        min: nth(n, 6),
+        max: nth(n, 7),
+        clip: nth(n, 8),
+        factor,
+    }
+}
+
+// What prepare for C left, printed under the letter if that is not 0.
+pub fn of_c(
+    letter: u8,
+    no: u64,
+    number: u32,
+    numbers: [u32; 9],
+    factor: f32,
+    limit: u32,
+    asked: f32,
+    used: f64,
+) -> Kept {
+    let ten = ten_of(numbers, factor);
+    let k = Kept { number, ten };
+    line(letter, no, k, limit, asked, used);
+    k
+}
+
+// What prepare answered, printed under the letter if that is not 0.
+pub fn of_prepared(letter: u8, no: u64, asked: Ten, p: Prepared) -> Kept {
+    match p {
+        Prepared::Done(record, footer) => {
+            let ten = flat(record);
+            let k = Kept { number: 0, ten };
+            line(letter, no, k, footer.limit, footer.asked, footer.used);
+            k
+        }
+        Prepared::Refused(number) => {
+            let k = Kept { number, ten: asked };
+            line(letter, no, k, 0, 0.0, 0.0);
+            k
+        }
+    }
+}
+
+// What enhance answered, printed.
+pub fn of_enhanced(no: u64, asked: Ten, e: Enhanced) -> Kept {
+    match e {
+        Enhanced::Done(footer) => {
+            let k = Kept {
+                number: 0,
+                ten: asked,
+            };
+            line(b'E', no, k, footer.limit, footer.asked, footer.used);
+            k
+        }
+        Enhanced::Refused(number) => {
+            let k = Kept { number, ten: asked };
+            line(b'E', no, k, 0, 0.0, 0.0);
+            k
+        }
+    }
+}

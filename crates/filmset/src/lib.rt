@@ -1,0 +1,27 @@
+// The film set: its rows come from standard input, go through every call of prepare, draw and pgm, and what comes out is
+// printed. The programs `films` and `calls` are this, once over the calls themselves and once over those for C.
+mod column;
+mod digest;
+mod file;
+mod film;
+mod kept;
+mod made;
+mod row;
+mod text;
+mod whole;
+
+use libc::STDIN_FILENO;
+
+// Room for the largest picture. Behind a call its zeros stay unread where a proof looks at the room's length.
+fn room() -> [u16; 1050624] {
+    [0; 1050624]
+}
+
+// Runs the set. A set of more than 65,536 bytes is cut, and then its text is not the stored one.
+pub fn run(by_c: bool) {
+    let mut bytes = io::large_buffer();
+    let mut picture = room();
+    let mut out = room();
+    let n = io::read_full(STDIN_FILENO, &mut bytes);
+    row::rows(by_c, &bytes[..n], &mut picture, &mut out);
+}

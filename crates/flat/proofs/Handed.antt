@@ -1,0 +1,142 @@
+-- What a call beneath gave is handed on: one law for each answer of each call; and a record that was handed out and is handed back is the same.
+-- Assumes nothing.
+use Prim.Native.Nat.{ℕ, zero, suc, _-_, _≤_}
+use mathlib.Core.List.{List, [], _∷_}
+use mathlib.Core.Path.{_≡_, refl, sym, ap}
+use native.Mathlib.Omega.{arith}
+use lib.Ieee.{Float}
+use lib.ListN.{length, length-drop}
+use Rattle.limit.specs.declared.Clip.{Clip}
+use Rattle.limit.specs.declared.Clip.the-variants.{Off, Factor}
+use Rattle.settings.specs.declared.MapRecord.{MapRecord}
+use Rattle.settings.specs.declared.Footer.{Footer}
+use Rattle.prepare.specs.declared.Prepared.{Prepared}
+use Rattle.prepare.specs.declared.Prepared.the-variants as Prepared
+use Rattle.prepare.specs.declared.Enhanced.{Enhanced}
+use Rattle.prepare.specs.declared.Enhanced.the-variants as Enhanced
+use Rattle.prepare.specs.Prepare.{preparedSays, enhancedSays, Ended, Over, ending, overing}
+use Rattle.draw.specs.declared.Drawn.{Drawn}
+use Rattle.draw.specs.declared.Drawn.the-variants as Drawn
+use Rattle.draw.specs.Draw.{drawnSays, Shows, showing}
+use Rattle.header.specs.declared.Head.{Head}
+use Rattle.header.specs.declared.Head.the-variants as Head
+use Rattle.pgm.specs.declared.Sizes.{Sizes}
+use Rattle.pgm.specs.declared.Sizes.the-variants as Sizes
+use Rattle.pgm.specs.declared.Turned.{Turned}
+use Rattle.pgm.specs.declared.Turned.the-variants as Turned
+use Rattle.pgm.specs.declared.Written.{Written}
+use Rattle.pgm.specs.declared.Written.the-variants as Written
+use Rattle.pgm.specs.Pgm.{readOf, sizesOf, rasterOf, sizesSays, turnedSays, Greyed, greyedAs, writtenSays, Wrote, wroteAs}
+use Rattle.pgm.proofs.Tables.{read-within}
+use Rattle.flat.specs.Flat.{clipFrom, clipNumber, clipFactor, recordNumbers, recordFrom}
+use Rattle.flat.specs.Films.{Foot, footAfter, preparedAs, flatPrepared, enhancedAs, flatEnhanced, drawnAs, flatDrawn}
+use Rattle.flat.specs.Files.{answered, flatSizes, flatRaster, flatGreys, writtenAs, flatWritten}
+
+-- a number that is not 0 carries the factor
+pub clip-some : (n : ℕ) (f : Float) → (n ≡ 0 → ⊥) → Factor f ≡ clipFrom n f
+clip-some zero f h = absurd (h refl)
+clip-some (suc n) f h = refl
+
+-- ---- films
+
+pub prepared-done : {a : Prepared} {m t : List ℕ} (e : Ended) (numbers : List ℕ) (factor : Float) (foot : Foot) {r : MapRecord} {f : Footer} {ns : List ℕ} {x : Float} {y : Foot}
+    → ending a m t ≡ e → a ≡ Prepared.Done r f → ns ≡ recordNumbers r → x ≡ clipFactor (r .settings .clip) → y ≡ footAfter f
+    → preparedAs 0 m t ns x y ≡ flatPrepared e numbers factor foot
+unfolding flatPrepared preparedSays
+prepared-done e numbers factor foot p q n x y = rw (← p, q, n, x, y) refl
+
+pub prepared-refused : {a : Prepared} {m t : List ℕ} (e : Ended) (numbers : List ℕ) (factor : Float) (foot : Foot) {n : ℕ}
+    → ending a m t ≡ e → a ≡ Prepared.Refused n → preparedAs n m t numbers factor foot ≡ flatPrepared e numbers factor foot
+unfolding flatPrepared preparedSays
+prepared-refused e numbers factor foot p q = rw (← p, q) refl
+
+pub enhanced-done : {a : Enhanced} {pic m t : List ℕ} (o : Over) (foot : Foot) {f : Footer} {y : Foot}
+    → overing a pic m t ≡ o → a ≡ Enhanced.Done f → y ≡ footAfter f → enhancedAs 0 pic m t y ≡ flatEnhanced o foot
+unfolding flatEnhanced enhancedSays
+enhanced-done o foot p q y = rw (← p, q, y) refl
+
+pub enhanced-refused : {a : Enhanced} {pic m t : List ℕ} (o : Over) (foot : Foot) {n : ℕ}
+    → overing a pic m t ≡ o → a ≡ Enhanced.Refused n → enhancedAs n pic m t foot ≡ flatEnhanced o foot
+unfolding flatEnhanced enhancedSays
+enhanced-refused o foot p q = rw (← p, q) refl
+
+pub drawn-done : {a : Drawn} {out : List ℕ} (s : Shows) → showing a out ≡ s → a ≡ Drawn.Done → drawnAs 0 out ≡ flatDrawn s
+unfolding flatDrawn drawnSays
+drawn-done s p q = rw (← p, q) refl
+
+pub drawn-refused : {a : Drawn} {out : List ℕ} (s : Shows) {n : ℕ} → showing a out ≡ s → a ≡ Drawn.Refused n → drawnAs n out ≡ flatDrawn s
+unfolding flatDrawn drawnSays
+drawn-refused s p q = rw (← p, q) refl
+
+-- ---- files
+
+pub sizes-found : {a : Sizes} (z : Sizes) (old : List ℕ) {w h m : ℕ} → a ≡ z → a ≡ Sizes.Found w h m
+    → answered 0 (w ∷ h ∷ m ∷ []) ≡ flatSizes (sizesSays z) old
+unfolding flatSizes sizesSays
+sizes-found z old p q = rw (← p, q) refl
+
+pub sizes-refused : {a : Sizes} (z : Sizes) (old : List ℕ) {n : ℕ} → a ≡ z → a ≡ Sizes.Refused n → answered n old ≡ flatSizes (sizesSays z) old
+unfolding flatSizes sizesSays
+sizes-refused z old p q = rw (← p, q) refl
+
+-- the raster's length is what stands behind its start
+pub raster-size : (hd : Head) (s : List ℕ) {a : Sizes} {w h m : ℕ} {part : List ℕ} → a ≡ sizesOf hd → a ≡ Sizes.Found w h m
+    → part ≡ rasterOf hd s → length part ≤ length s
+raster-size (Head.Found x y z at) s p q e = rw (e, length-drop) (omega arith)
+raster-size (Head.Refused k) s {a} {w} {h} {m} p q e = let v : _≡_ {A = ℕ} 0 1 = cc in absurd (omega arith)
+
+pub raster-found : (hd : Head) (s old : List ℕ) {a : Sizes} {w h m : ℕ} {part : List ℕ} → hd ≡ readOf s → a ≡ sizesOf hd → a ≡ Sizes.Found w h m
+    → part ≡ rasterOf hd s → answered 0 ((length s - length part) ∷ length part ∷ []) ≡ flatRaster hd (length s) old
+unfolding flatRaster
+raster-found (Head.Found x y z at) s old d p q e =
+    let l : at ≤ length s = read-within s (sym d) in
+    let k : length s - (length s - at) ≡ at = omega arith in
+    rw (e, length-drop, k) refl
+raster-found (Head.Refused n) s old {a} {w} {h} {m} d p q e = let v : _≡_ {A = ℕ} 0 1 = cc in absurd (omega arith)
+
+pub raster-refused : (hd : Head) (size : ℕ) (old : List ℕ) {a : Sizes} {n : ℕ} → a ≡ sizesOf hd → a ≡ Sizes.Refused n
+    → answered n old ≡ flatRaster hd size old
+unfolding flatRaster
+raster-refused (Head.Found x y z at) size old {a} {n} p q = let v : _≡_ {A = ℕ} 0 1 = cc in absurd (omega arith)
+raster-refused (Head.Refused k) size old p q = cc
+
+pub greys-done : {a : Turned} {t : List ℕ} (g : Greyed) → greyedAs a t ≡ g → a ≡ Turned.Done → answered 0 t ≡ flatGreys g
+unfolding flatGreys turnedSays
+greys-done g p q = rw (← p, q) refl
+
+pub greys-refused : {a : Turned} {t : List ℕ} (g : Greyed) {n : ℕ} → greyedAs a t ≡ g → a ≡ Turned.Refused n → answered n t ≡ flatGreys g
+unfolding flatGreys turnedSays
+greys-refused g p q = rw (← p, q) refl
+
+pub written-bytes : {a : Written} {out : List ℕ} (w : Wrote) (old : ℕ) {n : ℕ} → wroteAs a out ≡ w → a ≡ Written.Bytes n → writtenAs 0 out n ≡ flatWritten w old
+unfolding flatWritten writtenSays
+written-bytes w old p q = rw (← p, q) refl
+
+pub written-refused : {a : Written} {out : List ℕ} (w : Wrote) (old : ℕ) {n : ℕ} → wroteAs a out ≡ w → a ≡ Written.Refused n → writtenAs n out old ≡ flatWritten w old
+unfolding flatWritten writtenSays
+written-refused w old p q = rw (← p, q) refl
+
+-- ---- a record handed out and handed back
+
+-- the clip setting's number and factor give it back
+clip-back : (clip : Clip) → clipFrom (clipNumber clip) (clipFactor clip) ≡ clip
+clip-back Off = refl
+clip-back (Factor f) = refl
+
+-- "A record is nine numbers and its factor apart.": those that tz_prepare hands out are read by tz_draw as the same record
+pub record-back : (r : MapRecord) → recordFrom (recordNumbers r) (clipFactor (r .settings .clip)) ≡ r
+record-back r =
+    ap (λ c. record {
+      film = r .film;
+      width = r .width;
+      height = r .height;
+      settings =
+          record {
+            across = r .settings .across;
+            down = r .settings .down;
+            bins = r .settings .bins;
+            min = r .settings .min;
+            max = r .settings .max;
+            clip = c;
+          };
+    }) (clip-back (r .settings .clip))

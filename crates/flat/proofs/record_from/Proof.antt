@@ -1,0 +1,58 @@
+-- `flat::record_from` meets its contract: nine numbers and a factor are read as the record.
+-- Assumes nothing.
+use mathlib.Core.Path.{refl}
+use borrow.Author.Needs.{needs}
+use Rattle.flat.proofs.record_from.Statement.{statement}
+use Rattle.flat.proofs.record_from.Tie as tie
+use Rattle.flat.proofs.record_from.Reads as reads
+use Rattle.flat.proofs.record_from.Lts as lts
+use Rattle.flat.proofs.settings_from.Reads as settings-from-reads
+
+element-copy-out-settings-from : tie.Need-element-copy-out-settings-from
+element-copy-out-settings-from c = search needs
+
+element-copy-out-settings-from-2 : tie.Need-element-copy-out-settings-from-2
+element-copy-out-settings-from-2 c = search needs
+
+element-copy-out-settings-from-3 : tie.Need-element-copy-out-settings-from-3
+element-copy-out-settings-from-3 c = search needs
+
+element-copy-out-settings-from-4 : tie.Need-element-copy-out-settings-from-4
+element-copy-out-settings-from-4 c = search needs
+
+element-copy-out-settings-from-5 : tie.Need-element-copy-out-settings-from-5
+element-copy-out-settings-from-5 c = search needs
+
+element-copy-out-settings-from-6 : tie.Need-element-copy-out-settings-from-6
+element-copy-out-settings-from-6 c = search needs
+
+settings-from-requires : tie.Need-settings-from-requires
+settings-from-requires c κs = search needs
+
+element-copy-out-t6 : tie.Need-element-copy-out-t6
+element-copy-out-t6 c = search needs
+
+element-copy-out-t21 : tie.Need-element-copy-out-t21
+element-copy-out-t21 c = search needs
+
+element-copy-out-t18 : tie.Need-element-copy-out-t18
+element-copy-out-t18 c = search needs
+
+returns : tie.Need-returns
+returns c = rw (c .before .before .before .settings-from .ensures) refl
+
+pub record-from-spec : {M : Type 1} → statement M
+record-from-spec =
+    tie.close
+    (tie.spec
+    element-copy-out-settings-from
+    element-copy-out-settings-from-2
+    element-copy-out-settings-from-3
+    element-copy-out-settings-from-4
+    element-copy-out-settings-from-5
+    element-copy-out-settings-from-6
+    settings-from-requires
+    element-copy-out-t6
+    element-copy-out-t21
+    element-copy-out-t18
+    returns)

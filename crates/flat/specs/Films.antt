@@ -1,0 +1,89 @@
+-- What tz_prepare, tz_enhance and tz_draw leave: 0 or the refusal's number, and all lent memory, as the calls beneath them give it.
+-- The quoted sentences are those of document 01, "What each call hands back", and of document 00, demand 1.
+-- Assumes nothing.
+use Prim.Native.Nat.{ℕ}
+use mathlib.Core.List.{List}
+use lib.Ieee.{Float}
+use Rattle.refuse.specs.Refuse.{Says, accepted, refused}
+use Rattle.settings.specs.declared.MapRecord.{MapRecord}
+use Rattle.settings.specs.declared.Footer.{Footer}
+use Rattle.prepare.specs.Prepare.{preparedSays, enhancedSays, Ended, Over}
+use Rattle.draw.specs.Draw.{drawnSays, Shows}
+use Rattle.flat.specs.Flat.{returned, recordNumbers, clipFactor}
+
+-- "a footer record with L, the factor asked as f32 and the factor used as f64": the three cells that it is handed out in
+pub record Foot : Type 0 where
+  pub limit : ℕ
+  pub asked : Float
+  pub used : Float
+
+-- three cells as one
+abbrev pub footed : ℕ → Float → Float → Foot
+footed l a u = record { limit = l; asked = a; used = u }
+
+-- the cells that hold a footer
+abbrev pub footAfter : Footer → Foot
+footAfter f = footed (f .limit) (f .asked) (f .used)
+
+-- ---- tz_prepare
+
+-- "It returns the map record and a footer record": what tz_prepare leaves, its number and every cell that it was lent
+pub record FlatPrepared : Type 0 where
+  pub number : ℕ
+  pub map : List ℕ
+  pub scratch : List ℕ
+  pub numbers : List ℕ
+  pub factor : Float
+  pub foot : Foot
+
+-- a number and the cells as one
+abbrev pub preparedAs : ℕ → List ℕ → List ℕ → List ℕ → Float → Foot → FlatPrepared
+preparedAs n m t numbers factor foot = record { number = n; map = m; scratch = t; numbers = numbers; factor = factor; foot = foot }
+
+-- an accepted film's record and footer in their cells; "after a refusal all lent memory holds what it held before"
+abbrev pub preparedBy : Says (MapRecord × Footer) → List ℕ → List ℕ → List ℕ → Float → Foot → FlatPrepared
+preparedBy (accepted v) m t numbers factor foot =
+    preparedAs 0 m t (recordNumbers (v .0)) (clipFactor (v .0 .settings .clip)) (footAfter (v .1))
+preparedBy (refused n) m t numbers factor foot = preparedAs n m t numbers factor foot
+
+-- from what prepare leaves, and what the record's and the footer's cells held before
+unfoldable pub flatPrepared : Ended → List ℕ → Float → Foot → FlatPrepared
+flatPrepared e numbers factor foot = preparedBy (preparedSays (e .answer)) (e .map) (e .scratch) numbers factor foot
+
+-- ---- tz_enhance
+
+-- "the same buffers and footer, and the picture rendered": what tz_enhance leaves
+pub record FlatEnhanced : Type 0 where
+  pub number : ℕ
+  pub picture : List ℕ
+  pub map : List ℕ
+  pub scratch : List ℕ
+  pub foot : Foot
+
+-- a number and the cells as one
+abbrev pub enhancedAs : ℕ → List ℕ → List ℕ → List ℕ → Foot → FlatEnhanced
+enhancedAs n pic m t foot = record { number = n; picture = pic; map = m; scratch = t; foot = foot }
+
+-- an accepted film's footer in its cells; a refusal leaves what stood there
+abbrev pub enhancedBy : Says Footer → List ℕ → List ℕ → List ℕ → Foot → FlatEnhanced
+enhancedBy (accepted f) pic m t foot = enhancedAs 0 pic m t (footAfter f)
+enhancedBy (refused n) pic m t foot = enhancedAs n pic m t foot
+
+-- from what enhance leaves, and what the footer's cells held before
+unfoldable pub flatEnhanced : Over → Foot → FlatEnhanced
+flatEnhanced o foot = enhancedBy (enhancedSays (o .answer)) (o .picture) (o .map) (o .scratch) foot
+
+-- ---- tz_draw
+
+-- "the window's pixels row by row in the output": what tz_draw leaves
+pub record FlatDrawn : Type 0 where
+  pub number : ℕ
+  pub out : List ℕ
+
+-- a number and an output as one
+abbrev pub drawnAs : ℕ → List ℕ → FlatDrawn
+drawnAs n out = record { number = n; out = out }
+
+-- from what draw leaves
+unfoldable pub flatDrawn : Shows → FlatDrawn
+flatDrawn s = drawnAs (returned (drawnSays (s .answer))) (s .out)

@@ -1,2 +1,0 @@
-pub mod Lister
-pub mod Asks

@@ -1,0 +1,318 @@
+-- Laws of the listing's calls: what prepare, greys and read left, and the text that follows.
+-- Assumes nothing.
+use Prim.Native.Nat.{ℕ, zero, suc, _-_, _*_, _≤_, _<_}
+use mathlib.Core.Bool.{Bool, true, false, cond}
+use mathlib.Core.List.{List}
+use mathlib.Core.Path.{_≡_, refl, sym, ap, _∙_}
+use lib.Dec.{ltb, lit<}
+use lib.ListN.{length, take, drop, length-drop}
+use lib.Seq.{length-take-le}
+use native.Mathlib.Omega.{arith}
+use borrow.Author.Tests.{ltb-true, ltb-false, lt-ltb, le-ltb}
+use Rattle.lists.specs.Lists.{onto, filled}
+use Rattle.lists.proofs.Fills.{length-filled, take-onto}
+use Rattle.lists.proofs.Maps.{onto-whole}
+use Rattle.refuse.specs.Refuse.{first, unless}
+use Rattle.refuse.proofs.Walk.{first-behind}
+use Rattle.limit.proofs.Laws.{above-not-one}
+use Rattle.settings.specs.declared.Settings.{Settings}
+use Rattle.settings.specs.declared.MapRecord.{MapRecord}
+use Rattle.settings.specs.declared.Footer.{Footer}
+use Rattle.settings.specs.Settings.{binsOf}
+use Rattle.header.specs.declared.Head.{Head}
+use Rattle.header.specs.declared.Head.the-variants as Head
+use Rattle.header.specs.Header.{headerOf}
+use Rattle.samples.specs.Samples.{isWide, unpacked, noneAbove}
+use Rattle.samples.proofs.Bounds.{length-unpacked}
+use Rattle.pgm.specs.declared.Sizes.{Sizes}
+use Rattle.pgm.specs.declared.Sizes.the-variants as Sizes
+use Rattle.pgm.specs.declared.Turned.{Turned}
+use Rattle.pgm.specs.declared.Turned.the-variants as Turned
+use Rattle.pgm.specs.declared.Written.{Written}
+use Rattle.pgm.specs.declared.Written.the-variants as Written
+use Rattle.pgm.specs.Pgm.{Wrote, wroteAs, headRows, rasterRows, targetRows, turnRows, RasterAsks, Greyed, greyedAs, turnedOf, readOf, sizesOf, rasterOf}
+use Rattle.pgm.proofs.Tables.{within-none, exact-none, grey-asks, read-header, target-roomy}
+use Rattle.pgm.proofs.Laws.{read-asks}
+use Rattle.prepare.specs.declared.Prepared.{Prepared}
+use Rattle.prepare.specs.declared.Prepared.the-variants as Prepared
+use Rattle.prepare.specs.Prepare.{prepareRows, mappings, Ended, ending, preparedOf, prepareOf, TilesAsk}
+use Rattle.prepare.proofs.Tight.{foot-limit}
+use Rattle.prepare.proofs.Table.{work}
+use Rattle.prepare.proofs.Films.{length-mappings}
+use Rattle.listing.specs.Listing.{two, settingsOf, limitFor, filmText, refusedText, isLarger, pictureText, readText, listingOf, textRows, listOf, laidOf}
+use Rattle.listing.specs.Asks.{Told, ListAsks}
+use Rattle.listing.proofs.Lines.{length-refused}
+use Rattle.listing.proofs.Films.{length-film}
+use Rattle.listing.proofs.Refusals.{prepare-below}
+
+-- ---- texts
+
+-- the same text by another name
+pub told-as : {d text text′ out : List ℕ} {r : ℕ} → Told d text out r → text ≡ text′ → Told d text′ out r
+told-as t e = record { bytes = t .bytes ∙ ap (onto _) e; count = t .count ∙ ap length e }
+
+-- the text of a film that is not refused
+pub told-none : {n r : ℕ} {d text out : List ℕ} → n ≡ 0 → Told d text out r → Told d (unless n refusedText text) out r
+told-none e t = rw e t
+
+-- what `lay_text` leaves
+pub told-both : {d text text′ out : List ℕ} {r : ℕ} → Told d text out r → text ≡ text′ → (out ≡ onto d text′) × (r ≡ length text′)
+told-both t e = (t .bytes ∙ ap (onto _) e, t .count ∙ ap length e)
+
+-- ---- what prepare left
+
+module _ (w h m : ℕ) (pic : List ℕ) where
+  -- the number of the rows 1 to 14, with the listing's buffers
+  abbrev pub number : ℕ
+  number = first (prepareRows w h pic (settingsOf m) 16 4)
+
+  -- a film that is not refused
+  pub record Made (limit : ℕ) (map scratch : List ℕ) : Type 0 where
+    pub none : number ≡ 0
+    pub film : TilesAsk w h pic (settingsOf m) 16 4
+    pub bound : limit ≡ limitFor w h m
+    pub mapped : map ≡ mappings w h pic (settingsOf m)
+    pub counts : length scratch ≡ 4
+
+  -- what the tiles ask, since the factor 2 is above one
+  tiles-asks : number ≡ 0 → TilesAsk w h pic (settingsOf m) 16 4
+  tiles-asks z = record { work = work w h pic (settingsOf m) 16 4 z; changes = above-not-one two (refl, lit< tt) }
+
+  made : (map₀ scratch₀ : List ℕ) {rec : MapRecord} {foot : Footer} {map scratch : List ℕ} → length map₀ ≡ 16 → length scratch₀ ≡ 4 → number ≡ 0
+      → ending (Prepared.Done rec foot) map scratch ≡ preparedOf 0 w h pic (settingsOf m) map₀ scratch₀ → Made (foot .limit) map scratch
+  unfolding preparedOf binsOf
+  made map₀ scratch₀ {rec} {foot} {map} {scratch} n k z e =
+      record {
+        none = z;
+        film = tiles-asks z;
+        bound = ap (λ (f : Footer). f .limit) (same (ap (λ (x : Ended). x .answer) e)) ∙ foot-limit w h (settingsOf m) refl (tiles-asks z .changes);
+        mapped = ap (λ (x : Ended). x .map) e ∙ ap (λ b. cond b map₀ (onto map₀ (mappings w h pic (settingsOf m)))) (tiles-asks z .changes) ∙ onto-whole map₀ (mappings w h pic (settingsOf m)) (omega (arith, length-mappings w h pic (settingsOf m)));
+        counts = ap (λ (x : Ended). length (x .scratch)) e ∙ ap (λ b. length (cond b scratch₀ (filled (λ i. 0) scratch₀ 4))) (tiles-asks z .changes) ∙ (length-filled (λ i. 0) scratch₀ 4 (omega arith) ∙ k);
+      }
+    where
+      same : {a b : MapRecord} {f g : Footer} → Prepared.Done a f ≡ Prepared.Done b g → f ≡ g
+      same q = cc
+
+  -- the answer is a record: no row applied
+  pub prepared-done : (map₀ scratch₀ : List ℕ) {s : Settings} {answer : Prepared} {rec : MapRecord} {foot : Footer} {map scratch : List ℕ} → length map₀ ≡ 16 → length scratch₀ ≡ 4
+      → s ≡ settingsOf m → answer ≡ Prepared.Done rec foot → ending answer map scratch ≡ prepareOf 0 w h pic s map₀ scratch₀ → Made (foot .limit) map scratch
+  unfolding prepareOf
+  prepared-done map₀ scratch₀ {s} {answer} {rec} {foot} {map} {scratch} n k q a e =
+      go number refl (rw (q, a, n, k) at e)
+    where
+      go : (i : ℕ) → number ≡ i → ending (Prepared.Done rec foot) map scratch ≡ unless i (λ n. ending (Prepared.Refused n) map₀ scratch₀) (preparedOf 0 w h pic (settingsOf m) map₀ scratch₀)
+          → Made (foot .limit) map scratch
+      go zero z f = made map₀ scratch₀ n k z f
+      go (suc i) z f =
+          let a : Prepared.Done rec foot ≡ Prepared.Refused (suc i) = ap (λ (x : Ended). x .answer) f in
+          absurd (let o : _≡_ {A = ℕ} 0 1 = cc in omega arith)
+
+  -- the answer is a refusal: it is the rows' number
+  pub prepared-refused : (map₀ scratch₀ : List ℕ) {s : Settings} {answer : Prepared} {r : ℕ} {map scratch : List ℕ} → length map₀ ≡ 16 → length scratch₀ ≡ 4
+      → s ≡ settingsOf m → answer ≡ Prepared.Refused r → ending answer map scratch ≡ prepareOf 0 w h pic s map₀ scratch₀
+      → (r < 100000) × ((text : List ℕ) → refusedText r ≡ unless number refusedText text)
+  unfolding prepareOf preparedOf
+  prepared-refused map₀ scratch₀ {s} {answer} {r} {map} {scratch} n k q a e =
+      go number refl (rw (q, a, n, k) at e)
+    where
+      go : (i : ℕ) → number ≡ i → ending (Prepared.Refused r) map scratch ≡ unless i (λ n. ending (Prepared.Refused n) map₀ scratch₀) (preparedOf 0 w h pic (settingsOf m) map₀ scratch₀)
+          → (r < 100000) × ((text : List ℕ) → refusedText r ≡ unless number refusedText text)
+      go zero z f =
+          let a : Prepared.Refused r ≡ preparedOf 0 w h pic (settingsOf m) map₀ scratch₀ .answer = ap (λ (x : Ended). x .answer) f in
+          absurd (let o : _≡_ {A = ℕ} 0 1 = cc in omega arith)
+      go (suc i) z f =
+          let a : Prepared.Refused r ≡ Prepared.Refused (suc i) = ap (λ (x : Ended). x .answer) f in
+          let b : r ≡ suc i = cc in
+          (omega (arith, prepare-below w h pic (settingsOf m) 16 4), λ text. rw (z, b) refl)
+
+-- ---- what greys left
+
+module _ (raster : List ℕ) (w h m room : ℕ) (asks : ListAsks raster w h m room) where
+  -- the greys of the raster
+  abbrev pub greys : List ℕ
+  greys = unpacked (isWide m) raster (w * h)
+
+  -- of the rows for greys, only 26 can apply
+  rows-target : (target : List ℕ) → length target ≡ 8192 → first (turnRows raster 0 w h m (length target)) ≡ first (targetRows raster 0 w h m 8192)
+  unfolding turnRows
+  rows-target target n =
+      rw n
+      (first-behind (headRows w h m) _ (within-none w h m (asks .asks .within))
+      ∙ first-behind (rasterRows w h m (length raster - 0)) _ (exact-none w h m (length raster - 0) (omega (arith, asks .asks .exact))))
+
+  -- the answer is done: the greys are none above maxval, and stand at the front of the film
+  pub greys-told : (target : List ℕ) {left : List ℕ} {answer : Turned} → length target ≡ 8192 → answer ≡ Turned.Done → greyedAs answer left ≡ turnedOf raster 0 w h m target
+      → (noneAbove m greys ≡ true) × (left ≡ onto target greys)
+  unfolding turnedOf
+  greys-told target {left} {answer} n a e = go (first (turnRows raster 0 w h m (length target))) refl (rw a at e)
+    where
+      go : (i : ℕ) → first (turnRows raster 0 w h m (length target)) ≡ i → greyedAs Turned.Done left ≡ unless i (λ n. greyedAs (Turned.Refused n) target) (greyedAs Turned.Done (onto target greys))
+          → (noneAbove m greys ≡ true) × (left ≡ onto target greys)
+      go zero z f = (grey-asks raster 0 w h m (length target) z .bounded, ap (λ (x : Greyed). x .target) f)
+      go (suc i) z f =
+          let a : Turned.Done ≡ Turned.Refused (suc i) = ap (λ (x : Greyed). x .answer) f in
+          absurd (let o : _≡_ {A = ℕ} 0 1 = cc in omega arith)
+
+  -- of the last two rows, 27 does not apply
+  target-last : (i : ℕ) → first (targetRows raster 0 w h m 8192) ≡ suc i → (suc i ≡ 26) × (noneAbove m greys ≡ false)
+  target-last i z = go (noneAbove m greys) refl (sym (target-roomy raster 0 w h m 8192 (asks .few)) ∙ z)
+    where
+      go : (b : Bool) → noneAbove m greys ≡ b → _≡_ {A = ℕ} (cond b 0 26) (suc i) → (suc i ≡ 26) × (noneAbove m greys ≡ false)
+      go true q y = absurd (omega arith)
+      go false q y = (sym y, q)
+
+  -- the answer is a refusal: it is 26
+  pub greys-refused : (target : List ℕ) {left : List ℕ} {answer : Turned} {r : ℕ} → length target ≡ 8192 → answer ≡ Turned.Refused r → greyedAs answer left ≡ turnedOf raster 0 w h m target
+      → (r ≡ 26) × (noneAbove m greys ≡ false)
+  unfolding turnedOf
+  greys-refused target {left} {answer} {r} n a e = go (first (turnRows raster 0 w h m (length target))) refl (rw a at e)
+    where
+      go : (i : ℕ) → first (turnRows raster 0 w h m (length target)) ≡ i → greyedAs (Turned.Refused r) left ≡ unless i (λ n. greyedAs (Turned.Refused n) target) (greyedAs Turned.Done (onto target greys))
+          → (r ≡ 26) × (noneAbove m greys ≡ false)
+      go zero z f =
+          let a : Turned.Refused r ≡ Turned.Done = ap (λ (x : Greyed). x .answer) f in
+          absurd (let o : _≡_ {A = ℕ} 0 1 = cc in omega arith)
+      go (suc i) z f =
+          let a : Turned.Refused r ≡ Turned.Refused (suc i) = ap (λ (x : Greyed). x .answer) f in
+          let b : r ≡ suc i = cc in
+          let t = target-last i (sym (rows-target target n) ∙ z) in
+          (b ∙ t .0, t .1)
+
+  -- the film has room for them
+  pub film-count : (left : List ℕ) → length left ≡ 8192 → w * h ≡ length (take (w * h) left)
+  film-count left n = sym (length-take-le (w * h) left (omega (arith, asks .few)))
+
+  -- the front of the film is the greys
+  pub film-front : (target : List ℕ) {left : List ℕ} {count : ℕ} → left ≡ onto target greys → count ≡ w * h → take count left ≡ greys
+  film-front target {left} {count} e q = rw e (take-onto target greys count (length-unpacked (isWide m) raster (w * h) ∙ sym q))
+
+-- the text of a film none of whose samples is above maxval
+pub picture-listed : (w h m : ℕ) {pic film d out : List ℕ} {r : ℕ} → film ≡ pic → noneAbove m pic ≡ true
+    → Told d (unless (first (prepareRows w h film (settingsOf m) 16 4)) refusedText (filmText w h m film)) out r → Told d (pictureText w h m pic) out r
+picture-listed w h m {pic} {film} f e t = rw e (rw f at t)
+
+-- the text of one that has such a sample
+pub picture-above : (w h m : ℕ) (pic : List ℕ) → noneAbove m pic ≡ false → refusedText 26 ≡ pictureText w h m pic
+picture-above w h m pic e = rw e refl
+
+-- ---- what read left
+
+-- where the raster starts
+pub record Start (s : List ℕ) (w h m : ℕ) : Type 0 where
+  pub at : ℕ
+  pub found : readOf s ≡ Head.Found w h m at
+
+-- the answer is sizes
+pub sizes-found : (s : List ℕ) {w h m : ℕ} → Sizes.Found w h m ≡ sizesOf (readOf s) → Start s w h m
+sizes-found s {w} {h} {m} e = go (readOf s) refl e
+  where
+    go : (x : Head) → readOf s ≡ x → Sizes.Found w h m ≡ sizesOf x → Start s w h m
+    go (Head.Found w′ h′ m′ at) p f =
+        let a : w′ ≡ w = cc in
+        let b : h′ ≡ h = cc in
+        let d : m′ ≡ m = cc in
+        record { at = at; found = p ∙ cc }
+    go (Head.Refused n) p f = absurd (let o : _≡_ {A = ℕ} 0 1 = cc in omega arith)
+
+-- the answer is a refusal
+pub sizes-refused : (s : List ℕ) {n : ℕ} → Sizes.Refused n ≡ sizesOf (readOf s) → readOf s ≡ Head.Refused n
+sizes-refused s {n} e = go (readOf s) refl e
+  where
+    go : (x : Head) → readOf s ≡ x → Sizes.Refused n ≡ sizesOf x → readOf s ≡ Head.Refused n
+    go (Head.Found w h m at) p f = absurd (let o : _≡_ {A = ℕ} 0 1 = cc in omega arith)
+    go (Head.Refused k) p f = let a : k ≡ n = cc in p ∙ cc
+
+-- ---- the whole
+
+module _ (s : List ℕ) where
+  -- a longer input
+  pub listing-long : 32768 < length s → refusedText 22 ≡ listingOf s
+  unfolding listingOf
+  listing-long l = rw (lt-ltb 32768 (length s) l) refl
+
+  module _ (l : length s ≤ 32768) where
+    -- a larger film
+    pub listing-larger : {b : Bool} → b ≡ isLarger (headerOf s) → b ≡ true → refusedText 22 ≡ listingOf s
+    unfolding listingOf
+    listing-larger e q = rw (le-ltb 32768 (length s) l, ← e, q) refl
+
+    module _ {b : Bool} (e : b ≡ isLarger (headerOf s)) (q : b ≡ false) where
+      -- what read says
+      listing-read : readText (readOf s) s ≡ listingOf s
+      unfolding listingOf
+      listing-read = rw (le-ltb 32768 (length s) l, ← e, q) refl
+
+      -- read's refusal
+      pub listing-refused : {n : ℕ} → Sizes.Refused n ≡ sizesOf (readOf s) → refusedText n ≡ listingOf s
+      listing-refused f = ap (λ x. readText x s) (sym (sizes-refused s f)) ∙ listing-read
+
+      module _ {w h m : ℕ} (f : Sizes.Found w h m ≡ sizesOf (readOf s)) {raster : List ℕ} (r : raster ≡ rasterOf (readOf s) s) where
+        start : Start s w h m
+        start = sizes-found s f
+
+        raster-is : raster ≡ drop (start .at) s
+        raster-is = r ∙ ap (λ x. rasterOf x s) (start .found)
+
+        few : w * h ≤ 8192
+        few = ltb-false 8192 (w * h) (ap isLarger (sym (read-header s (start .found))) ∙ (sym e ∙ q))
+
+        -- what `list_raster` asks
+        pub list-asks : (room : ℕ) → 512 ≤ room → ListAsks raster w h m room
+        list-asks room n =
+            let t : RasterAsks s (start .at) w h m = read-asks s (start .found) in
+            record {
+              asks = record { within = t .within; exact = rw (raster-is, length-drop) (omega (arith, t .exact)) };
+              few = few;
+              fitting = n;
+            }
+
+        -- the listing of the film that was read
+        pub listing-found : pictureText w h m (unpacked (isWide m) raster (w * h)) ≡ listingOf s
+        listing-found =
+            ap (λ t. pictureText w h m (unpacked (isWide m) t (w * h))) raster-is ∙ (ap (λ x. readText x s) (sym (start .found)) ∙ listing-read)
+
+-- ---- how long the text is
+
+length-unless : (n : ℕ) (text : List ℕ) → length text ≤ 216 → length (unless n refusedText text) ≤ 216
+length-unless zero text l = l
+length-unless (suc n) text l = omega (arith, length-refused (suc n))
+
+length-pick : (b : Bool) (s t : List ℕ) → length s ≤ 216 → length t ≤ 216 → length (cond b s t) ≤ 216
+length-pick true s t l k = l
+length-pick false s t l k = k
+
+length-read : (x : Head) (s : List ℕ) → length (readText x s) ≤ 216
+length-read (Head.Found w h m at) s =
+    let pic = unpacked (isWide m) (drop at s) (w * h) in
+    length-pick (noneAbove m pic) _ (refusedText 26) (length-unless (first (prepareRows w h pic (settingsOf m) 16 4)) (filmText w h m pic) (length-film w h m pic)) (omega (arith, length-refused 26))
+length-read (Head.Refused n) s = omega (arith, length-refused n)
+
+-- at most 216 bytes are printed, whatever is read
+pub length-listing : (s : List ℕ) → length (listingOf s) ≤ 216
+unfolding listingOf
+length-listing s =
+    length-pick (ltb 32768 (length s)) (refusedText 22) _ (omega (arith, length-refused 22))
+    (length-pick (isLarger (headerOf s)) (refusedText 22) (readText (readOf s) s) (omega (arith, length-refused 22)) (length-read (readOf s) s))
+
+-- ---- the output's room
+
+pub list-short : (s out : List ℕ) → length out < 512 → wroteAs (Written.Refused 27) out ≡ listOf s out
+unfolding first textRows listOf
+list-short s out h = rw (lt-ltb (length out) 512 h) refl
+
+pub list-laid : (s out : List ℕ) {out′ : List ℕ} {n : ℕ} → 512 ≤ length out → out′ ≡ onto out (listingOf s) → n ≡ length (listingOf s) → wroteAs (Written.Bytes n) out′ ≡ listOf s out
+unfolding first textRows listOf
+list-laid s out h e q = rw (le-ltb (length out) 512 h, e, q) refl
+
+-- what was laid down lies in the output
+pub list-fits : (s out : List ℕ) {r : Written} {out′ : List ℕ} → wroteAs r out′ ≡ listOf s out → laidOf r ≤ length out
+list-fits s out {r} e = go (ltb (length out) 512) refl
+  where
+    laid : laidOf r ≡ laidOf (listOf s out .answer)
+    laid = ap (λ (z : Wrote). laidOf (z .answer)) e
+
+    go : (b : Bool) → ltb (length out) 512 ≡ b → laidOf r ≤ length out
+    go true q = omega (arith, laid ∙ ap (λ (z : Wrote). laidOf (z .answer)) (sym (list-short s out (ltb-true (length out) 512 q))))
+    go false q =
+        let room : 512 ≤ length out = ltb-false (length out) 512 q in
+        omega (arith, laid ∙ ap (λ (z : Wrote). laidOf (z .answer)) (sym (list-laid s out room refl refl)), length-listing s, room)

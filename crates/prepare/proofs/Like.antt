@@ -1,0 +1,48 @@
+-- "Bins B: 2 to 4096. 0 means 128.", for every input: with the settings as they are kept, prepare and enhance answer and leave the same.
+-- Assumes nothing.
+use Prim.Native.Nat.{ℕ, _*_}
+use mathlib.Core.List.{List}
+use mathlib.Core.Path.{_≡_, refl, ap}
+use lib.ListN.{length}
+use Rattle.lists.specs.Lists.{joined}
+use Rattle.tally.specs.Tally.{greysOf}
+use Rattle.tile.specs.Tile.{tileMapping}
+use Rattle.settings.specs.declared.Settings.{Settings}
+use Rattle.settings.specs.Settings.{keptOf}
+use Rattle.settings.proofs.Like.{bins-kept, shared-kept}
+use Rattle.render.specs.Render.{whole}
+use Rattle.render.proofs.Laws.{render-kept}
+use Rattle.prepare.specs.Prepare.{tileOf, pixelsIn, tileMap, mappings, lentRows, tightRows, workRows, prepareRows, footerOf, footOf, prepareOf, preparedOf, enhanceOf, enhancedOf}
+
+-- the mappings
+pub mappings-kept : (w h : ℕ) (pic : List ℕ) (s : Settings) → mappings w h pic (keptOf s) ≡ mappings w h pic s
+unfolding mappings tileMap
+mappings-kept w h pic s =
+    ap (λ b. joined (s .across * s .down) (λ k. tileMapping (s .min) (s .max) b (s .clip) (greysOf pic w (tileOf w h s k)))) (bins-kept s)
+
+-- the footer
+pub foot-kept : (w h : ℕ) (s : Settings) → footOf w h (keptOf s) ≡ footOf w h s
+unfolding footOf
+foot-kept w h s = ap (footerOf (s .clip) (pixelsIn w h s 0)) (bins-kept s)
+
+-- the rows 12 to 14
+pub work-kept : (w h : ℕ) (pic : List ℕ) (s : Settings) (scratch : ℕ) → workRows w h pic (keptOf s) scratch ≡ workRows w h pic s scratch
+unfolding workRows lentRows tightRows
+work-kept w h pic s scratch = rw (bins-kept s) refl
+
+-- and 1 to 14
+pub rows-kept : (w h : ℕ) (pic : List ℕ) (s : Settings) (room scratch : ℕ) → prepareRows w h pic (keptOf s) room scratch ≡ prepareRows w h pic s room scratch
+unfolding prepareRows
+rows-kept w h pic s room scratch = rw (shared-kept w h (length pic) s room, work-kept w h pic s scratch) refl
+
+-- so prepare answers and leaves the same
+pub prepare-kept : (film w h : ℕ) (pic : List ℕ) (s : Settings) (m t : List ℕ) → prepareOf film w h pic (keptOf s) m t ≡ prepareOf film w h pic s m t
+unfolding prepareOf preparedOf
+prepare-kept film w h pic s m t =
+    rw (rows-kept w h pic s (length m) (length t), mappings-kept w h pic s, foot-kept w h s, bins-kept s) refl
+
+-- and enhance
+pub enhance-kept : (w h : ℕ) (pic : List ℕ) (s : Settings) (m t : List ℕ) → enhanceOf w h pic (keptOf s) m t ≡ enhanceOf w h pic s m t
+unfolding enhanceOf enhancedOf
+enhance-kept w h pic s m t =
+    rw (rows-kept w h pic s (length m) (length t), mappings-kept w h pic s, render-kept w h s (mappings w h pic s) (whole w h) pic, foot-kept w h s, bins-kept s) refl
