@@ -91,7 +91,7 @@ fn count_four(
 }
 
 // Adds the greys of one row to four counts: a quarter of the row to each, and what is left over to the first.
-fn count_quarters(
+pub fn count_quarters(
     row: &[u16],
     min: u32,
     max: u32,
@@ -138,7 +138,7 @@ fn count_rows(
 }
 
 // Adds three counts to the first.
-fn add_up(a: &mut [u32], b: &[u32], c: &[u32], d: &[u32], bins: usize)
+pub fn add_up(a: &mut [u32], b: &[u32], c: &[u32], d: &[u32], bins: usize)
     requires { ⌜ (bins ≤ length (now a)) × (bins ≤ length (now b)) × (bins ≤ length (now c)) × (bins ≤ length (now d)) × ((k : _) → k < bins → fourAt (now a) (now b) (now c) (now d) k < 4294967296) ⌝ }
     ensures { λ _. ⌜ now (a .exit) ≡ filled (fourAt (now (a .entry)) (now (b .entry)) (now (c .entry)) (now (d .entry))) (now (a .entry)) bins ⌝ }
 {

@@ -6,7 +6,6 @@ use mathlib.Core.List.{List, _++_}
 use mathlib.Core.Path.{_≡_, refl, sym, ap, ap₂, _∙_, subst}
 use lib.ListN.{length, take, drop, getD}
 use lib.Ieee.{Float}
-use lib.Seq.{take-at}
 use native.Mathlib.Omega.{arith}
 use Rattle.lists.specs.Lists.{total, all, onto}
 use Rattle.lists.proofs.Fills.{take-onto, drop-onto}
@@ -18,7 +17,7 @@ use Rattle.clip.specs.Asks.{ClipAsks}
 use Rattle.clip.proofs.Laws.{length-clipped, total-clipped, clipped-most}
 use Rattle.scan.specs.Scan.{within}
 use Rattle.tally.specs.Tally.{countsOf, greysOf}
-use Rattle.tile.specs.Tile.{clippedBy, mappedOf, mappingOf, tileCounts, tileMapping, Holds, factor, ClipByAsks, MapAsks, TileAsks, TileMapped}
+use Rattle.tile.specs.Tile.{clippedBy, mappedOf, mappingOf, countsMapping, tileCounts, tileMapping, Holds, factor, ClipByAsks, MapAsks, FromAsks, TileAsks, TileMapped}
 use Rattle.tally.specs.declared.Rect.{Rect}
 use Rattle.tally.proofs.Greys.{length-greys}
 use Rattle.tally.proofs.Counts.{length-counts, total-counts}
@@ -102,24 +101,28 @@ tile-counts-most lo hi b f vs k = rw (tile-counts-factor lo hi b f vs) (clipped-
 
 -- ---- the mapping of a tile
 
+-- it is the mapping of the tile's clipped counts
+tile-mapping-counts : (lo hi b : ℕ) (clip : Clip) (vs : List ℕ) → tileMapping lo hi b clip vs ≡ mappingOf lo hi (length vs) (tileCounts lo hi b clip vs)
+unfolding tileMapping countsMapping tileCounts
+tile-mapping-counts lo hi b clip vs = refl
+
 -- a mapped value for each bin
 pub length-tile-mapping : (lo hi b : ℕ) (clip : Clip) (vs : List ℕ) → length (tileMapping lo hi b clip vs) ≡ b
-unfolding tileMapping
-length-tile-mapping lo hi b clip vs = length-mapping lo hi (length vs) (tileCounts lo hi b clip vs) ∙ length-tile-counts lo hi b clip vs
+length-tile-mapping lo hi b clip vs = ap length (tile-mapping-counts lo hi b clip vs) ∙ length-mapping lo hi (length vs) (tileCounts lo hi b clip vs) ∙ length-tile-counts lo hi b clip vs
 
 -- each within Min to Max
 pub tile-mapping-within : (lo hi b : ℕ) (clip : Clip) (vs : List ℕ) → all (within lo hi) vs ≡ true → 0 < b → lo ≤ hi → Holds clip (length vs) b
     → all (within lo hi) (tileMapping lo hi b clip vs) ≡ true
-unfolding tileMapping
 tile-mapping-within lo hi b clip vs h p l room =
-    mapping-within lo hi (length vs) (tileCounts lo hi b clip vs) (omega (arith, total-tile-counts lo hi b clip vs h p room)) l
+    ap (all (within lo hi)) (tile-mapping-counts lo hi b clip vs)
+    ∙ mapping-within lo hi (length vs) (tileCounts lo hi b clip vs) (omega (arith, total-tile-counts lo hi b clip vs h p room)) l
 
 -- the mapped value of bin k
 pub getD-tile-mapping : (lo hi b : ℕ) (clip : Clip) (vs : List ℕ) (k : ℕ) → k < b
     → getD (tileMapping lo hi b clip vs) k 0 ≡ mappedOf lo hi (length vs) (tileCounts lo hi b clip vs) k
-unfolding tileMapping
 getD-tile-mapping lo hi b clip vs k h =
-    getD-mapping lo hi (length vs) (tileCounts lo hi b clip vs) k (omega (arith, length-tile-counts lo hi b clip vs))
+    ap (λ m. getD m k 0) (tile-mapping-counts lo hi b clip vs)
+    ∙ getD-mapping lo hi (length vs) (tileCounts lo hi b clip vs) k (omega (arith, length-tile-counts lo hi b clip vs))
 
 -- it never falls
 pub tile-mapping-mono : (lo hi b : ℕ) (clip : Clip) (vs : List ℕ) → 0 < length vs → (k j : ℕ) → k ≤ j → j < b
@@ -164,76 +167,89 @@ tile-mapping-last lo hi b clip vs h p l some room =
     ∙ ap (λ k. mappedOf lo hi (length vs) cs (k - 1)) (sym n)
     ∙ mapped-last lo hi (length vs) cs some (total-tile-counts lo hi b clip vs h p room) l (omega arith)
 
--- ---- the steps of `mapping`: counted, clipped, mapped
+-- ---- the mapping of counts by the clip setting
+
+-- a mapped value for each count
+pub length-counts-mapping : (lo hi : ℕ) (clip : Clip) (n : ℕ) (cs : List ℕ) → length (countsMapping lo hi clip n cs) ≡ length cs
+unfolding countsMapping
+length-counts-mapping lo hi clip n cs = length-mapping lo hi n (clippedBy clip n cs) ∙ length-clipped-by clip n cs
+
+-- the clipped counts add up to the pixels
+total-from : {clip : Clip} {n lo hi : ℕ} {cs : List ℕ} {room : ℕ} → FromAsks clip n lo hi cs room → total (clippedBy clip n cs) ≡ n
+total-from {clip} {n} {lo} {hi} {cs} asks = total-clipped-by clip n cs (asks .counted .holds) (asks .counted .all-pixels) (omega (arith, asks .counted .some))
+
+-- each within Min to Max
+pub counts-mapping-within : {clip : Clip} {n lo hi : ℕ} {cs : List ℕ} {room : ℕ} → FromAsks clip n lo hi cs room → all (within lo hi) (countsMapping lo hi clip n cs) ≡ true
+unfolding countsMapping
+counts-mapping-within {clip} {n} {lo} {hi} {cs} asks = mapping-within lo hi n (clippedBy clip n cs) (omega (arith, total-from asks)) (asks .order)
+
+-- ---- the steps of `from_counts`: clipped, mapped
+
+module _ {clip : Clip} {n lo hi : ℕ} {cs : List ℕ} {out : ℕ} (asks : FromAsks clip n lo hi cs out) {ds : List ℕ} (e : ds ≡ clippedBy clip n cs) where
+  -- what mapping the clipped counts asks
+  pub from-map-asks : MapAsks ds n lo hi out
+  from-map-asks =
+      let t : total ds ≡ n = ap total e ∙ total-from asks in
+      let l : length ds ≡ length cs = ap length e ∙ length-clipped-by clip n cs in
+      record {
+        sum = omega arith;
+        some = asks .some;
+        few = asks .counted .few-pixels;
+        order = asks .order;
+        most = asks .most;
+        enough = omega (arith, asks .enough);
+      }
+
+  -- what it comes to
+  pub from-mapped : (o : List ℕ) {o′ : List ℕ} → o′ ≡ onto o (mappingOf lo hi n ds) → o′ ≡ onto o (countsMapping lo hi clip n cs)
+  unfolding countsMapping
+  from-mapped o h = h ∙ ap (λ x. onto o (mappingOf lo hi n x)) e
+
+-- ---- the steps of `mapping`: counted, then clipped and mapped
 
 module _ {pic : List ℕ} {stride : ℕ} {r : Rect} {lo hi b : ℕ} {clip : Clip} {scratch out : ℕ} (asks : TileAsks pic stride r lo hi b clip scratch out) where
   -- the greys are as many as the tile's pixels
   tile-pixels : length (greysOf pic stride r) ≡ r .width * r .height
   tile-pixels = length-greys pic stride r
 
-  tile-holds : Holds clip (length (greysOf pic stride r)) b
-  tile-holds = subst (λ n. Holds clip n b) (sym tile-pixels) (asks .holds)
+  module _ (d : List ℕ) {s : List ℕ} (e : s ≡ onto d (countsOf lo hi b (greysOf pic stride r))) where
+    -- the front of the scratch holds the counts
+    tile-counted : take b s ≡ countsOf lo hi b (greysOf pic stride r)
+    tile-counted = ap (take b) e ∙ take-onto d (countsOf lo hi b (greysOf pic stride r)) b (length-counts lo hi b (greysOf pic stride r))
 
-  -- the front of the scratch holds the counts
-  pub tile-counted : (d : List ℕ) {s : List ℕ} → s ≡ onto d (countsOf lo hi b (greysOf pic stride r)) → take b s ≡ countsOf lo hi b (greysOf pic stride r)
-  tile-counted d {s} e = ap (take b) e ∙ take-onto d (countsOf lo hi b (greysOf pic stride r)) b (length-counts lo hi b (greysOf pic stride r))
+    pub tile-part : b ≡ length (take b s)
+    tile-part = sym (ap length tile-counted ∙ length-counts lo hi b (greysOf pic stride r))
 
-  pub tile-part : (d : List ℕ) {s : List ℕ} → s ≡ onto d (countsOf lo hi b (greysOf pic stride r)) → b ≡ length (take b s)
-  tile-part d e = sym (ap length (tile-counted d e) ∙ length-counts lo hi b (greysOf pic stride r))
+    -- what clipping and mapping them asks
+    pub tile-asks : FromAsks clip (r .width * r .height) lo hi (take b s) out
+    tile-asks =
+        record {
+          counted = record {
+            holds = subst (λ k. Holds clip (r .width * r .height) k) tile-part (asks .holds);
+            all-pixels = ap total tile-counted ∙ total-counts lo hi b (greysOf pic stride r) (asks .counts .greys) (omega (arith, asks .counts .scale .some)) ∙ tile-pixels;
+            few-pixels = asks .counts .inside .few;
+            some = omega (arith, tile-part, asks .counts .scale .some);
+            few = omega (arith, tile-part, asks .counts .scale .few);
+          };
+          some = asks .counts .inside .some;
+          order = asks .counts .scale .order;
+          most = asks .counts .scale .most;
+          enough = omega (arith, tile-part, asks .room);
+        }
 
-  pub tile-clip-asks : (d : List ℕ) {s : List ℕ} → s ≡ onto d (countsOf lo hi b (greysOf pic stride r)) → ClipByAsks clip (r .width * r .height) (take b s)
-  tile-clip-asks d {s} e =
-      record {
-        holds = subst (λ k. Holds clip (r .width * r .height) k) (tile-part d e) (asks .holds);
-        all-pixels = ap total (tile-counted d e) ∙ total-counts lo hi b (greysOf pic stride r) (asks .counts .greys) (omega (arith, asks .counts .scale .some)) ∙ tile-pixels;
-        few-pixels = asks .counts .inside .few;
-        some = omega (arith, tile-part d e, asks .counts .scale .some);
-        few = omega (arith, tile-part d e, asks .counts .scale .few);
-      }
-
-  -- then the clipped counts
-  pub tile-clipped : (d : List ℕ) {s p : List ℕ} → s ≡ onto d (countsOf lo hi b (greysOf pic stride r)) → p ≡ clippedBy clip (r .width * r .height) (take b s)
-      → p ≡ tileCounts lo hi b clip (greysOf pic stride r)
-  unfolding tileCounts
-  tile-clipped d e q = q ∙ ap₂ (clippedBy clip) (sym tile-pixels) (tile-counted d e)
-
-  pub tile-front : (d : List ℕ) {s p : List ℕ} → s ≡ onto d (countsOf lo hi b (greysOf pic stride r)) → p ≡ clippedBy clip (r .width * r .height) (take b s)
-      → take b (p ++ drop b s) ≡ tileCounts lo hi b clip (greysOf pic stride r)
-  tile-front d {s} {p} e q =
-      let f : p ≡ tileCounts lo hi b clip (greysOf pic stride r) = tile-clipped d e q in
-      take-at p (drop b s) b (ap length f ∙ length-tile-counts lo hi b clip (greysOf pic stride r)) ∙ f
-
-  pub tile-front-part : (d : List ℕ) {s p : List ℕ} → s ≡ onto d (countsOf lo hi b (greysOf pic stride r)) → p ≡ clippedBy clip (r .width * r .height) (take b s)
-      → b ≡ length (take b (p ++ drop b s))
-  tile-front-part d e q = sym (ap length (tile-front d e q) ∙ length-tile-counts lo hi b clip (greysOf pic stride r))
-
-  pub tile-map-asks : (d : List ℕ) {s p : List ℕ} → s ≡ onto d (countsOf lo hi b (greysOf pic stride r)) → p ≡ clippedBy clip (r .width * r .height) (take b s)
-      → MapAsks (take b (p ++ drop b s)) (r .width * r .height) lo hi out
-  tile-map-asks d {s} {p} e q =
-      let t : total (take b (p ++ drop b s)) ≡ length (greysOf pic stride r)
-      = ap total (tile-front d e q) ∙ total-tile-counts lo hi b clip (greysOf pic stride r) (asks .counts .greys) (omega (arith, asks .counts .scale .some)) tile-holds in
-      record {
-        sum = omega (arith, tile-pixels);
-        some = asks .counts .inside .some;
-        few = asks .counts .inside .few;
-        order = asks .counts .scale .order;
-        most = asks .counts .scale .most;
-        enough = omega (arith, tile-front-part d e q, asks .room);
-      }
-
-  -- at the end
-  pub tile-mapped : (d o : List ℕ) {s p o′ : List ℕ} → s ≡ onto d (countsOf lo hi b (greysOf pic stride r)) → p ≡ clippedBy clip (r .width * r .height) (take b s)
-      → o′ ≡ onto o (mappingOf lo hi (r .width * r .height) (take b (p ++ drop b s)))
-      → TileMapped lo hi b clip (greysOf pic stride r) d (p ++ drop b s) o o′
-  unfolding tileMapping onto
-  tile-mapped d o {s} {p} {o′} e q h =
-      record {
-        counts = ap₂ (λ x y. x ++ y) (tile-clipped d e q) behind;
-        mapping = h ∙ ap₂ (λ n cs. onto o (mappingOf lo hi n cs)) (sym tile-pixels) (tile-front d e q);
-      }
-    where
-      behind : drop b s ≡ drop (length (tileCounts lo hi b clip (greysOf pic stride r))) d
-      behind =
-          ap (drop b) e
-          ∙ drop-onto d (countsOf lo hi b (greysOf pic stride r)) b (length-counts lo hi b (greysOf pic stride r))
-          ∙ ap (λ k. drop k d) (sym (length-tile-counts lo hi b clip (greysOf pic stride r)))
+    -- at the end
+    pub tile-mapped : (o : List ℕ) {p o′ : List ℕ} → p ≡ clippedBy clip (r .width * r .height) (take b s)
+        → o′ ≡ onto o (countsMapping lo hi clip (r .width * r .height) (take b s))
+        → TileMapped lo hi b clip (greysOf pic stride r) d (p ++ drop b s) o o′
+    unfolding tileMapping tileCounts onto
+    tile-mapped o {p} {o′} q h =
+        record {
+          counts = ap₂ (λ x y. x ++ y) (q ∙ ap₂ (clippedBy clip) (sym tile-pixels) tile-counted) behind;
+          mapping = h ∙ ap₂ (λ n cs. onto o (countsMapping lo hi clip n cs)) (sym tile-pixels) tile-counted;
+        }
+      where
+        behind : drop b s ≡ drop (length (tileCounts lo hi b clip (greysOf pic stride r))) d
+        behind =
+            ap (drop b) e
+            ∙ drop-onto d (countsOf lo hi b (greysOf pic stride r)) b (length-counts lo hi b (greysOf pic stride r))
+            ∙ ap (λ k. drop k d) (sym (length-tile-counts lo hi b clip (greysOf pic stride r)))

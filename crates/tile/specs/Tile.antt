@@ -27,13 +27,17 @@ mappedOf lo hi n cs k = lo + total (take (k + 1) cs) * (hi - lo) / n
 unfoldable pub mappingOf : ℕ → ℕ → ℕ → List ℕ → List ℕ
 mappingOf lo hi n cs = tab (length cs) (mappedOf lo hi n cs)
 
+-- the mapping of a tile's raw counts by the clip setting
+unfoldable pub countsMapping : ℕ → ℕ → Clip → ℕ → List ℕ → List ℕ
+countsMapping lo hi clip n cs = mappingOf lo hi n (clippedBy clip n cs)
+
 -- the clipped (or raw) counts of a tile with these greys
 unfoldable pub tileCounts : ℕ → ℕ → ℕ → Clip → List ℕ → List ℕ
 tileCounts lo hi b clip vs = clippedBy clip (length vs) (countsOf lo hi b vs)
 
 -- and the mapping of these same counts
 unfoldable pub tileMapping : ℕ → ℕ → ℕ → Clip → List ℕ → List ℕ
-tileMapping lo hi b clip vs = mappingOf lo hi (length vs) (tileCounts lo hi b clip vs)
+tileMapping lo hi b clip vs = countsMapping lo hi clip (length vs) (countsOf lo hi b vs)
 
 -- ---- what the functions ask
 
@@ -58,6 +62,14 @@ pub record ClipByAsks (clip : Clip) (n : ℕ) (counts : List ℕ) : Type 0 where
   pub few-pixels : n ≤ 4194304
   pub some : 2 ≤ length counts
   pub few : length counts ≤ 4096
+
+-- what `from_counts` asks: what `clip_by` and `map` ask of the counts of n pixels
+pub record FromAsks (clip : Clip) (n lo hi : ℕ) (counts : List ℕ) (room : ℕ) : Type 0 where
+  pub counted : ClipByAsks clip n counts
+  pub some : 0 < n
+  pub order : lo ≤ hi
+  pub most : hi ≤ 4095
+  pub enough : length counts ≤ room
 
 -- what `mapping` asks: what `count` asks, a clip setting whose limit has room for the tile, and room for the mapping
 pub record TileAsks (pic : List ℕ) (stride : ℕ) (r : Rect) (lo hi b : ℕ) (clip : Clip) (scratch out : ℕ) : Type 0 where

@@ -3,7 +3,7 @@ ghost use mathlib.Core.Path.{_≡_};
 ghost use lib.ListN.{length};
 ghost use Rattle.lists.specs.Lists.{onto};
 ghost use Rattle.tally.specs.Tally.{greysOf};
-ghost use Rattle.tile.specs.Tile.{mappingOf, clippedBy, MapAsks, ClipByAsks, TileAsks, TileMapped};
+ghost use Rattle.tile.specs.Tile.{mappingOf, clippedBy, countsMapping, MapAsks, ClipByAsks, FromAsks, TileAsks, TileMapped};
 use limit::Clip;
 use tally::Rect;
 
@@ -37,6 +37,15 @@ fn clip_by(clip: Clip, pixels: u32, counts: &mut [u32])
     }
 }
 
+// Clips the counts by the setting, and maps them: what is left of `mapping` behind `count`.
+pub fn from_counts(clip: Clip, pixels: u32, min: u32, max: u32, counts: &mut [u32], out: &mut [u16])
+    requires { ⌜ FromAsks clip pixels min max (now counts) (length (now out)) ⌝ }
+    ensures { λ _. ⌜ (now (counts .exit) ≡ clippedBy clip pixels (now (counts .entry))) × (now (out .exit) ≡ onto (now (out .entry)) (countsMapping min max clip pixels (now (counts .entry)))) ⌝ }
+{
+    clip_by(clip, pixels, counts);
+    map(counts, pixels, min, max, out);
+}
+
 // A tile's mapping from its pixels: counted, clipped, mapped. The counts stay in the front of the scratch.
 pub fn mapping(
     picture: &[u16],
@@ -55,6 +64,5 @@ pub fn mapping(
     let pixels = (rect.width * rect.height) as u32;
     let entries = bins as usize;
     tally::count(picture, stride, rect, min, max, bins, scratch);
-    clip_by(clip, pixels, &mut scratch[..entries]);
-    map(&scratch[..entries], pixels, min, max, out);
+    from_counts(clip, pixels, min, max, &mut scratch[..entries], out);
 }

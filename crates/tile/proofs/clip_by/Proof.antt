@@ -1,3 +1,5 @@
+-- `clip_by` leaves the counts as the clip setting has them.
+-- Assumes nothing.
 use borrow.Author.Needs.{needs}
 use Rattle.tile.proofs.Tiles.{limit-asks, clip-asks, clipped-off, clipped-factor}
 use Rattle.tile.proofs.clip_by.Statement.{statement}

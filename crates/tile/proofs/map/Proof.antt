@@ -1,3 +1,5 @@
+-- `map` lays down the mapping of the counts.
+-- Assumes nothing.
 use Prim.Native.Nat.{_≤_, _-_, _+_, _*_, _/_}
 use mathlib.Core.Path.{_≡_, refl, _∙_}
 use lib.ListN.{length, length-set, getD, take}

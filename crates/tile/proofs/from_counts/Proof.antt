@@ -1,0 +1,25 @@
+-- `tile::from_counts` meets its contract: the clipped counts are mapped.
+-- Assumes nothing.
+use borrow.Author.Needs.{needs}
+use Rattle.tile.proofs.Tiles.{from-map-asks, from-mapped}
+use Rattle.tile.proofs.from_counts.Statement.{statement}
+use Rattle.tile.proofs.from_counts.Tie as tie
+
+clip-by-requires : tie.Need-clip-by-requires
+clip-by-requires c κs = search needs
+
+map-requires : tie.Need-map-requires
+map-requires c κs = from-map-asks (c .before .before .before .before .before .before .before .before .pre) (c .before .before .before .before .clip-by .ensures)
+
+same-length : tie.Need-same-length
+same-length c = search needs
+
+same-length-2 : tie.Need-same-length-2
+same-length-2 c = search needs
+
+returns : tie.Need-returns
+returns c = (c .before .before .before .before .before .before .before .clip-by .ensures, from-mapped (c .before .before .before .before .before .before .before .before .before .before .before .pre) (c .before .before .before .before .before .before .before .clip-by .ensures) _ (c .before .before .map .ensures))
+
+pub from-counts-spec : {M : Type 1} → statement M
+from-counts-spec =
+    tie.close (tie.spec clip-by-requires map-requires same-length same-length-2 returns)
