@@ -89,7 +89,7 @@ class Program:
         """Whether the program prints what it should."""
         with open(self.room + "/fault.ll", "w", encoding="utf-8") as out:
             out.writelines(lines)
-        subprocess.run(["cover/native", self.room + "/fault.ll", self.room + "/fault"], check=True, capture_output=True)
+        subprocess.run(["toolchain/program", self.room + "/fault.ll", self.room + "/fault"], check=True, capture_output=True)
         try:
             with open(self.read, "rb") as read:
                 done = subprocess.run([self.room + "/fault"], stdin=read, capture_output=True, timeout=10, check=False)

@@ -67,14 +67,14 @@ on-not-one {clip} {f} on = rw (on .factor, above-not-one f (on .above)) refl
 -- ---- any rectangle
 
 -- what demand 3 asks of a rectangle of a picture: a pixel and a bin at least, pixels from Min to Max, and room for them under the limit
-record RectAsks (lo hi b : ℕ) (clip : Clip) (pic : List ℕ) (w : ℕ) (r : Rect) : Type 0 where
-  some : 0 < r .width * r .height
-  bins : 0 < b
-  greys : all (within lo hi) (greysOf pic w r) ≡ true
-  holds : Holds clip (r .width * r .height) b
+pub record RectAsks (lo hi b : ℕ) (clip : Clip) (pic : List ℕ) (w : ℕ) (r : Rect) : Type 0 where
+  pub some : 0 < r .width * r .height
+  pub bins : 0 < b
+  pub greys : all (within lo hi) (greysOf pic w r) ≡ true
+  pub holds : Holds clip (r .width * r .height) b
 
 -- the greys of any rectangle, counted, clipped and mapped with a factor above one
-rect-sound : {lo hi b : ℕ} {clip : Clip} {pic : List ℕ} {w : ℕ} {r : Rect} → RectAsks lo hi b clip pic w r → {f : Float} → ClippingOn clip f → (entry : ℕ → ℕ)
+pub rect-sound : {lo hi b : ℕ} {clip : Clip} {pic : List ℕ} {w : ℕ} {r : Rect} → RectAsks lo hi b clip pic w r → {f : Float} → ClippingOn clip f → (entry : ℕ → ℕ)
     → ((i : ℕ) → i < b → entry i ≡ mappedOf lo hi (r .width * r .height) (tileCounts lo hi b clip (greysOf pic w r)) i)
     → TileSound lo hi (r .width * r .height) b (limitOf f (r .width * r .height) b) (countsOf lo hi b (greysOf pic w r)) (tileCounts lo hi b clip (greysOf pic w r)) entry
 rect-sound {lo} {hi} {b} {clip} {pic} {w} {r} asks {f} on entry own =
