@@ -93,8 +93,8 @@ pub fn tile_pixels(width: u32, height: u32, s: Settings, k: usize) -> u32
     requires { ⌜ Tiled width height s × (k < s .across * s .down) ⌝ }
     ensures { λ r. ⌜ r ≡ pixelsIn width height s k ⌝ }
 {
-    let rect = tile_rect(width, height, s.across, s.down, k);
-    (rect.width * rect.height) as u32
+    let tile = tile_rect(width, height, s.across, s.down, k);
+    (tile.width * tile.height) as u32
 }
 
 // The footer of a film.
@@ -224,7 +224,8 @@ pub fn prepare(
         height,
         settings: kept,
     };
-    if settings::clip_one(clip) {
+    let one = settings::clip_one(clip);
+    if one {
         return Prepared::Done(record, foot);
     }
     map_tiles(picture, width, height, s, map, scratch);
