@@ -34,10 +34,13 @@ static const struct reel {
 /* ---- measuring ---- */
 
 /* In the order in which they take turns: draw comes behind prepare, with whose mappings it draws. */
-enum call { ENHANCE, BY_1994, COPY, SCAN, UNCLIPPED, PREPARE, DRAW, WRITE, READ, CALLS };
+enum call {
+    ENHANCE, ENHANCE_BYTES, BY_1994, COPY, SCAN, UNCLIPPED, PREPARE, DRAW, PREPARE_BYTES, DRAW_BYTES, WRITE, READ, CALLS
+};
 
 #define ONE(call) (1u << (call))
-#define ALL (ONE(CALLS) - 1)
+#define BYTES (ONE(ENHANCE_BYTES) | ONE(PREPARE_BYTES) | ONE(DRAW_BYTES)) /* for films of 8 bits alone */
+#define ALL ((ONE(CALLS) - 1) & ~BYTES)
 
 static const struct {
     void (*before)(struct bench *);
@@ -46,6 +49,9 @@ static const struct {
     [ENHANCE] = {lay_out, call_enhance}, [BY_1994] = {lay_out, call_1994},     [COPY] = {NULL, call_copy},
     [SCAN] = {NULL, call_scan},          [UNCLIPPED] = {NULL, call_unclipped}, [PREPARE] = {NULL, call_prepare},
     [DRAW] = {NULL, call_draw},          [WRITE] = {NULL, call_write},         [READ] = {NULL, call_read},
+    [ENHANCE_BYTES] = {lay_out_bytes, call_enhance_bytes},
+    [PREPARE_BYTES] = {NULL, call_prepare_bytes},
+    [DRAW_BYTES] = {NULL, call_draw_bytes},
 };
 
 /* What was measured of a film: the best turn of each call, in nanoseconds. */
@@ -218,6 +224,49 @@ static void calls_table(const char *opencv)
     tiles_alone();
 }
 
+/* ---- bytes ---- */
+
+static void bytes_row(uint32_t side, const char *call, double bytes, double wide)
+{
+    printf("| %4u | %-7s | %8.3f | %8.3f |", (unsigned)side, call, bytes, wide);
+    ratio(bytes, wide);
+    printf("\n");
+}
+
+static void bytes_rows(uint32_t side)
+{
+    struct subject of = usual(NOISY, side, 8);
+    struct result r = measure(&of, BYTES | ONE(ENHANCE) | ONE(PREPARE) | ONE(DRAW));
+    const double *best = r.best;
+    bytes_row(side, "enhance", best[ENHANCE_BYTES] / r.pixels, best[ENHANCE] / r.pixels);
+    bytes_row(side, "prepare", best[PREPARE_BYTES] / r.pixels, best[PREPARE] / r.pixels);
+    bytes_row(side, "draw", best[DRAW_BYTES] / r.area, best[DRAW] / r.area);
+    fflush(stdout);
+}
+
+/* What enhance wants lent: the picture, the map buffer and the scratch. */
+static void memory_row(uint32_t side)
+{
+    tz_settings s = {.across = GRID, .down = GRID, .bins = BINS};
+    double entries = (double)side * side + (double)tz_map_entries(&s), scratch = 4.0 * (double)tz_scratch_entries(&s);
+    printf("| %4u | %9.1f | %9.1f |", (unsigned)side, (entries + scratch) / 1024, (2 * entries + scratch) / 1024);
+    ratio(entries + scratch, 2 * entries + scratch);
+    printf("\n");
+}
+
+static void bytes_table(void)
+{
+    printf("\n### Bytes\n\n"
+           "The calls on bytes against the wide ones on the same noisy film of 8 bits, nanoseconds a pixel.\n\n");
+    printf("| side | call | bytes | wide | bytes of wide |\n|---|---|---|---|---|\n");
+    for (size_t i = 0; i < MANY(sides); i++)
+        bytes_rows(sides[i]);
+    printf("\nWhat enhance wants lent, KiB: picture, map buffer and scratch.\n\n"
+           "| side | bytes | wide | bytes of wide |\n|---|---|---|---|\n");
+    for (size_t i = 0; i < MANY(sides); i++)
+        memory_row(sides[i]);
+}
+
 /* ---- the rendering of 1994 ---- */
 
 /* How far the rendering of 1994 is from ours, which stands in `picture`. */
@@ -335,6 +384,7 @@ static void run(const char *opencv)
 {
     films_table();
     calls_table(opencv);
+    bytes_table();
     comparison();
     bins_table();
     growth_table();

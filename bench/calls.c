@@ -23,6 +23,16 @@ static void *room(size_t bytes)
     return at;
 }
 
+static void open_bytes(struct bench *b)
+{
+    b->bytes = room(b->pixels);
+    b->byte_picture = room(b->pixels);
+    b->byte_drawn = room(b->pixels);
+    b->byte_map = room(tz_map_entries(&b->settings));
+    for (size_t i = 0; i < b->pixels; i++)
+        b->bytes[i] = (uint8_t)b->film[i];
+}
+
 void open_bench(struct bench *b, const struct subject *of)
 {
     uint32_t side = of->side, window = side < of->window ? side : of->window;
@@ -40,6 +50,8 @@ void open_bench(struct bench *b, const struct subject *of)
     b->scratch = room(4 * tz_scratch_entries(&b->settings));
     b->file = room(tz_write_bytes(side, side));
     film_draw(b->film, of->kind, side, of->bits);
+    if (of->bits == 8)
+        open_bytes(b);
 }
 
 void close_bench(struct bench *b)
@@ -50,11 +62,17 @@ void close_bench(struct bench *b)
     free(b->map);
     free(b->scratch);
     free(b->file);
+    free(b->bytes);
+    free(b->byte_picture);
+    free(b->byte_drawn);
+    free(b->byte_map);
 }
 
 /* ---- the calls ---- */
 
 void lay_out(struct bench *b) { memcpy(b->picture, b->film, 2 * b->pixels); }
+
+void lay_out_bytes(struct bench *b) { memcpy(b->byte_picture, b->bytes, b->pixels); }
 
 long call_enhance(struct bench *b)
 {
@@ -122,6 +140,26 @@ long call_copy(struct bench *b)
     return 0;
 }
 
+long call_enhance_bytes(struct bench *b)
+{
+    const tz_settings *s = &b->settings;
+    return tzofnadir_enhance_bytes(b->of.side, b->of.side, b->byte_picture, b->pixels, s, b->byte_map,
+                                   tz_map_entries(s), b->scratch, tz_scratch_entries(s), &b->footer);
+}
+
+long call_prepare_bytes(struct bench *b)
+{
+    const tz_settings *s = &b->settings;
+    return tzofnadir_prepare_bytes(FILM, b->of.side, b->of.side, b->bytes, b->pixels, s, b->byte_map,
+                                   tz_map_entries(s), b->scratch, tz_scratch_entries(s), &b->record, &b->footer);
+}
+
+long call_draw_bytes(struct bench *b)
+{
+    return tzofnadir_draw_bytes(FILM, b->of.side, b->of.side, b->bytes, b->pixels, &b->settings, &b->record,
+                                &b->window, b->byte_map, tz_map_entries(&b->settings), b->byte_drawn, b->area);
+}
+
 /* ---- the check ---- */
 
 static void must(const char *call, long answer)
@@ -150,8 +188,29 @@ static void check_window(struct bench *b)
             end("a drawn row is not enhance's", y);
 }
 
+static void check_same(const char *what, const uint8_t *bytes, const uint16_t *greys, size_t count)
+{
+    for (size_t i = 0; i < count; i++)
+        if (bytes[i] != greys[i])
+            end(what, (long)i);
+}
+
+/* Behind check_window, which leaves the wide calls' picture, window and mappings. */
+static void check_bytes(struct bench *b)
+{
+    must("prepare on bytes", call_prepare_bytes(b));
+    check_same("a mapping on bytes is another", b->byte_map, b->map, tz_map_entries(&b->settings));
+    must("draw on bytes", call_draw_bytes(b));
+    check_same("a grey drawn on bytes is another", b->byte_drawn, b->drawn, b->area);
+    lay_out_bytes(b);
+    must("enhance on bytes", call_enhance_bytes(b));
+    check_same("a grey rendered on bytes is another", b->byte_picture, b->picture, b->pixels);
+}
+
 void check(struct bench *b)
 {
     check_file(b);
     check_window(b);
+    if (b->bytes != NULL)
+        check_bytes(b);
 }

@@ -28,6 +28,10 @@ struct bench {
     uint16_t *drawn;   /* what is drawn or copied */
     uint16_t *map;
     uint32_t *scratch;
+    uint8_t *bytes; /* of a film of 8 bits: the same as bytes, and what the calls on bytes want */
+    uint8_t *byte_picture;
+    uint8_t *byte_drawn;
+    uint8_t *byte_map;
     uint8_t *file; /* the film as raw PGM */
     size_t file_len;
     tz_record record;
@@ -42,11 +46,13 @@ void close_bench(struct bench *b);
 
 /* Lays the film out anew, where it is rendered in place. */
 void lay_out(struct bench *b);
+void lay_out_bytes(struct bench *b);
 
 /*
  * Each call answers 0 where it ended as it should.
  * scan:      prepare of the film with its last pixel outside the range. That is known when all pixels were looked at,
  *            and nothing else is done. It is as it should be if prepare refuses with 13.
+ * .. bytes:  the calls on bytes, for a film of 8 bits with a grid of 8 by 8 and 64, 128 or 256 bins.
  * unclipped: prepare with clip off. Its record is not that of the settings: draw wants prepare before it.
  */
 long call_enhance(struct bench *b);
@@ -58,10 +64,13 @@ long call_write(struct bench *b);
 long call_read(struct bench *b);
 long call_1994(struct bench *b);
 long call_copy(struct bench *b);
+long call_enhance_bytes(struct bench *b);
+long call_prepare_bytes(struct bench *b);
+long call_draw_bytes(struct bench *b);
 
 /*
- * What is measured is worth nothing if it is wrong. Ends the program where a film written and read back is another, or a
- * drawn window is not enhance's. Leaves enhance's picture in `picture`.
+ * What is measured is worth nothing if it is wrong. Ends the program where a film written and read back is another, a
+ * drawn window is not enhance's, or a call on bytes leaves other greys or mappings. Leaves enhance's picture in `picture`.
  */
 void check(struct bench *b);
 

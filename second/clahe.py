@@ -1,10 +1,12 @@
-"""Prepare, draw and enhance: a second reading of document 01.
+"""Prepare, draw and enhance: a second reading of document 01, and of document
+02's order 1 (byte films).
 
 Plain and slow. Whole numbers and fractions.Fraction only; the one float is
 the division behind the footer's "factor used", which Python rounds correctly
 for two whole numbers.
 
-A quoted sentence in a comment is document 01's own.
+A quoted sentence in a comment is document 01's own, below the last heading
+document 02's.
 
 An answer is either a whole number (the refusal) or a tuple (the results).
 Pictures, map buffers, scratch and outputs are lists that the caller lends.
@@ -205,8 +207,8 @@ def grey_at(x, y, grey, width, height, settings, maps):
                  mapped(j0, k0), mapped(j0, k1), mapped(j1, k0), mapped(j1, k1))
 
 
-def refusal_1_to_11(width, height, picture, settings, map_buffer):
-    """Rows 1 to 11 of the table, "The first that applies is given."  0 when
+def refusal_1_to_10(width, height, picture, settings):
+    """Rows 1 to 10 of the table, "The first that applies is given."  0 when
     none applies."""
     across, down, bins, low, high, clip = settings
     # 1: "width or height is 0 or above 4096"
@@ -238,8 +240,16 @@ def refusal_1_to_11(width, height, picture, settings, map_buffer):
         factor = factor_number(clip)
         if factor is None or factor < 1 or factor > 1024:
             return 10
+    return 0
+
+
+def refusal_1_to_11(width, height, picture, settings, map_buffer):
+    """Rows 1 to 11 of the table.  0 when none applies."""
+    refusal = refusal_1_to_10(width, height, picture, settings)
+    if refusal:
+        return refusal
     # 11: "map buffer shorter than (grid across) x (grid down) x B"
-    if len(map_buffer) < across * down * bin_count(bins):
+    if len(map_buffer) < settings.across * settings.down * bin_count(settings.bins):
         return 11
     return 0
 
@@ -404,3 +414,52 @@ def draw(film_number, width, height, picture, settings, record, window, map_buff
             output[at] = grey
             at += 1
     return 0
+
+
+# --- byte films: document 02, order 1 ---------------------------------------
+
+def refusal_1_to_30(width, height, picture, settings):
+    """"30 for a setting outside the profile, after 10."  The profile: "Min 0,
+    Max 255, grid 8 by 8 only, bins 64, 128 (or 0) or 256".  0 when none
+    applies."""
+    refusal = refusal_1_to_10(width, height, picture, settings)
+    if refusal:
+        return refusal
+    if settings.across != 8 or settings.down != 8:
+        return 30
+    if bin_count(settings.bins) not in (64, 128, 256):
+        return 30
+    if settings.min != 0 or settings.max != 255:
+        return 30
+    return 0
+
+
+# "Widening the film, running the present rules and narrowing again must give
+# the same picture and mappings": inside the profile a byte film goes through
+# the calls above.  Pictures, maps and outputs are bytearrays, which hold no
+# other number than a byte, so a mapping or a grey that is none stops the
+# program.  The calls above ask for 1 to 10 again, which don't apply any more,
+# and go on with 11.
+
+def prepare_bytes(film_number, width, height, picture, settings, map_buffer, scratch):
+    """Prepare: "byte pictures in place", "mappings kept as bytes"."""
+    refusal = refusal_1_to_30(width, height, picture, settings)
+    if refusal:
+        return refusal
+    return prepare(film_number, width, height, picture, settings, map_buffer, scratch)
+
+
+def enhance_bytes(width, height, picture, settings, map_buffer, scratch):
+    """Enhance on a byte picture, in place."""
+    refusal = refusal_1_to_30(width, height, picture, settings)
+    if refusal:
+        return refusal
+    return enhance(width, height, picture, settings, map_buffer, scratch)
+
+
+def draw_bytes(film_number, width, height, picture, settings, record, window, map_buffer, output):
+    """Draw of a byte film into a byte output."""
+    refusal = refusal_1_to_30(width, height, picture, settings)
+    if refusal:
+        return refusal
+    return draw(film_number, width, height, picture, settings, record, window, map_buffer, output)

@@ -10,6 +10,7 @@ h = (h * 31 + v + 1) mod 2^32 over its entries v and last over its length.
 
 import os
 import sys
+from collections import namedtuple
 
 sys.dont_write_bytecode = True
 
@@ -40,10 +41,19 @@ RECORD_FIELDS = 10
 LISTING_ROOM = 512
 
 
-def rows():
-    """The rows of the set: each a letter, a dictionary of its columns, and the bytes that it lists."""
+# The calls that film and draw rows go through, and what makes a lent picture, map or output of its entries.
+Calls = namedtuple("Calls", "prepare draw enhance lent")
+
+WIDE = Calls(clahe.prepare, clahe.draw, clahe.enhance, list)
+
+# The number in the column field of a draw whose film is prepared by the wide calls.
+WIDE_RECORD = 11
+
+
+def rows(crate):
+    """The rows of a set: each a letter, a dictionary of its columns, and the bytes that it lists."""
     found = []
-    path = os.path.join(os.path.dirname(os.path.abspath(__file__)), "..", "crates", "films", "stdin")
+    path = os.path.join(os.path.dirname(os.path.abspath(__file__)), "..", "crates", crate, "stdin")
     with open(path, encoding="ascii") as text:
         for line in text:
             words = line.split("#")[0].split()
@@ -54,6 +64,11 @@ def rows():
                 assert len(row) == len(columns) and len(listed) == (row["count"] if letter in LISTS else 0), line
                 found.append((letter, row, listed))
     return found
+
+
+def film_rows(found):
+    """The film rows by their numbers, for the draws."""
+    return {row["no"]: row for letter, row, _ in found if letter == "F"}
 
 
 # --- the film rule and the fills -------------------------------------------
@@ -155,6 +170,9 @@ class Text:
     def __init__(self):
         self.lines = []
 
+    def whole(self):
+        return "".join(line + "\n" for line in self.lines)
+
     def line(self, letter, no, *fields):
         self.lines.append("\t".join([letter, str(no)] + [str(field) for field in fields]))
 
@@ -180,12 +198,12 @@ def record_fields(record):
 
 # --- the six tables --------------------------------------------------------
 
-def run_film(text, row):
+def run_film(text, row, calls=WIDE):
     """One row of the table films."""
     no, width, height = row["no"], row["width"], row["height"]
     settings = settings_of(row)
-    picture, maps, scratch = film(row), map_fill(row), scratch_fill(row)
-    prepared = clahe.prepare(row["film"], width, height, picture, settings, maps, scratch)
+    picture, maps, scratch = calls.lent(film(row)), calls.lent(map_fill(row)), scratch_fill(row)
+    prepared = calls.prepare(row["film"], width, height, picture, settings, maps, scratch)
     record = record_of(record_numbers(row))
     if isinstance(prepared, int):
         text.line("P", no, prepared)
@@ -195,15 +213,15 @@ def run_film(text, row):
     text.digests("p", no, picture, maps, scratch)
     text.small("m", no, maps)
 
-    output = output_fill(row["length"])
-    drawn = clahe.draw(row["film"], width, height, picture, settings, record,
+    output = calls.lent(output_fill(row["length"]))
+    drawn = calls.draw(row["film"], width, height, picture, settings, record,
                        (0, 0, width, height), maps, output)
     text.line("D", no, drawn)
     text.digests("d", no, picture, maps, output)
     text.small("o", no, output)
 
-    maps, scratch = map_fill(row), scratch_fill(row)
-    enhanced = clahe.enhance(width, height, picture, settings, maps, scratch)
+    maps, scratch = calls.lent(map_fill(row)), scratch_fill(row)
+    enhanced = calls.enhance(width, height, picture, settings, maps, scratch)
     if isinstance(enhanced, int):
         text.line("E", no, enhanced)
     else:
@@ -215,13 +233,15 @@ def run_film(text, row):
         text.line("K", no, 1 if digest(output) == digest(picture) else 0)
 
 
-def run_draw(text, row, films):
+def run_draw(text, row, films, calls=WIDE):
     """One row of the table draws."""
     case = films[row["case"]]
     settings = settings_of(case)
-    picture, maps, scratch = film(case), map_fill(case), scratch_fill(case)
-    prepared = clahe.prepare(case["film"], case["width"], case["height"], picture, settings,
+    first = WIDE if row["field"] == WIDE_RECORD else calls
+    picture, maps, scratch = first.lent(film(case)), first.lent(map_fill(case)), scratch_fill(case)
+    prepared = first.prepare(case["film"], case["width"], case["height"], picture, settings,
                              maps, scratch)
+    picture, maps = calls.lent(picture), calls.lent(maps)
     numbers = record_numbers(case)
     if row["field"] < RECORD_FIELDS:
         numbers[row["field"]] = row["value"]
@@ -234,9 +254,9 @@ def run_draw(text, row, films):
         picture[row["pixat"]] = row["pixval"]
     if row["mapat"] < len(maps):
         maps[row["mapat"]] = row["mapval"]
-    output = output_fill(row["outlen"])
+    output = calls.lent(output_fill(row["outlen"]))
     window = (row["left"], row["top"], row["width"], row["height"])
-    drawn = clahe.draw(row["film"], case["width"], case["height"], picture, settings, record,
+    drawn = calls.draw(row["film"], case["width"], case["height"], picture, settings, record,
                        window, maps, output)
     text.line("W", row["no"], drawn)
     text.digests("w", row["no"], picture, maps, output)
@@ -306,8 +326,8 @@ def run_list(text, row, data):
 
 def run():
     """The whole text."""
-    found = rows()
-    films = {row["no"]: row for letter, row, _ in found if letter == "F"}
+    found = rows("films")
+    films = film_rows(found)
     text = Text()
     for letter, row, listed in found:
         if letter == "F":
@@ -322,7 +342,7 @@ def run():
             run_write(text, row)
         else:
             run_list(text, row, listed)
-    return "".join(line + "\n" for line in text.lines)
+    return text.whole()
 
 
 if __name__ == "__main__":

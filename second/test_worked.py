@@ -1,4 +1,5 @@
-"""The worked numbers of document 01, "Numbers to check by hand", one by one.
+"""The worked numbers of document 01, "Numbers to check by hand", one by one,
+and the profile of document 02's order 1.
 
 Run: python3 second/test_worked.py   (prints the number of checks)
 """
@@ -163,6 +164,46 @@ def files():
     same(target, WORKED_FILM + [5, 5])
 
 
+def profile(**changed):
+    """Settings of the byte profile, but for what is changed."""
+    return clahe.Settings(8, 8, 64, 0, 255, f32(3.0))._replace(**changed)
+
+
+def byte_films():
+    """Document 02, order 1: "Min 0, Max 255, grid 8 by 8 only, bins 64, 128
+    (or 0) or 256"; "30 for a setting outside the profile, after 10"; and
+    widening, the wide calls and narrowing give the same."""
+    picture = bytearray(i * 37 % 256 for i in range(24 * 16))
+    wide = list(picture)
+
+    def answer(settings, room=16384):
+        return clahe.prepare_bytes(3, 24, 16, picture, settings, bytearray(room), [1] * 256)
+
+    for inside in (0, 64, 128, 256):
+        same(isinstance(answer(profile(bins=inside)), tuple), True)
+    for outside in ({"across": 4}, {"down": 4}, {"bins": 100}, {"min": 1}, {"max": 254}):
+        same(answer(profile(**outside)), 30)
+        same(answer(profile(**outside), 0), 30)
+        same(answer(profile(clip=f32(1025.0), **outside)), 10)
+    same(answer(profile(across=17)), 3)
+    same(answer(profile(bins=1)), 9)
+    same(answer(profile(max=4096)), 7)
+    same(answer(profile(), 4095), 11)
+    for clip in (None, f32(1.0), f32(3.0)):
+        settings, maps, bytes_maps = profile(clip=clip), [9] * 4100, bytearray([9] * 4100)
+        made = clahe.prepare(3, 24, 16, wide, settings, maps, [1] * 64)
+        same(clahe.prepare_bytes(3, 24, 16, picture, settings, bytes_maps, [1] * 64), made)
+        same(list(bytes_maps), maps)
+        output, bytes_output, window = [5] * 12, bytearray(12), (2, 3, 4, 3)
+        same(clahe.draw(3, 24, 16, wide, settings, made[0], window, maps, output), 0)
+        same(clahe.draw_bytes(3, 24, 16, picture, settings, made[0], window, bytes_maps, bytes_output), 0)
+        same(list(bytes_output), output)
+        rendered, bytes_rendered = list(wide), bytearray(picture)
+        same(clahe.enhance_bytes(24, 16, bytes_rendered, settings, bytes_maps, [1] * 64),
+             clahe.enhance(24, 16, rendered, settings, maps, [1] * 64))
+        same(list(bytes_rendered), rendered)
+
+
 def larges():
     """Numbers of films that no program of the toolchain has room for: sums above 32 bits, and the largest tile whose
     division the library makes a product. The program `numbers` prints them; what it must print is held to the rules here."""
@@ -187,5 +228,6 @@ if __name__ == "__main__":
     footers()
     listings()
     files()
+    byte_films()
     larges()
     print("%d checks hold" % checks)

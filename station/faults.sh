@@ -87,6 +87,10 @@ try 'a number of 40 digits' 64 enhance film.pgm "$out" --bins 111111111122222222
 try 'an empty factor' 64 enhance film.pgm "$out" --clip ''
 try 'a factor with a tail' 64 enhance film.pgm "$out" --clip 3.0x
 try 'a window without a size' 64 window film.pgm "$out" --at 0,0
+try '--bytes twice' 64 enhance film.pgm "$out" --bytes --bytes
+try '--bytes of a listing' 64 listing film.pgm --bytes
+told='--bytes takes a film of one byte a sample'
+try '--bytes, and a film of two bytes a sample' 64 enhance film.pgm "$out" --bytes
 
 # ---- settings that the library refuses
 try '--grid 0x0' 3 enhance film.pgm "$out" --grid 0x0
@@ -107,9 +111,40 @@ try 'bins that cannot hold a tile' 14 enhance film.pgm "$out" --bins 125 --clip 
 { printf 'P5\n512 384\n255\n'; raster | head -c 196608; } >shallow.pgm
 told='The rendering has greys above'
 try 'a rendering above maxval, by --range' 26 enhance shallow.pgm "$out" --range 0:4095
+told='outside the byte profile'
+try '--bytes --bins 100' 30 enhance shallow.pgm "$out" --bytes --bins 100
+told='outside the byte profile'
+try '--bytes --grid 4x8, a window' 30 window shallow.pgm "$out" --grid 4x8 --bytes --at 0,0 --size 8x8
+told='outside the byte profile'
+try '--bytes --range 0:254, before 13' 30 enhance shallow.pgm "$out" --bytes --range 0:254
+try '--bytes --grid 4x4 --clip nan' 10 enhance shallow.pgm "$out" --bytes --grid 4x4 --clip nan
+try '--bytes --grid 17x8 --bins 100' 3 enhance shallow.pgm "$out" --bytes --grid 17x8 --bins 100
+{ printf 'P5\n80 80\n255\n'; head -c 6400 /dev/zero; } >small.pgm
+try '--bytes, and bins that cannot hold a tile' 14 enhance small.pgm "$out" --bytes --bins 64 --clip 1.25
+try '--bytes, and a window across the edge' 16 window shallow.pgm "$out" --bytes --at 511,0 --size 2x2
 try 'an empty window' 16 window film.pgm "$out" --at 0,0 --size 0x0
 try 'a window across the edge' 16 window film.pgm "$out" --at 511,0 --size 2x2
 try 'a window of 2^64 pixels' 16 window film.pgm "$out" --at 4294967295,4294967295 --size 4294967295x4294967295
+
+# ---- bytes: inside the profile the film and the footer are those of the same command without --bytes
+alike() { # WHAT COMMAND SETTINGS..
+    what=$1 command=$2
+    shift 2
+    rm -f "$out" plain.pgm
+    "$tz" "$command" shallow.pgm plain.pgm "$@" 2>plain
+    first=$?
+    "$tz" "$command" --bytes shallow.pgm "$out" "$@" 2>said
+    saw=$?
+    if [ "$first,$saw" = 0,0 ] && cmp -s plain.pgm "$out" && cmp -s plain said && no_leftover out; then ok=yes; else ok=no; fi
+    report "$ok" "$what" "status $saw: $(head -n 1 said)"
+}
+alike '--bytes: the same film' enhance
+alike '--bytes --bins 0: the same film' enhance --bins 0
+alike '--bytes --bins 64 --clip 1.5: the same film' enhance --bins 64 --clip 1.5
+alike '--bytes --bins 256 --clip off: the same film' enhance --bins 256 --clip off
+alike '--bytes --clip 1: the same film' enhance --clip 1
+alike '--bytes: the same window' window --at 101,37 --size 211x97
+alike '--bytes --bins 256, the whole film as a window: the same' window --at 0,0 --size 512x384 --bins 256 --clip 2.5
 
 # ---- files
 : >empty.pgm

@@ -1,7 +1,7 @@
 /*
  * tzofnadir: the command line over tzofnadir.h.
  *
- *     tzofnadir enhance IN.pgm OUT.pgm [--grid 8x8] [--bins 128] [--range MIN:MAX] [--clip 3.0|off]
+ *     tzofnadir enhance IN.pgm OUT.pgm [--grid 8x8] [--bins 128] [--range MIN:MAX] [--clip 3.0|off] [--bytes]
  *     tzofnadir window  IN.pgm OUT.pgm --at X,Y --size WxH [the same settings]
  *     tzofnadir listing IN.pgm
  *
@@ -21,7 +21,7 @@
 
 #include "tzofnadir.h"
 
-/* Exit statuses beside the refusals' own numbers, 1 to 27. */
+/* Exit statuses beside the refusals' own numbers, 1 to 30. */
 enum {
     BAD_WORDS = 64,     /* the command line */
     TOO_LONG = 65,      /* IN goes on behind what is read of it */
@@ -40,7 +40,7 @@ enum {
 
 enum command { ENHANCE, WINDOW, LISTING };
 
-enum given { GRID = 1, BINS = 2, RANGE = 4, CLIP = 8, AT = 16, SIZE = 32 };
+enum given { GRID = 1, BINS = 2, RANGE = 4, CLIP = 8, AT = 16, SIZE = 32, BYTES = 64 };
 
 struct job {
     enum command command;
@@ -57,11 +57,14 @@ struct work {
     int cut; /* the input goes on behind MOST_BYTES */
     tz_sizes sizes;
     uint16_t *picture;
+    uint8_t *film; /* with --bytes, the film as bytes: its raster, inside the input */
     size_t pixels;
     uint16_t *map;
+    uint8_t *byte_map;
     uint32_t *scratch;
     uint16_t *drawn; /* the window's pixels */
-    uint8_t *file;   /* the output */
+    uint8_t *byte_drawn;
+    uint8_t *file; /* the output */
     tz_footer footer;
 };
 
@@ -109,8 +112,9 @@ static const char usage[] =
     "          --bins 128         grey bins, 2 to 4096; 0 means 128\n"
     "          --range MIN:MAX    grey range, 0 to the file's maxval unless given\n"
     "          --clip 3.0|off     clip factor, 1.0 to 1024.0\n"
+    "          --bytes            work on bytes: maxval at most 255, grid 8x8, range 0:255, bins 64, 128 or 256\n"
     "'-' stands for standard input or standard output. Films are raw PGM (P5) of up to 4096 by 4096 pixels.\n"
-    "Exit status: 0 done; 1 to 27 a refusal, told on standard error; 64 bad words; 65 the input is too long;\n"
+    "Exit status: 0 done; 1 to 30 a refusal, told on standard error; 64 bad words; 65 the input is too long;\n"
     "66 no input; 71 no memory; 73 the output cannot be created; 74 reading or writing failed.\n";
 
 static int bad_words(const char *why, const char *word)
@@ -176,6 +180,8 @@ static int value(enum given which, const char *word, struct job *job)
         return pair(word, ',', &w->left, &w->top);
     case SIZE:
         return pair(word, 'x', &w->width, &w->height);
+    case BYTES: /* has none */
+        return 1;
     }
     return 0;
 }
@@ -184,7 +190,7 @@ static int value(enum given which, const char *word, struct job *job)
 
 static unsigned option(const char *word)
 {
-    static const char *const names[] = {"--grid", "--bins", "--range", "--clip", "--at", "--size"};
+    static const char *const names[] = {"--grid", "--bins", "--range", "--clip", "--at", "--size", "--bytes"};
     for (unsigned i = 0; i < sizeof names / sizeof names[0]; i++)
         if (strcmp(word, names[i]) == 0)
             return 1u << i;
@@ -194,7 +200,7 @@ static unsigned option(const char *word)
 /* Which options a command takes. */
 static unsigned taken(enum command command)
 {
-    unsigned settings = GRID | BINS | RANGE | CLIP;
+    unsigned settings = GRID | BINS | RANGE | CLIP | BYTES;
     return command == LISTING ? 0 : command == WINDOW ? settings | AT | SIZE : settings;
 }
 
@@ -205,7 +211,7 @@ static int one_option(const char *name, const char *word, struct job *job)
         return bad_words("this command has no such option", name);
     if ((which & job->given) != 0)
         return bad_words("this option is given twice", name);
-    if (word == NULL)
+    if (word == NULL && which != BYTES)
         return bad_words("a value is missing behind", name);
     if (!value((enum given)which, word, job)) {
         fprintf(stderr, "tzofnadir: %s does not take this value\n", name);
@@ -249,7 +255,7 @@ static int words(int argc, char **argv, struct job *job)
         int code = named ? one_name(argv[i], job) : one_option(argv[i], argv[i + 1], job);
         if (code != 0)
             return code;
-        i += !named;
+        i += !named && option(argv[i]) != BYTES;
     }
     if (job->in == NULL || (job->out == NULL && job->command != LISTING))
         return bad_words("a file name is missing", "");
@@ -315,7 +321,7 @@ static int settled(uint32_t refusal)
     return refusal == TZ_COMMENT || refusal == TZ_FILE_SIZE || refusal == TZ_MAXVAL || refusal == TZ_RASTER_LONG;
 }
 
-static int read_film(const char *name, struct work *w)
+static int read_film(const char *name, int bytes, struct work *w)
 {
     tz_part part;
     int code = read_input(name, w);
@@ -324,6 +330,8 @@ static int read_film(const char *name, struct work *w)
     uint32_t refusal = tzofnadir_read_sizes(w->bytes, w->len, &w->sizes);
     if (w->cut && !settled(refusal))
         return too_long(input_name(name));
+    if (refusal == TZ_DONE && bytes && w->sizes.maxval > 255)
+        return bad_words("--bytes takes a film of one byte a sample, of maxval 255 at most, and no other", input_name(name));
     if (refusal == TZ_DONE)
         refusal = tzofnadir_read_raster(w->bytes, w->len, &part);
     if (refusal != TZ_DONE)
@@ -333,8 +341,12 @@ static int read_film(const char *name, struct work *w)
     if (w->picture == NULL)
         return no_memory();
     refusal = tzofnadir_read_greys(w->bytes, w->len, part.start, &w->sizes, w->picture, w->pixels);
-    free(w->bytes);
-    w->bytes = NULL;
+    if (bytes) {
+        w->film = w->bytes + part.start;
+    } else {
+        free(w->bytes);
+        w->bytes = NULL;
+    }
     return refusal == TZ_DONE ? 0 : refuse(refusal);
 }
 
@@ -521,7 +533,7 @@ static int write_film(const char *name, const uint16_t *picture, const tz_sizes 
         return no_memory();
     uint32_t refusal = tzofnadir_write(picture, pixels, sizes, w->file, room, &count);
     if (refusal == TZ_SAMPLE) /* the film's own samples were in order, or it would not have been read */
-        return refuse_saying(refusal, "The rendering has greys above the file's maxval: the top of --range is above it.");
+        return refuse_saying(refusal, "The rendering has greys above the file's maxval: the top of the range is above it.");
     if (refusal != TZ_DONE)
         return refuse(refusal);
     int code = put_output(name, w->file, count);
@@ -535,17 +547,44 @@ static int write_film(const char *name, const uint16_t *picture, const tz_sizes 
 /* Reads the film, settles the range and lends map and scratch. */
 static int begin(struct job *job, struct work *w)
 {
-    int code = read_film(job->in, w);
+    int bytes = (job->given & BYTES) != 0;
+    int code = read_film(job->in, bytes, w);
     if (code != 0)
         return code;
     if ((job->given & RANGE) == 0) {
         job->settings.min = 0;
-        job->settings.max = w->sizes.maxval;
+        job->settings.max = bytes ? 255 : w->sizes.maxval;
     }
     /* one entry more, so that there is memory to point at whatever the settings say */
-    w->map = calloc(tz_map_entries(&job->settings) + 1, sizeof *w->map);
+    size_t entries = tz_map_entries(&job->settings) + 1;
+    if (bytes)
+        w->byte_map = calloc(entries, sizeof *w->byte_map);
+    else
+        w->map = calloc(entries, sizeof *w->map);
     w->scratch = calloc(tz_scratch_entries(&job->settings) + 1, sizeof *w->scratch);
-    return w->map == NULL || w->scratch == NULL ? no_memory() : 0;
+    return (w->map == NULL && w->byte_map == NULL) || w->scratch == NULL ? no_memory() : 0;
+}
+
+/* The writer takes greys of 16 bits. */
+static void widen(const uint8_t *from, size_t count, uint16_t *to)
+{
+    for (size_t i = 0; i < count; i++)
+        to[i] = from[i];
+}
+
+static uint32_t enhance_bytes(const tz_settings *s, struct work *w)
+{
+    uint32_t refusal = tzofnadir_enhance_bytes(w->sizes.width, w->sizes.height, w->film, w->pixels, s, w->byte_map,
+                                               tz_map_entries(s), w->scratch, tz_scratch_entries(s), &w->footer);
+    if (refusal == TZ_DONE)
+        widen(w->film, w->pixels, w->picture);
+    return refusal;
+}
+
+static uint32_t enhance_greys(const tz_settings *s, struct work *w)
+{
+    return tzofnadir_enhance(w->sizes.width, w->sizes.height, w->picture, w->pixels, s, w->map, tz_map_entries(s),
+                             w->scratch, tz_scratch_entries(s), &w->footer);
 }
 
 static int enhance(struct job *job, struct work *w)
@@ -553,10 +592,33 @@ static int enhance(struct job *job, struct work *w)
     int code = begin(job, w);
     if (code != 0)
         return code;
-    const tz_settings *s = &job->settings;
-    uint32_t refusal = tzofnadir_enhance(w->sizes.width, w->sizes.height, w->picture, w->pixels, s, w->map,
-                                         tz_map_entries(s), w->scratch, tz_scratch_entries(s), &w->footer);
+    uint32_t refusal = w->film != NULL ? enhance_bytes(&job->settings, w) : enhance_greys(&job->settings, w);
     return refusal == TZ_DONE ? write_film(job->out, w->picture, &w->sizes, w) : refuse(refusal);
+}
+
+static uint32_t draw_bytes(const tz_settings *s, const tz_window *window, size_t area, struct work *w)
+{
+    tz_record record;
+    uint32_t refusal = tzofnadir_prepare_bytes(FILM, w->sizes.width, w->sizes.height, w->film, w->pixels, s,
+                                               w->byte_map, tz_map_entries(s), w->scratch, tz_scratch_entries(s),
+                                               &record, &w->footer);
+    if (refusal == TZ_DONE)
+        refusal = tzofnadir_draw_bytes(FILM, w->sizes.width, w->sizes.height, w->film, w->pixels, s, &record, window,
+                                       w->byte_map, tz_map_entries(s), w->byte_drawn, area);
+    if (refusal == TZ_DONE)
+        widen(w->byte_drawn, area, w->drawn);
+    return refusal;
+}
+
+static uint32_t draw_greys(const tz_settings *s, const tz_window *window, size_t area, struct work *w)
+{
+    tz_record record;
+    uint32_t refusal = tzofnadir_prepare(FILM, w->sizes.width, w->sizes.height, w->picture, w->pixels, s, w->map,
+                                         tz_map_entries(s), w->scratch, tz_scratch_entries(s), &record, &w->footer);
+    if (refusal == TZ_DONE)
+        refusal = tzofnadir_draw(FILM, w->sizes.width, w->sizes.height, w->picture, w->pixels, s, &record, window,
+                                 w->map, tz_map_entries(s), w->drawn, area);
+    return refusal;
 }
 
 static int window(struct job *job, struct work *w)
@@ -569,15 +631,12 @@ static int window(struct job *job, struct work *w)
     uint64_t wanted = (uint64_t)job->window.width * job->window.height;
     size_t area = wanted <= w->pixels ? (size_t)wanted : w->pixels;
     tz_sizes sizes = {job->window.width, job->window.height, w->sizes.maxval};
-    tz_record record;
     w->drawn = calloc(area + 1, sizeof *w->drawn);
-    if (w->drawn == NULL)
+    if (w->film != NULL)
+        w->byte_drawn = calloc(area + 1, sizeof *w->byte_drawn);
+    if (w->drawn == NULL || (w->film != NULL && w->byte_drawn == NULL))
         return no_memory();
-    uint32_t refusal = tzofnadir_prepare(FILM, w->sizes.width, w->sizes.height, w->picture, w->pixels, s, w->map,
-                                         tz_map_entries(s), w->scratch, tz_scratch_entries(s), &record, &w->footer);
-    if (refusal == TZ_DONE)
-        refusal = tzofnadir_draw(FILM, w->sizes.width, w->sizes.height, w->picture, w->pixels, s, &record,
-                                 &job->window, w->map, tz_map_entries(s), w->drawn, area);
+    uint32_t refusal = w->film != NULL ? draw_bytes(s, &job->window, area, w) : draw_greys(s, &job->window, area, w);
     return refusal == TZ_DONE ? write_film(job->out, w->drawn, &sizes, w) : refuse(refusal);
 }
 
@@ -625,8 +684,10 @@ static void let_go(struct work *w)
     free(w->bytes);
     free(w->picture);
     free(w->map);
+    free(w->byte_map);
     free(w->scratch);
     free(w->drawn);
+    free(w->byte_drawn);
     free(w->file);
 }
 

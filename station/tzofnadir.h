@@ -13,7 +13,8 @@
  *   - a length is in elements, and that many are there;
  *   - a buffer that a call writes overlaps no other buffer of the same call.
  *
- * A picture is `width` times `height` greys, row by row from the top, each 0 to 4095 in 16 bits.
+ * A picture is `width` times `height` greys, row by row from the top, each 0 to 4095 in 16 bits. The calls named .._bytes
+ * take a film of bytes: picture, mappings and output are bytes, each 0 to 255, by the same rules.
  */
 #ifndef TZOFNADIR_H
 #define TZOFNADIR_H
@@ -65,7 +66,8 @@ enum tz_refusal {
     TZ_RASTER_SHORT = 24,    /* raster too short */
     TZ_RASTER_LONG = 25,     /* bytes behind the raster */
     TZ_SAMPLE = 26,          /* a sample above maxval */
-    TZ_TARGET_SHORT = 27     /* the caller's target too short */
+    TZ_TARGET_SHORT = 27,    /* the caller's target too short */
+    TZ_PROFILE = 30          /* a film of bytes: grid not 8 by 8, range not 0 to 255, or bins not 64, 128 or 256 */
 };
 
 /* One plain sentence for a refusal's number, to show to a person. */
@@ -100,6 +102,9 @@ static inline const char *tz_refusal_text(uint32_t refusal)
         "The file has bytes behind its last pixel.",
         "A sample is above the file's maxval.",
         "The buffer for the result is too short.",
+        "There is no refusal of this number.",
+        "There is no refusal of this number.",
+        "The settings are outside the byte profile: grid 8 by 8, range 0 to 255, bins 64, 128 or 256.",
     };
     return refusal < sizeof text / sizeof text[0] ? text[refusal] : text[19];
 }
@@ -170,6 +175,27 @@ uint32_t tz_draw(uint32_t film, uint32_t width, uint32_t height,
                  uint32_t left, uint32_t top, uint32_t window_width, uint32_t window_height,
                  const uint16_t *map, size_t map_len, uint16_t *out, size_t out_len);
 
+uint32_t tz_prepare_bytes(uint32_t film, uint32_t width, uint32_t height,
+                          const uint8_t *picture, size_t picture_len,
+                          uint32_t across, uint32_t down, uint32_t bins, uint32_t min, uint32_t max,
+                          uint32_t clip, float factor,
+                          uint8_t *map, size_t map_len, uint32_t *scratch, size_t scratch_len,
+                          uint32_t *record, float *record_factor, uint32_t *limit, float *asked, double *used);
+
+uint32_t tz_enhance_bytes(uint32_t width, uint32_t height, uint8_t *picture, size_t picture_len,
+                          uint32_t across, uint32_t down, uint32_t bins, uint32_t min, uint32_t max,
+                          uint32_t clip, float factor,
+                          uint8_t *map, size_t map_len, uint32_t *scratch, size_t scratch_len,
+                          uint32_t *limit, float *asked, double *used);
+
+uint32_t tz_draw_bytes(uint32_t film, uint32_t width, uint32_t height,
+                       const uint8_t *picture, size_t picture_len,
+                       uint32_t across, uint32_t down, uint32_t bins, uint32_t min, uint32_t max,
+                       uint32_t clip, float factor,
+                       const uint32_t *record, float record_factor,
+                       uint32_t left, uint32_t top, uint32_t window_width, uint32_t window_height,
+                       const uint8_t *map, size_t map_len, uint8_t *out, size_t out_len);
+
 uint32_t tz_read_sizes(const uint8_t *bytes, size_t len, uint32_t *sizes);
 
 uint32_t tz_read_raster(const uint8_t *bytes, size_t len, size_t *part);
@@ -214,6 +240,31 @@ static inline size_t tz_write_bytes(uint32_t width, uint32_t height)
 
 /* ---- the calls, with structs ---- */
 
+/* A record's nine numbers, in the order in which the flat functions have them. */
+static inline void tz_record_numbers(const tz_record *record, uint32_t numbers[9])
+{
+    const tz_settings *s = &record->settings;
+    const uint32_t n[9] = {record->film, record->width, record->height, s->across, s->down,
+                           s->bins, s->min, s->max, s->clip};
+    for (int i = 0; i < 9; i++)
+        numbers[i] = n[i];
+}
+
+/* A record of its nine numbers and its factor. */
+static inline tz_record tz_record_of(const uint32_t n[9], float factor)
+{
+    tz_settings kept = {n[3], n[4], n[5], n[6], n[7], n[8], factor};
+    tz_record record = {n[0], n[1], n[2], kept};
+    return record;
+}
+
+/* A footer of its three numbers. */
+static inline tz_footer tz_footer_of(uint32_t limit, float asked, double used)
+{
+    tz_footer footer = {limit, asked, used};
+    return footer;
+}
+
 /*
  * Prepare: makes the tile mappings of a film.
  *
@@ -237,14 +288,8 @@ static inline uint32_t tzofnadir_prepare(uint32_t film, uint32_t width, uint32_t
                                   s->max, s->clip, s->factor, map, map_len, scratch, scratch_len, r, &factor,
                                   &limit, &asked, &used);
     if (refusal == TZ_DONE) {
-        tz_settings kept = {r[3], r[4], r[5], r[6], r[7], r[8], factor};
-        record->film = r[0];
-        record->width = r[1];
-        record->height = r[2];
-        record->settings = kept;
-        footer->limit = limit;
-        footer->asked = asked;
-        footer->used = used;
+        *record = tz_record_of(r, factor);
+        *footer = tz_footer_of(limit, asked, used);
     }
     return refusal;
 }
@@ -264,11 +309,8 @@ static inline uint32_t tzofnadir_enhance(uint32_t width, uint32_t height, uint16
     double used = 0;
     uint32_t refusal = tz_enhance(width, height, picture, picture_len, s->across, s->down, s->bins, s->min, s->max,
                                   s->clip, s->factor, map, map_len, scratch, scratch_len, &limit, &asked, &used);
-    if (refusal == TZ_DONE) {
-        footer->limit = limit;
-        footer->asked = asked;
-        footer->used = used;
-    }
+    if (refusal == TZ_DONE)
+        *footer = tz_footer_of(limit, asked, used);
     return refusal;
 }
 
@@ -289,12 +331,70 @@ static inline uint32_t tzofnadir_draw(uint32_t film, uint32_t width, uint32_t he
                                       const tz_record *record, const tz_window *window,
                                       const uint16_t *map, size_t map_len, uint16_t *out, size_t out_len)
 {
-    const tz_settings *k = &record->settings;
-    const uint32_t r[9] = {record->film, record->width, record->height, k->across, k->down,
-                           k->bins, k->min, k->max, k->clip};
+    uint32_t r[9];
+    tz_record_numbers(record, r);
     return tz_draw(film, width, height, picture, picture_len, s->across, s->down, s->bins, s->min, s->max, s->clip,
-                   s->factor, r, k->factor, window->left, window->top, window->width, window->height,
+                   s->factor, r, record->settings.factor, window->left, window->top, window->width, window->height,
                    map, map_len, out, out_len);
+}
+
+/*
+ * Prepare, enhance and draw on a film of bytes: picture, map and output are bytes, and all else is as in the call of
+ * the same name above. Inside the profile (grid 8 by 8, range 0 to 255, bins 64, 128 or 256, and 0 read as 128) each
+ * leaves the very numbers that the wide call leaves. So a record made by either prepare serves either draw, with the
+ * mappings in bytes here and in 16 bits there. A call takes up to 80 KiB of stack: rows and mappings are widened there.
+ *
+ * Sizes as for the wide calls; an entry of the map buffer is a byte.
+ * Refusals, the first that applies: 1 to 10 upward, 30, then 11, 12, 14. A byte lies in 0 to 255, so 13 is never given.
+ */
+static inline uint32_t tzofnadir_prepare_bytes(uint32_t film, uint32_t width, uint32_t height,
+                                               const uint8_t *picture, size_t picture_len, const tz_settings *s,
+                                               uint8_t *map, size_t map_len, uint32_t *scratch, size_t scratch_len,
+                                               tz_record *record, tz_footer *footer)
+{
+    uint32_t r[9] = {0}, limit = 0;
+    float factor = 0, asked = 0;
+    double used = 0;
+    uint32_t refusal = tz_prepare_bytes(film, width, height, picture, picture_len, s->across, s->down, s->bins,
+                                        s->min, s->max, s->clip, s->factor, map, map_len, scratch, scratch_len, r,
+                                        &factor, &limit, &asked, &used);
+    if (refusal == TZ_DONE) {
+        *record = tz_record_of(r, factor);
+        *footer = tz_footer_of(limit, asked, used);
+    }
+    return refusal;
+}
+
+/* Enhance on bytes, in place. Refusals as for prepare on bytes. */
+static inline uint32_t tzofnadir_enhance_bytes(uint32_t width, uint32_t height, uint8_t *picture, size_t picture_len,
+                                               const tz_settings *s, uint8_t *map, size_t map_len,
+                                               uint32_t *scratch, size_t scratch_len, tz_footer *footer)
+{
+    uint32_t limit = 0;
+    float asked = 0;
+    double used = 0;
+    uint32_t refusal = tz_enhance_bytes(width, height, picture, picture_len, s->across, s->down, s->bins, s->min,
+                                        s->max, s->clip, s->factor, map, map_len, scratch, scratch_len, &limit,
+                                        &asked, &used);
+    if (refusal == TZ_DONE)
+        *footer = tz_footer_of(limit, asked, used);
+    return refusal;
+}
+
+/*
+ * Draw on bytes. Refusals, the first that applies: 1 to 10 upward, 30, then 11, 15, 16, 17. Neither 13 nor 18 is ever
+ * given: a byte lies in 0 to 255.
+ */
+static inline uint32_t tzofnadir_draw_bytes(uint32_t film, uint32_t width, uint32_t height,
+                                            const uint8_t *picture, size_t picture_len, const tz_settings *s,
+                                            const tz_record *record, const tz_window *window,
+                                            const uint8_t *map, size_t map_len, uint8_t *out, size_t out_len)
+{
+    uint32_t r[9];
+    tz_record_numbers(record, r);
+    return tz_draw_bytes(film, width, height, picture, picture_len, s->across, s->down, s->bins, s->min, s->max,
+                         s->clip, s->factor, r, record->settings.factor, window->left, window->top, window->width,
+                         window->height, map, map_len, out, out_len);
 }
 
 /*

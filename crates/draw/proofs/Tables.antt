@@ -200,3 +200,9 @@ module _ (film w h : ℕ) (pic : List ℕ) (s : Settings) (r : MapRecord) (win :
       behind (sharedRows w h (length pic) s (length m)) _ (shared-numbered w h (length pic) s (length m)) e z
       (behind (recordRows film w h s r) _ (record-numbered film w h s r) f y
       (behind (windowRows w h win room) _ (window-numbered w h win room) g t q))
+
+-- the parts of draw's table
+pub draw-rows : (film w h : ℕ) (pic : List ℕ) (s : Settings) (r : MapRecord) (win : Window) (m : List ℕ) (room : ℕ)
+    → drawRows film w h pic s r win m room ≡ sharedRows w h (length pic) s (length m) ++ (recordRows film w h s r ++ (windowRows w h win room ++ pixelRows w pic s win m))
+unfolding drawRows
+draw-rows film w h pic s r win m room = refl

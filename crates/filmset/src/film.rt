@@ -17,7 +17,7 @@ use draw::Drawn;
 use settings::Window;
 
 // What an output of draw counts up from.
-const OUTPUT_BASE: u64 = 50000;
+pub const OUTPUT_BASE: u64 = 50000;
 
 // The letter of a film's row.
 pub const FILM: u64 = 70;
@@ -26,7 +26,7 @@ pub const FILM: u64 = 70;
 const NO_FIELD: u64 = 10;
 
 // The place of no entry.
-const NOWHERE: u64 = 18446744073709551615;
+pub const NOWHERE: u64 = 18446744073709551615;
 
 // What prepare or enhance left: the answer with the record for draw, the picture's digest, and the map.
 pub struct Made {
@@ -42,19 +42,19 @@ pub struct Shot {
 }
 
 // Whether a row is a film's: it is drawn whole, with nothing changed before.
-fn is_film(drawn: Row) -> bool {
+pub fn is_film(drawn: Row) -> bool {
     at(drawn, column::LETTER) == FILM
 }
 
 // The number in a column that draws alone have, or what stands for it where a film is drawn whole.
-fn own(drawn: Row, place: usize, whole: u64) -> u64 {
+pub fn own(drawn: Row, place: usize, whole: u64) -> u64 {
     if is_film(drawn) {
         return whole;
     }
     at(drawn, place)
 }
 
-fn window(drawn: Row) -> Window {
+pub fn window(drawn: Row) -> Window {
     Window {
         left: low(own(drawn, column::LEFT, 0)),
         top: low(own(drawn, column::TOP, 0)),
@@ -197,7 +197,7 @@ fn called_lines(letter: u8, no: u64, picture: &[u16], map: &[u16], scratch: &[u3
 }
 
 // Makes map and scratch and calls, and prints what comes of it under the letter.
-fn called(by_c: bool, letter: u8, row: Row, picture: &mut [u16]) -> Made {
+pub fn called(by_c: bool, letter: u8, row: Row, picture: &mut [u16]) -> Made {
     let mut map = [0; 65536];
     let mut scratch = made::scratch();
     let m = front(&mut map, at(row, column::MAP_ROOM));
@@ -235,7 +235,7 @@ fn draw_c(drawn: Row, t: Ten, kept: Ten, picture: &[u16], map: &[u16], out: &mut
     )
 }
 
-fn drawn_number(d: Drawn) -> u32 {
+pub fn drawn_number(d: Drawn) -> u32 {
     match d {
         Drawn::Done => 0,
         Drawn::Refused(n) => n,
@@ -280,7 +280,7 @@ fn place(field: u64) -> usize {
 }
 
 // The record that is handed to draw: the one that prepare left, or the made one with a field changed.
-fn handed(row: Row, drawn: Row, kept: Ten) -> Ten {
+pub fn handed(row: Row, drawn: Row, kept: Ten) -> Ten {
     let field = own(drawn, column::FIELD, NO_FIELD);
     if NO_FIELD <= field {
         return kept;
@@ -343,7 +343,7 @@ fn drawn_of(
 }
 
 // What came of two calls, the second of which rendered.
-fn joined(number: u32, shot: Shot) -> Shot {
+pub fn joined(number: u32, shot: Shot) -> Shot {
     if number == 0 {
         return shot;
     }

@@ -1,14 +1,14 @@
 // The film set: its rows come from standard input, go through every call of prepare, draw and pgm, and what comes out is
 // printed. The programs `films` and `calls` are this, once over the calls themselves and once over those for C.
-mod column;
-mod digest;
+pub mod column;
+pub mod digest;
 mod file;
-mod film;
-mod kept;
-mod made;
-mod row;
-mod text;
-mod whole;
+pub mod film;
+pub mod kept;
+pub mod made;
+pub mod row;
+pub mod text;
+pub mod whole;
 
 use libc::STDIN_FILENO;
 

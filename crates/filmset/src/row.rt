@@ -11,7 +11,7 @@ use crate::whole::times;
 use crate::whole::with;
 
 // The letters of the rows besides a film's.
-const DRAW: u64 = 68;
+pub const DRAW: u64 = 68;
 
 const FILE: u64 = 82;
 
@@ -29,7 +29,7 @@ pub struct Line {
 }
 
 // Before a line.
-fn fresh() -> Line {
+pub fn fresh() -> Line {
     Line {
         numbers: [0; 36],
         count: 0,
@@ -60,7 +60,7 @@ fn longer(line: Line, b: u8) -> Line {
 }
 
 // The line with one byte more. Nothing is read behind its last number.
-fn fed(line: Line, b: u8) -> Line {
+pub fn fed(line: Line, b: u8) -> Line {
     let numbers = line.numbers;
     let count = line.count;
     if 35 < count {
@@ -140,7 +140,7 @@ fn looked(line: Line, no: u64, b: u8) -> Line {
 }
 
 // The row of film `no`; zeros where there is none.
-fn found(text: &[u8], no: u64) -> Row {
+pub fn found(text: &[u8], no: u64) -> Row {
     let mut line = fresh();
     let mut i = 0;
     while i < text.len() {

@@ -27,3 +27,15 @@ pub fn copy(src: &[u16], dst: &mut [u16])
         i += 1;
     }
 }
+
+// The same for bytes.
+pub fn copy8(src: &[u8], dst: &mut [u8])
+    requires { ⌜ length (now src) ≤ length (now dst) ⌝ }
+    ensures { λ _. ⌜ now (dst .exit) ≡ onto (now (dst .entry)) (now (src .entry)) ⌝ }
+{
+    let mut k = 0;
+    while k < src.len() {
+        dst[k] = src[k];
+        k += 1;
+    }
+}

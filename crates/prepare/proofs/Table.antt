@@ -74,6 +74,11 @@ module _ (w h : ℕ) (pic : List ℕ) (s : Settings) (room scratch : ℕ) where
   unfolding prepareRows
   table-numbers = numbers-append (sharedRows w h (length pic) s room) (workRows w h pic s scratch) ∙ ap (λ ns. numbersOf (sharedRows w h (length pic) s room) ++ ns) (work-numbers w h pic s scratch)
 
+  -- its parts
+  pub table-parts : prepareRows w h pic s room scratch ≡ sharedRows w h (length pic) s room ++ workRows w h pic s scratch
+  unfolding prepareRows
+  table-parts = refl
+
   -- one of the rows 1 to 11 applies
   pub table-shared : {r : ℕ} → r ≡ first (sharedRows w h (length pic) s room) → (r ≡ 0 → ⊥) → r ≡ first (prepareRows w h pic s room scratch)
   unfolding prepareRows

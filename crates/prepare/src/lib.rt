@@ -26,7 +26,7 @@ pub enum Enhanced {
 }
 
 // Whether the bins, none above the limit, cannot hold the tile's pixels, where the factor is above 1.0.
-fn too_tight(clip: Clip, pixels: u32, bins: u32) -> bool
+pub fn too_tight(clip: Clip, pixels: u32, bins: u32) -> bool
     requires { ⌜ TightAsks clip pixels bins ⌝ }
     ensures { λ r. ⌜ r ≡ tooTight clip pixels bins ⌝ }
 {

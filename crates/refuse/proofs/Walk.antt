@@ -105,6 +105,14 @@ front s t {r} e h = e ∙ sym (first-front s t (λ z. h (e ∙ z)))
 pub behind : (s t : List Row) {r x : ℕ} → Numbered s → r ≡ first s → r ≡ 0 → x ≡ first t → x ≡ first (s ++ t)
 behind s t {r} {x} k e z q = q ∙ sym (first-behind s t (first-none s k (sym e ∙ z)))
 
+-- two tables that give the same number give the same in front of a third
+pub first-same : (s t rest : List Row) → Numbered s → Numbered t → first s ≡ first t → first (s ++ rest) ≡ first (t ++ rest)
+first-same s t rest k l e = go (first s) refl
+  where
+    go : (n : ℕ) → first s ≡ n → first (s ++ rest) ≡ first (t ++ rest)
+    go zero z = first-behind s rest (first-none s k z) ∙ sym (first-behind t rest (first-none t l (sym e ∙ z)))
+    go (suc n) z = first-front s rest (λ q. omega (arith, z, q)) ∙ (e ∙ sym (first-front t rest (λ q. omega (arith, z, e, q))))
+
 -- ---- what a number leaves
 
 -- a number other than 0 is a refusal

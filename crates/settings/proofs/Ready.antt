@@ -148,6 +148,11 @@ setting-tiled w h size s e =
     let d = first-both (rangeRows s) _ (range-numbered s) (b .1) in
     (tiled w h s (c .0) (b .0) (d .0), whole-length w h size (c .1), clip-fair s (d .1))
 
+-- the rows 1 to 11 are 1 to 10 and 11
+pub shared-parts : (w h size : ℕ) (s : Settings) (room : ℕ) → sharedRows w h size s room ≡ settingRows w h size s ++ roomRows s room
+unfolding sharedRows
+shared-parts w h size s room = refl
+
 -- none of the rows 1 to 11 applies: none of 1 to 10, and not 11
 pub shared-both : (w h size : ℕ) (s : Settings) (room : ℕ) → first (sharedRows w h size s room) ≡ 0 → (first (settingRows w h size s) ≡ 0) × (first (roomRows s room) ≡ 0)
 unfolding sharedRows

@@ -1,0 +1,115 @@
+// The calls on films of bytes for C: numbers and slices in, 0 or the refusal's number out.
+ghost use mathlib.Core.Path.{_≡_};
+ghost use Rattle.byte_film.specs.Bytes.{bytePrepareOf, byteEnhanceOf};
+ghost use Rattle.byte_draw.specs.Bytes.{byteDrawOf};
+ghost use Rattle.flat.specs.Flat.{settingsFrom, recordFrom, windowFrom};
+ghost use Rattle.flat.specs.Films.{footed, preparedAs, flatPrepared, enhancedAs, flatEnhanced, drawnAs, flatDrawn};
+use draw::Drawn;
+use prepare::Enhanced;
+use prepare::Prepared;
+use settings::Window;
+
+#[no_mangle]
+pub extern "C" fn tz_prepare_bytes(
+    film: u32,
+    width: u32,
+    height: u32,
+    picture: &[u8],
+    across: u32,
+    down: u32,
+    bins: u32,
+    min: u32,
+    max: u32,
+    clip: u32,
+    factor: f32,
+    map: &mut [u8],
+    scratch: &mut [u32],
+    numbers: &mut [u32; 9],
+    kept: &mut f32,
+    limit: &mut u32,
+    asked: &mut f32,
+    used: &mut f64,
+) -> u32
+    ensures { λ r. ⌜ preparedAs r (now (map .exit)) (now (scratch .exit)) (now (numbers .exit)) (now (kept .exit)) (footed (now (limit .exit)) (now (asked .exit)) (now (used .exit))) ≡ flatPrepared (bytePrepareOf film width height (now (picture .entry)) (settingsFrom across down bins min max clip factor) (now (map .entry)) (now (scratch .entry))) (now (numbers .entry)) (now (kept .entry)) (footed (now (limit .entry)) (now (asked .entry)) (now (used .entry))) ⌝ }
+{
+    let s = flat::settings_from(across, down, bins, min, max, clip, factor);
+    let answer = byte_film::prepare_bytes(film, width, height, picture, s, map, scratch);
+    match answer {
+        Prepared::Done(record, foot) => {
+            flat::put_record(numbers, kept, record);
+            flat::put_footer(limit, asked, used, foot);
+            0
+        }
+        Prepared::Refused(n) => n,
+    }
+}
+
+#[no_mangle]
+pub extern "C" fn tz_enhance_bytes(
+    width: u32,
+    height: u32,
+    picture: &mut [u8],
+    across: u32,
+    down: u32,
+    bins: u32,
+    min: u32,
+    max: u32,
+    clip: u32,
+    factor: f32,
+    map: &mut [u8],
+    scratch: &mut [u32],
+    limit: &mut u32,
+    asked: &mut f32,
+    used: &mut f64,
+) -> u32
+    ensures { λ r. ⌜ enhancedAs r (now (picture .exit)) (now (map .exit)) (now (scratch .exit)) (footed (now (limit .exit)) (now (asked .exit)) (now (used .exit))) ≡ flatEnhanced (byteEnhanceOf width height (now (picture .entry)) (settingsFrom across down bins min max clip factor) (now (map .entry)) (now (scratch .entry))) (footed (now (limit .entry)) (now (asked .entry)) (now (used .entry))) ⌝ }
+{
+    let s = flat::settings_from(across, down, bins, min, max, clip, factor);
+    let answer = byte_film::enhance_bytes(width, height, picture, s, map, scratch);
+    match answer {
+        Enhanced::Done(footer) => {
+            flat::put_footer(limit, asked, used, footer);
+            0
+        }
+        Enhanced::Refused(n) => n,
+    }
+}
+
+#[no_mangle]
+pub extern "C" fn tz_draw_bytes(
+    film: u32,
+    width: u32,
+    height: u32,
+    picture: &[u8],
+    across: u32,
+    down: u32,
+    bins: u32,
+    min: u32,
+    max: u32,
+    clip: u32,
+    factor: f32,
+    numbers: &[u32; 9],
+    kept: f32,
+    left: u32,
+    top: u32,
+    window_width: u32,
+    window_height: u32,
+    map: &[u8],
+    out: &mut [u8],
+) -> u32
+    ensures { λ r. ⌜ drawnAs r (now (out .exit)) ≡ flatDrawn (byteDrawOf film width height (now (picture .entry)) (settingsFrom across down bins min max clip factor) (recordFrom (now (numbers .entry)) kept) (windowFrom left top «window_width» «window_height») (now (map .entry)) (now (out .entry))) ⌝ }
+{
+    let s = flat::settings_from(across, down, bins, min, max, clip, factor);
+    let record = flat::record_from(numbers, kept);
+    let window = Window {
+        left,
+        top,
+        width: window_width,
+        height: window_height,
+    };
+    let answer = byte_draw::draw_bytes(film, width, height, picture, s, record, window, map, out);
+    match answer {
+        Drawn::Done => 0,
+        Drawn::Refused(n) => n,
+    }
+}

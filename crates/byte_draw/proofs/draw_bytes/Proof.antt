@@ -1,0 +1,26 @@
+-- `byte_draw::draw_bytes` answers and leaves what the byte draw's table and the drawn pixels say.
+-- Assumes nothing.
+use mathlib.Core.Path.{sym, _∙_}
+use Rattle.byte_draw.proofs.Tables.{byte-window-ready}
+use Rattle.byte_draw.proofs.Works.{ends-refused, ends-well}
+use borrow.Author.Needs.{needs}
+use Rattle.byte_draw.proofs.draw_bytes.Statement.{statement}
+use Rattle.byte_draw.proofs.draw_bytes.Tie as tie
+
+refusal-requires : tie.Need-refusal-requires
+refusal-requires c κs = search needs
+
+returns : tie.Need-returns
+returns c = ends-refused _ _ _ _ _ _ _ _ _ (c .before .refusal .ensures) (c .if1 .taken)
+
+work-requires : tie.Need-work-requires
+work-requires c κs = byte-window-ready _ _ _ _ _ _ _ _ _ (sym (c .before .before .refusal .ensures) ∙ c .before .if1 .left)
+
+same-length : tie.Need-same-length
+same-length c = search needs
+
+returns-2 : tie.Need-returns-2
+returns-2 c = ends-well _ _ _ _ _ _ _ _ _ (c .before .before .before .before .before .refusal .ensures) (c .before .before .before .before .if1 .left) (c .before .before .work .ensures)
+
+pub draw-bytes-spec : {M : Type 1} → statement M
+draw-bytes-spec = tie.close (tie.spec refusal-requires returns work-requires same-length returns-2)

@@ -1,0 +1,29 @@
+-- Order 1, byte films: what draw on bytes answers and leaves. A byte is its number, so this is the wide call's own outcome behind the byte calls' table.
+-- film, w, h, pic and s come with the call, r is the map record, win the window, m the map buffer and out the output as lent.
+-- Assumes nothing.
+use Prim.Native.Nat.{ℕ}
+use mathlib.Core.List.{List, _++_}
+use mathlib.Core.Path.{_≡_}
+use lib.ListN.{length}
+use Rattle.refuse.specs.Refuse.{Row, first, unless}
+use Rattle.settings.specs.declared.Settings.{Settings}
+use Rattle.settings.specs.declared.MapRecord.{MapRecord}
+use Rattle.settings.specs.declared.Window.{Window}
+use Rattle.draw.specs.declared.Drawn.the-variants.{Done, Refused}
+use Rattle.draw.specs.Draw.{recordRows, windowRows, pixelRows, drawnPixels, Shows, showing, WindowReady}
+use Rattle.profile.specs.Profile.{byteRows, Profile}
+
+-- "1 to 10 as they stand, then 30 .., then 11 and on as in the wide call"
+unfoldable pub byteDrawRows : ℕ → ℕ → ℕ → List ℕ → Settings → MapRecord → Window → List ℕ → ℕ → List Row
+byteDrawRows film w h pic s r win m room =
+    byteRows w h (length pic) s (length m) ++ (recordRows film w h s r ++ (windowRows w h win room ++ pixelRows w pic s win m))
+
+-- draw on bytes: a refusal leaves the output as it was; else what draw does
+unfoldable pub byteDrawOf : ℕ → ℕ → ℕ → List ℕ → Settings → MapRecord → Window → List ℕ → List ℕ → Shows
+byteDrawOf film w h pic s r win m out =
+    unless (first (byteDrawRows film w h pic s r win m (length out))) (λ n. showing (Refused n) out) (showing Done (drawnPixels w h pic s win m))
+
+-- what the work of draw asks: what the wide call's work asks, and settings inside the profile
+pub record ByteWindowReady (w h : ℕ) (pic : List ℕ) (s : Settings) (win : Window) (m : List ℕ) (room : ℕ) : Type 0 where
+  pub shown : WindowReady w h pic s win m room
+  pub profile : Profile s

@@ -1,0 +1,78 @@
+// The call draw on bytes: a window of a film of bytes, by the wide call's own rules.
+ghost use mathlib.Core.Path.{_≡_};
+ghost use lib.ListN.{length};
+ghost use Rattle.refuse.specs.Refuse.{first};
+ghost use Rattle.draw.specs.Draw.{drawnPixels, showing};
+ghost use Rattle.byte_draw.specs.Bytes.{byteDrawRows, byteDrawOf, ByteWindowReady};
+use draw::Drawn;
+use settings::MapRecord;
+use settings::Settings;
+use settings::Window;
+
+// The first refusal that applies, else 0; `room` is the output's length. A byte lies in 0 to 255, so 13 and 18 are never given and not looked for.
+fn refusal(
+    film: u32,
+    width: u32,
+    height: u32,
+    picture: &[u8],
+    s: Settings,
+    record: MapRecord,
+    win: Window,
+    map: &[u8],
+    room: usize,
+) -> u32
+    ensures { λ r. ⌜ r ≡ first (byteDrawRows film width height (now (picture .entry)) s «record» win (now (map .entry)) room) ⌝ }
+{
+    let shared = profile::shared(width, height, picture.len(), s, map.len());
+    if shared != 0 {
+        return shared;
+    }
+    let other = draw::record_refusal(film, width, height, s, record);
+    if other != 0 {
+        return other;
+    }
+    draw::window_refusal(width, height, win, room)
+}
+
+// The window's bytes in the output: as they are at factor 1.0, else rendered.
+fn work(
+    width: u32,
+    height: u32,
+    picture: &[u8],
+    s: Settings,
+    win: Window,
+    map: &[u8],
+    out: &mut [u8],
+)
+    requires { ⌜ ByteWindowReady width height (now picture) s win (now map) (length (now out)) ⌝ }
+    ensures { λ _. ⌜ now (out .exit) ≡ drawnPixels width height (now (picture .entry)) s win (now (map .entry)) ⌝ }
+{
+    byte_render::copy_window(picture, width as usize, win, out);
+    let clip = s.clip;
+    if settings::clip_one(clip) {
+        return;
+    }
+    byte_render::render_from(out, win, width, height, s, map);
+}
+
+// A window of a film of bytes in the output, from the mappings as lent.
+pub fn draw_bytes(
+    film: u32,
+    width: u32,
+    height: u32,
+    picture: &[u8],
+    s: Settings,
+    record: MapRecord,
+    win: Window,
+    map: &[u8],
+    out: &mut [u8],
+) -> Drawn
+    ensures { λ r. ⌜ showing r (now (out .exit)) ≡ byteDrawOf film width height (now (picture .entry)) s «record» win (now (map .entry)) (now (out .entry)) ⌝ }
+{
+    let refused = refusal(film, width, height, picture, s, record, win, map, out.len());
+    if refused != 0 {
+        return Drawn::Refused(refused);
+    }
+    work(width, height, picture, s, win, map, out);
+    Drawn::Done
+}

@@ -1,0 +1,86 @@
+-- How prepare and enhance on bytes end: refused, or as the wide calls do; inside the profile they answer and leave what the wide calls do.
+-- Assumes nothing.
+use Prim.Native.Nat.{ℕ, zero, suc}
+use mathlib.Core.List.{List}
+use mathlib.Core.Path.{_≡_, refl, sym, ap, _∙_}
+use native.Mathlib.Omega.{arith}
+use lib.ListN.{length}
+use Rattle.refuse.specs.Refuse.{first, unless}
+use Rattle.refuse.proofs.Walk.{unless-refused}
+use Rattle.settings.specs.declared.Settings.{Settings}
+use Rattle.profile.specs.Profile.{profileRows}
+use Rattle.prepare.specs.declared.Prepared.the-variants as Prepared
+use Rattle.prepare.specs.declared.Enhanced.the-variants as Enhanced
+use Rattle.prepare.specs.Prepare.{prepareRows, Ended, ending, preparedOf, prepareOf, Over, overing, enhancedOf, enhanceOf}
+use Rattle.prepare.proofs.Endings.{ends-refused, ends-done}
+use Rattle.prepare.proofs.Renders.{over-refused, over-done}
+use Rattle.byte_film.specs.Bytes.{bytePrepareRows, bytePrepareOf, byteEnhanceOf}
+use Rattle.byte_film.proofs.Tables.{rows-inside, wide-rows}
+
+-- ---- prepare
+
+module _ (film w h : ℕ) (pic : List ℕ) (s : Settings) (m t : List ℕ) where
+  -- a refusal, as it was worked out
+  pub bytes-refused : {r : ℕ} → r ≡ first (bytePrepareRows w h pic s (length m) (length t)) → (r ≡ 0 → ⊥)
+      → ending (Prepared.Refused r) m t ≡ bytePrepareOf film w h pic s m t
+  unfolding bytePrepareOf
+  bytes-refused {r} e z =
+      unless-refused r (λ n. ending (Prepared.Refused n) m t) (preparedOf film w h pic s m t) z
+      ∙ ap (λ k. unless k (λ n. ending (Prepared.Refused n) m t) (preparedOf film w h pic s m t)) e
+
+  -- no refusal
+  bytes-done : {r : ℕ} → r ≡ first (bytePrepareRows w h pic s (length m) (length t)) → r ≡ 0 → preparedOf film w h pic s m t ≡ bytePrepareOf film w h pic s m t
+  unfolding bytePrepareOf
+  bytes-done {r} e z = ap (λ k. unless k (λ n. ending (Prepared.Refused n) m t) (preparedOf film w h pic s m t)) (sym z ∙ e)
+
+  -- what the wide call leaves then is what the byte call leaves
+  pub bytes-well : {r : ℕ} {x : Ended} → r ≡ first (bytePrepareRows w h pic s (length m) (length t)) → r ≡ 0
+      → (r ≡ first (prepareRows w h pic s (length m) (length t)) → x ≡ prepareOf film w h pic s m t) → x ≡ bytePrepareOf film w h pic s m t
+  bytes-well e z so =
+      let wide = wide-rows w h pic s (length m) (length t) e z in
+      so wide ∙ sym (ends-done film w h pic s m t wide z) ∙ bytes-done e z
+
+  -- "must give the same .. mappings": inside the profile the byte call is the wide one
+  pub prepare-inside : first (profileRows s) ≡ 0 → bytePrepareOf film w h pic s m t ≡ prepareOf film w h pic s m t
+  prepare-inside p = go (first (bytePrepareRows w h pic s (length m) (length t))) refl
+    where
+      alike : first (bytePrepareRows w h pic s (length m) (length t)) ≡ first (prepareRows w h pic s (length m) (length t))
+      alike = rows-inside w h pic s (length m) (length t) p
+
+      go : (n : ℕ) → first (bytePrepareRows w h pic s (length m) (length t)) ≡ n → bytePrepareOf film w h pic s m t ≡ prepareOf film w h pic s m t
+      go zero q = sym (bytes-done (sym q) refl) ∙ ends-done film w h pic s m t (sym q ∙ alike) refl
+      go (suc n) q = sym (bytes-refused (sym q) (λ z. omega arith)) ∙ ends-refused film w h pic s m t (sym q ∙ alike) (λ z. omega arith)
+
+-- ---- enhance
+
+module _ (w h : ℕ) (pic : List ℕ) (s : Settings) (m t : List ℕ) where
+  -- a refusal, as it was worked out
+  pub film-refused : {r : ℕ} → r ≡ first (bytePrepareRows w h pic s (length m) (length t)) → (r ≡ 0 → ⊥)
+      → overing (Enhanced.Refused r) pic m t ≡ byteEnhanceOf w h pic s m t
+  unfolding byteEnhanceOf
+  film-refused {r} e z =
+      unless-refused r (λ n. overing (Enhanced.Refused n) pic m t) (enhancedOf w h pic s m t) z
+      ∙ ap (λ k. unless k (λ n. overing (Enhanced.Refused n) pic m t) (enhancedOf w h pic s m t)) e
+
+  -- no refusal
+  film-done : {r : ℕ} → r ≡ first (bytePrepareRows w h pic s (length m) (length t)) → r ≡ 0 → enhancedOf w h pic s m t ≡ byteEnhanceOf w h pic s m t
+  unfolding byteEnhanceOf
+  film-done {r} e z = ap (λ k. unless k (λ n. overing (Enhanced.Refused n) pic m t) (enhancedOf w h pic s m t)) (sym z ∙ e)
+
+  -- what the wide call leaves then is what the byte call leaves
+  pub film-well : {r : ℕ} {x : Over} → r ≡ first (bytePrepareRows w h pic s (length m) (length t)) → r ≡ 0
+      → (r ≡ first (prepareRows w h pic s (length m) (length t)) → x ≡ enhanceOf w h pic s m t) → x ≡ byteEnhanceOf w h pic s m t
+  film-well e z so =
+      let wide = wide-rows w h pic s (length m) (length t) e z in
+      so wide ∙ sym (over-done w h pic s m t wide z) ∙ film-done e z
+
+  -- "must give the same picture and mappings": inside the profile the byte call is the wide one
+  pub enhance-inside : first (profileRows s) ≡ 0 → byteEnhanceOf w h pic s m t ≡ enhanceOf w h pic s m t
+  enhance-inside p = go (first (bytePrepareRows w h pic s (length m) (length t))) refl
+    where
+      alike : first (bytePrepareRows w h pic s (length m) (length t)) ≡ first (prepareRows w h pic s (length m) (length t))
+      alike = rows-inside w h pic s (length m) (length t) p
+
+      go : (n : ℕ) → first (bytePrepareRows w h pic s (length m) (length t)) ≡ n → byteEnhanceOf w h pic s m t ≡ enhanceOf w h pic s m t
+      go zero q = sym (film-done (sym q) refl) ∙ over-done w h pic s m t (sym q ∙ alike) refl
+      go (suc n) q = sym (film-refused (sym q) (λ z. omega arith)) ∙ over-refused w h pic s m t (sym q ∙ alike) (λ z. omega arith)

@@ -1,0 +1,4 @@
+pub mod Tables
+pub mod Works
+pub mod Endings
+pub mod Parts

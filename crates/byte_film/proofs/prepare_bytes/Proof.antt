@@ -1,0 +1,64 @@
+-- `prepare_bytes` meets its contract: refused, at the factor 1.0, or with the mappings laid down, as the wide call ends.
+-- Assumes nothing.
+use borrow.Author.Needs.{needs}
+use Rattle.prepare.proofs.Endings.{ends-one, ends-well}
+use Rattle.byte_film.proofs.Tables.{bytes-foot, bytes-tiles}
+use Rattle.byte_film.proofs.Endings.{bytes-refused, bytes-well}
+use Rattle.byte_film.proofs.prepare_bytes.Statement.{statement}
+use Rattle.byte_film.proofs.prepare_bytes.Tie as tie
+use Rattle.byte_film.proofs.prepare_bytes.Reads as reads
+use Rattle.byte_film.proofs.prepare_bytes.Lts as lts
+use Rattle.byte_film.proofs.map_film.Reads as map-film-reads
+use Rattle.byte_film.proofs.refusal.Reads as refusal-reads
+use Rattle.prepare.proofs.foot.Reads as foot-reads
+use Rattle.settings.proofs.clip_one.Reads as clip-one-reads
+use Rattle.settings.proofs.kept.Reads as kept-reads
+
+refusal-requires : tie.Need-refusal-requires
+refusal-requires c κs = search needs
+
+returns : tie.Need-returns
+returns c = bytes-refused _ _ _ _ _ _ _ (c .before .refusal .ensures) (c .if1 .taken)
+
+foot-requires : tie.Need-foot-requires
+foot-requires c κs = bytes-foot _ _ _ _ _ _ (c .before .refusal .ensures) (c .if1 .left)
+
+kept-requires : tie.Need-kept-requires
+kept-requires c κs = search needs
+
+clip-one-requires : tie.Need-clip-one-requires
+clip-one-requires c κs = search needs
+
+returns-2 : tie.Need-returns-2
+returns-2 c =
+    bytes-well _ _ _ _ _ _ _ (c .before .before .before .before .before .refusal .ensures) (c .before .before .before .before .if1 .left)
+    (λ e. ends-one _ _ _ _ _ _ _ e (c .before .before .before .before .if1 .left) (c .before .before .before .foot .ensures) (c .before .before .kept .ensures) (c .before .clip-one .ensures) (c .if2 .taken))
+
+map-film-requires : tie.Need-map-film-requires
+map-film-requires c κs = bytes-tiles _ _ _ _ _ _ (c .before .before .before .before .before .before .before .refusal .ensures) (c .before .before .before .before .before .before .if1 .left) (c .before .before .before .clip-one .ensures) (c .before .before .if2 .left)
+
+same-length : tie.Need-same-length
+same-length c = search needs
+
+same-length-2 : tie.Need-same-length-2
+same-length-2 c = search needs
+
+returns-3 : tie.Need-returns-3
+returns-3 c =
+    bytes-well _ _ _ _ _ _ _ (c .before .before .before .before .before .before .before .before .before .before .before .before .refusal .ensures) (c .before .before .before .before .before .before .before .before .before .before .before .if1 .left)
+    (λ e. ends-well _ _ _ _ _ _ _ e (c .before .before .before .before .before .before .before .before .before .before .before .if1 .left) (c .before .before .before .before .before .before .before .before .before .before .foot .ensures) (c .before .before .before .before .before .before .before .before .before .kept .ensures) (c .before .before .before .before .before .before .before .before .clip-one .ensures) (c .before .before .before .before .before .before .before .if2 .left) (c .before .before .before .before .map-film .ensures))
+
+pub prepare-bytes-spec : {M : Type 1} → statement M
+prepare-bytes-spec =
+    tie.close
+    (tie.spec
+    refusal-requires
+    returns
+    foot-requires
+    kept-requires
+    clip-one-requires
+    returns-2
+    map-film-requires
+    same-length
+    same-length-2
+    returns-3)

@@ -1,0 +1,49 @@
+-- Order 1, byte films: what prepare and enhance on bytes answer and leave. A byte is its number, so these are the wide calls' own outcomes behind the byte
+-- calls' table. w and h are the film's width and height, pic its bytes, m the map buffer and t the scratch as lent.
+-- Assumes nothing.
+use Prim.Native.Nat.{ℕ, _*_, _≤_, _<_}
+use mathlib.Core.Bool.{false}
+use mathlib.Core.List.{List, _++_}
+use mathlib.Core.Path.{_≡_}
+use lib.ListN.{length, drop}
+use Rattle.lists.specs.Lists.{onto, over, filled}
+use Rattle.refuse.specs.Refuse.{Row, first, unless}
+use Rattle.limit.specs.Limit.{tooTight}
+use Rattle.settings.specs.declared.Settings.{Settings}
+use Rattle.settings.specs.Settings.{binsOf, clipOne}
+use Rattle.prepare.specs.declared.Prepared.the-variants as Prepared
+use Rattle.prepare.specs.declared.Enhanced.the-variants as Enhanced
+use Rattle.prepare.specs.Prepare.{tileMap, mappings, pixelsIn, workRows, Ended, ending, preparedOf, Over, overing, enhancedOf, Work}
+use Rattle.profile.specs.Profile.{byteRows, Profile}
+
+-- "1 to 10 as they stand, then 30 .., then 11 and on as in the wide call"
+unfoldable pub bytePrepareRows : ℕ → ℕ → List ℕ → Settings → ℕ → ℕ → List Row
+bytePrepareRows w h pic s room scratch = byteRows w h (length pic) s room ++ workRows w h pic s scratch
+
+-- prepare on bytes: a refusal keeps all memory; else what prepare does
+unfoldable pub bytePrepareOf : ℕ → ℕ → ℕ → List ℕ → Settings → List ℕ → List ℕ → Ended
+bytePrepareOf film w h pic s m t =
+    unless (first (bytePrepareRows w h pic s (length m) (length t))) (λ n. ending (Prepared.Refused n) m t) (preparedOf film w h pic s m t)
+
+-- enhance on bytes, "in place": a refusal keeps all memory; else what enhance does
+unfoldable pub byteEnhanceOf : ℕ → ℕ → List ℕ → Settings → List ℕ → List ℕ → Over
+byteEnhanceOf w h pic s m t =
+    unless (first (bytePrepareRows w h pic s (length m) (length t))) (λ n. overing (Enhanced.Refused n) pic m t) (enhancedOf w h pic s m t)
+
+-- ---- what the functions below ask
+
+-- what a byte call knows once none of its rows applies
+pub record ByteWork (w h : ℕ) (pic : List ℕ) (s : Settings) (room scratch : ℕ) : Type 0 where
+  pub work : Work w h pic s room scratch
+  pub profile : Profile s
+
+-- what `map_tiles` asks: that, and a factor that is not 1.0
+pub record ByteTilesAsk (w h : ℕ) (pic : List ℕ) (s : Settings) (room scratch : ℕ) : Type 0 where
+  pub film : ByteWork w h pic s room scratch
+  pub changes : clipOne (s .clip) ≡ false
+
+-- what `map_tile` asks: that, of one of the tiles, and a line of 4096 entries
+pub record ByteTileAsks (w h : ℕ) (pic : List ℕ) (s : Settings) (k room scratch line : ℕ) : Type 0 where
+  pub tiles : ByteTilesAsk w h pic s room scratch
+  pub tile : k < s .across * s .down
+  pub fitting : 4096 ≤ line

@@ -1,0 +1,169 @@
+// The calls prepare and enhance on bytes: the film, its mappings and its rendering as bytes, by the wide calls' own rules.
+ghost use mathlib.Core.Path.{_≡_};
+ghost use Prim.Native.Nat.{_≤_};
+ghost use lib.ListN.{length};
+ghost use Rattle.refuse.specs.Refuse.{first};
+ghost use Rattle.prepare.specs.Prepare.{ending, overing, TileDone, TilesDone};
+ghost use Rattle.byte_film.specs.Bytes.{bytePrepareRows, bytePrepareOf, byteEnhanceOf, ByteTilesAsk, ByteTileAsks};
+use prepare::Enhanced;
+use prepare::Prepared;
+use settings::MapRecord;
+use settings::Settings;
+use settings::Window;
+
+// The first refusal that applies, else 0. A byte lies in 0 to 255, so 13 is never given and not looked for.
+fn refusal(width: u32, height: u32, picture: &[u8], s: Settings, room: usize, scratch: usize) -> u32
+    ensures { λ r. ⌜ r ≡ first (bytePrepareRows width height (now (picture .entry)) s room scratch) ⌝ }
+{
+    let shared = profile::shared(width, height, picture.len(), s, room);
+    if shared != 0 {
+        return shared;
+    }
+    let bins = settings::bins(s);
+    if scratch < (bins as usize) {
+        return 12;
+    }
+    let clip = s.clip;
+    let pixels = prepare::tile_pixels(width, height, s, 0);
+    if prepare::too_tight(clip, pixels, bins) {
+        return 14;
+    }
+    0
+}
+
+// Makes the mapping of tile k, in its place in the map buffer; rows go through the line.
+fn map_tile(
+    picture: &[u8],
+    width: u32,
+    height: u32,
+    s: Settings,
+    k: usize,
+    line: &mut [u16],
+    map: &mut [u8],
+    scratch: &mut [u32],
+)
+    requires { ⌜ ByteTileAsks width height (now picture) s k (length (now map)) (length (now scratch)) (length (now line)) ⌝ }
+    ensures { λ _. ⌜ TileDone width height (now (picture .entry)) s k (now (map .entry)) (now (map .exit)) (now (scratch .entry)) (now (scratch .exit)) ⌝ }
+{
+    let rect = prepare::tile_rect(width, height, s.across, s.down, k);
+    let clip = s.clip;
+    let bins = settings::bins(s);
+    let each = bins as usize;
+    let a = k * each;
+    let e = a + each;
+    byte_tile::mapping(
+        picture,
+        width as usize,
+        rect,
+        s.min,
+        s.max,
+        bins,
+        clip,
+        line,
+        scratch,
+        &mut map[a..e],
+    );
+}
+
+// Makes the mappings of all tiles; the scratch is left zero.
+fn map_tiles(
+    picture: &[u8],
+    width: u32,
+    height: u32,
+    s: Settings,
+    line: &mut [u16],
+    map: &mut [u8],
+    scratch: &mut [u32],
+)
+    requires { ⌜ ByteTilesAsk width height (now picture) s (length (now map)) (length (now scratch)) × (4096 ≤ length (now line)) ⌝ }
+    ensures { λ _. ⌜ TilesDone width height (now (picture .entry)) s (now (map .entry)) (now (map .exit)) (now (scratch .entry)) (now (scratch .exit)) ⌝ }
+{
+    let tiles = (s.across * s.down) as usize;
+    let mut k = 0;
+    while k < tiles {
+        map_tile(picture, width, height, s, k, line, map, scratch);
+        k += 1;
+    }
+    let each = settings::bins(s) as usize;
+    lists::clear(scratch, each);
+}
+
+// The mappings of a film of bytes, with the line that its rows go through.
+fn map_film(
+    picture: &[u8],
+    width: u32,
+    height: u32,
+    s: Settings,
+    map: &mut [u8],
+    scratch: &mut [u32],
+)
+    requires { ⌜ ByteTilesAsk width height (now picture) s (length (now map)) (length (now scratch)) ⌝ }
+    ensures { λ _. ⌜ TilesDone width height (now (picture .entry)) s (now (map .entry)) (now (map .exit)) (now (scratch .entry)) (now (scratch .exit)) ⌝ }
+{
+    let mut line = [0u16; 4096];
+    map_tiles(picture, width, height, s, &mut line, map, scratch);
+}
+
+// The mappings of a film of bytes in the map buffer, with the record of what they were made for and the footer.
+pub fn prepare_bytes(
+    film: u32,
+    width: u32,
+    height: u32,
+    picture: &[u8],
+    s: Settings,
+    map: &mut [u8],
+    scratch: &mut [u32],
+) -> Prepared
+    ensures { λ r. ⌜ ending r (now (map .exit)) (now (scratch .exit)) ≡ bytePrepareOf film width height (now (picture .entry)) s (now (map .entry)) (now (scratch .entry)) ⌝ }
+{
+    let refused = refusal(width, height, picture, s, map.len(), scratch.len());
+    if refused != 0 {
+        return Prepared::Refused(refused);
+    }
+    let clip = s.clip;
+    let foot = prepare::foot(width, height, s);
+    let kept = settings::kept(s);
+    let record = MapRecord {
+        film,
+        width,
+        height,
+        settings: kept,
+    };
+    if settings::clip_one(clip) {
+        return Prepared::Done(record, foot);
+    }
+    map_film(picture, width, height, s, map, scratch);
+    Prepared::Done(record, foot)
+}
+
+// The whole film of bytes rendered in place, with the mappings in the map buffer.
+pub fn enhance_bytes(
+    width: u32,
+    height: u32,
+    picture: &mut [u8],
+    s: Settings,
+    map: &mut [u8],
+    scratch: &mut [u32],
+) -> Enhanced
+    ensures { λ r. ⌜ overing r (now (picture .exit)) (now (map .exit)) (now (scratch .exit)) ≡ byteEnhanceOf width height (now (picture .entry)) s (now (map .entry)) (now (scratch .entry)) ⌝ }
+{
+    let refused = refusal(width, height, &picture[..], s, map.len(), scratch.len());
+    if refused != 0 {
+        return Enhanced::Refused(refused);
+    }
+    let clip = s.clip;
+    let foot = prepare::foot(width, height, s);
+    let unchanged = settings::clip_one(clip);
+    if unchanged {
+        return Enhanced::Done(foot);
+    }
+    map_film(&picture[..], width, height, s, map, scratch);
+    let whole = Window {
+        left: 0,
+        top: 0,
+        width,
+        height,
+    };
+    byte_render::render_from(picture, whole, width, height, s, map);
+    Enhanced::Done(foot)
+}

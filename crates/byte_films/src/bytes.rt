@@ -1,0 +1,58 @@
+// Lent bytes: each entry is the one that the wide rows have, taken modulo 256.
+use filmset::made;
+use filmset::whole::Row;
+use filmset::whole::front;
+
+// Room for the wide entries of the largest picture.
+pub fn room() -> [u16; 262144] {
+    [0; 262144]
+}
+
+// Entry i as a byte; 0 where there is none.
+fn byte(wide: &[u16], i: usize) -> u8 {
+    if i < wide.len() {
+        return (wide[i] % 256) as u8;
+    }
+    0
+}
+
+// Takes the wide entries as bytes.
+pub fn taken(wide: &[u16], entries: &mut [u8]) {
+    let mut i = 0;
+    while i < entries.len() {
+        entries[i] = byte(wide, i);
+        i += 1;
+    }
+}
+
+// Makes the picture of a row.
+pub fn picture(row: Row, entries: &mut [u8]) {
+    let mut wide = room();
+    let w = front(&mut wide, entries.len() as u64);
+    made::picture(row, w);
+    taken(&w[..], entries);
+}
+
+// Fills a map.
+pub fn map(row: Row, entries: &mut [u8]) {
+    let mut wide = room();
+    let w = front(&mut wide, entries.len() as u64);
+    made::map(row, w);
+    taken(&w[..], entries);
+}
+
+// Fills an output of draw.
+pub fn output(entries: &mut [u8], base: u64) {
+    let mut wide = room();
+    let w = front(&mut wide, entries.len() as u64);
+    made::output(w, base);
+    taken(&w[..], entries);
+}
+
+// Sets the entry at a place, if there is one.
+pub fn poke(entries: &mut [u8], place: u64, value: u64) {
+    let i = place as usize;
+    if i < entries.len() {
+        entries[i] = (value % 256) as u8;
+    }
+}

@@ -1,0 +1,222 @@
+// The films and the draws of bytes: prepare, draw and enhance on bytes.
+use crate::bytes;
+use draw::Drawn;
+use filmset::column;
+use filmset::digest;
+use filmset::film::NOWHERE;
+use filmset::film::OUTPUT_BASE;
+use filmset::film::Shot;
+use filmset::film::drawn_number;
+use filmset::film::handed;
+use filmset::film::is_film;
+use filmset::film::joined;
+use filmset::film::own;
+use filmset::film::same;
+use filmset::film::window;
+use filmset::kept;
+use filmset::kept::Kept;
+use filmset::kept::Ten;
+use filmset::made;
+use filmset::text;
+use filmset::whole::Row;
+use filmset::whole::at;
+use filmset::whole::front;
+use filmset::whole::front_bytes;
+use filmset::whole::front_words;
+use filmset::whole::word;
+use prepare::Enhanced;
+use prepare::Prepared;
+use settings::Settings;
+
+// The number in a draw's column of the field where the wide call prepares the film.
+const BY_WIDE: u64 = 11;
+
+// What prepare or enhance left: the answer with the record for draw, the picture's digest, and the map.
+pub struct Made {
+    pub kept: Kept,
+    pub digest: u64,
+    pub map: [u8; 16640],
+}
+
+// Calls prepare, and prints its answer under the letter.
+fn prepared(letter: u8, row: Row, picture: &[u8], map: &mut [u8], scratch: &mut [u32]) -> Kept {
+    let t = kept::made(row);
+    let s: Settings = kept::settings(t);
+    let answer: Prepared = byte_film::prepare_bytes(
+        t.film,
+        t.width,
+        t.height,
+        picture,
+        s,
+        map,
+        scratch,
+    );
+    kept::of_prepared(letter, at(row, column::NO), t, answer)
+}
+
+// Calls enhance, and prints its answer.
+fn enhanced(row: Row, picture: &mut [u8], map: &mut [u8], scratch: &mut [u32]) -> Kept {
+    let t = kept::made(row);
+    let s: Settings = kept::settings(t);
+    let answer: Enhanced = byte_film::enhance_bytes(t.width, t.height, picture, s, map, scratch);
+    kept::of_enhanced(at(row, column::NO), t, answer)
+}
+
+// Calls enhance under the letter E, else prepare.
+fn call(letter: u8, row: Row, picture: &mut [u8], map: &mut [u8], scratch: &mut [u32]) -> Kept {
+    if letter == b'E' {
+        return enhanced(row, picture, map, scratch);
+    }
+    prepared(letter, row, &picture[..], map, scratch)
+}
+
+// The digests of picture, map and scratch behind a call, and what it wrote; nothing under the letter 0. Answers the picture's.
+fn called_lines(letter: u8, no: u64, picture: &[u8], map: &[u8], scratch: &[u32]) -> u64 {
+    let digest = digest::bytes(picture);
+    if letter == 0 {
+        return digest;
+    }
+    let b = digest::bytes(map);
+    let c = digest::words(scratch);
+    text::three(letter % 128 + 32, no, digest, b, c);
+    if letter == b'E' {
+        text::small_bytes(b'i', no, picture);
+        return digest;
+    }
+    text::small_bytes(b'm', no, map);
+    digest
+}
+
+// Makes map and scratch and calls, and prints what comes of it under the letter.
+fn called(letter: u8, row: Row, picture: &mut [u8]) -> Made {
+    let mut map = [0; 16640];
+    let mut scratch = made::scratch();
+    let m = front_bytes(&mut map, at(row, column::MAP_ROOM));
+    bytes::map(row, m);
+    let s = front_words(&mut scratch, at(row, column::SCRATCH_ROOM));
+    let kept = call(letter, row, picture, m, s);
+    let digest = called_lines(letter, at(row, column::NO), &picture[..], &m[..], &s[..]);
+    Made { kept, digest, map }
+}
+
+// Prepares the film by the wide call, and takes its map as bytes.
+fn called_wide(row: Row) -> Made {
+    let mut picture = bytes::room();
+    let p = front(&mut picture, at(row, column::LENGTH));
+    made::picture(row, p);
+    let left = filmset::film::called(false, 0, row, p);
+    let kept = left.kept;
+    let wide = left.map;
+    let mut map = [0; 16640];
+    bytes::taken(&wide, &mut map);
+    Made {
+        kept,
+        digest: left.digest,
+        map,
+    }
+}
+
+// Prepares the film of a draw: by the wide call where its row says so.
+fn first(letter: u8, row: Row, drawn: Row, picture: &mut [u8]) -> Made {
+    if own(drawn, column::FIELD, 0) == BY_WIDE {
+        return called_wide(row);
+    }
+    called(letter, row, picture)
+}
+
+// Calls draw with the record; answers its number.
+fn draw_by(drawn: Row, t: Ten, kept: Ten, picture: &[u8], map: &[u8], out: &mut [u8]) -> u32 {
+    let s: Settings = kept::settings(t);
+    let record = kept::record(kept);
+    let win = window(drawn);
+    let answer: Drawn = byte_draw::draw_bytes(
+        word(drawn, column::FILM),
+        t.width,
+        t.height,
+        picture,
+        s,
+        record,
+        win,
+        map,
+        out,
+    );
+    drawn_number(answer)
+}
+
+// The lines of draw: the answer, the digests of picture, map and output, and the output.
+fn drawn_lines(drawn: Row, number: u32, picture: &[u8], map: &[u8], out: &[u8]) -> Shot {
+    let no = at(drawn, column::NO);
+    let of_film = is_film(drawn);
+    let digest = digest::bytes(out);
+    text::one(text::either(of_film, b'D', b'W'), no, number);
+    text::three(
+        text::either(of_film, b'd', b'w'),
+        no,
+        digest::bytes(picture),
+        digest::bytes(map),
+        digest,
+    );
+    text::small_bytes(text::either(of_film, b'o', b'v'), no, out);
+    Shot { number, digest }
+}
+
+// Makes the output and draws from the map.
+fn drawn_from(drawn: Row, t: Ten, kept: Ten, picture: &[u8], map: &[u8], out: &mut [u8]) -> Shot {
+    let o = front_bytes(out, at(drawn, column::OUT_ROOM));
+    bytes::output(o, OUTPUT_BASE);
+    let number = draw_by(drawn, t, kept, picture, map, o);
+    drawn_lines(drawn, number, picture, map, &o[..])
+}
+
+// Changes the map where the row says so, and draws.
+fn drawn_of(row: Row, drawn: Row, made: Made, picture: &[u8], out: &mut [u8]) -> Shot {
+    let mut map = made.map;
+    let k = made.kept;
+    let m = front_bytes(&mut map, at(row, column::MAP_ROOM));
+    bytes::poke(
+        m,
+        own(drawn, column::MAP_AT, NOWHERE),
+        at(drawn, column::MAP_VALUE),
+    );
+    let kept = handed(row, drawn, k.ten);
+    drawn_from(drawn, kept::made(row), kept, picture, &m[..], out)
+}
+
+// Makes the film, prepares it, and draws; the lines of prepare are a film's own.
+fn shot_of(row: Row, drawn: Row, picture: &mut [u8], out: &mut [u8]) -> Shot {
+    let p = front_bytes(picture, at(row, column::LENGTH));
+    bytes::picture(row, p);
+    let letter = text::either(is_film(drawn), b'P', 0);
+    let made = first(letter, row, drawn, p);
+    bytes::poke(
+        p,
+        own(drawn, column::PIXEL_AT, NOWHERE),
+        at(drawn, column::PIXEL_VALUE),
+    );
+    let shot = drawn_of(row, drawn, made, &p[..], out);
+    let k = made.kept;
+    joined(k.number, shot)
+}
+
+// Makes the film anew and enhances it.
+fn enhanced_of(row: Row, picture: &mut [u8]) -> Shot {
+    let p = front_bytes(picture, at(row, column::LENGTH));
+    bytes::picture(row, p);
+    let made = called(b'E', row, p);
+    let k = made.kept;
+    Shot {
+        number: k.number,
+        digest: made.digest,
+    }
+}
+
+// A row of the films, over rooms for the largest picture and the largest output.
+pub fn film(row: Row, picture: &mut [u8], out: &mut [u8]) {
+    let drawn = shot_of(row, row, picture, out);
+    same(at(row, column::NO), drawn, enhanced_of(row, picture));
+}
+
+// A row of the draws, with that of its film.
+pub fn draw(row: Row, drawn: Row, picture: &mut [u8], out: &mut [u8]) {
+    shot_of(row, drawn, picture, out);
+}

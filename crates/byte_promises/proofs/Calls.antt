@@ -1,0 +1,180 @@
+-- Demands 2 and 3 of the byte calls: an accepted film of bytes is inside the profile, so each sentence is the wide one's of the same numbers.
+-- Of every run of the byte calls by their contracts (Runs); a name with ′ is lent memory at the end.
+-- Assumes nothing.
+use Prim.Native.Nat.{ℕ, _+_, _*_, _≤_, _<_}
+use mathlib.Core.Bool.{true, false}
+use mathlib.Core.List.{List}
+use mathlib.Core.Logic.{_≢_}
+use mathlib.Core.Path.{_≡_, refl, sym, ap, _∙_}
+use lib.Ieee.{Float}
+use lib.ListN.{length, getD, take}
+use Rattle.refuse.specs.Refuse.{accepted, refused}
+use Rattle.tile.specs.Tile.{mappedOf}
+use Rattle.settings.specs.declared.MapRecord.{MapRecord}
+use Rattle.settings.specs.declared.Footer.{Footer}
+use Rattle.settings.specs.Settings.{binsOf, entriesOf, keptOf, recordOf, clipOne}
+use Rattle.prepare.specs.Prepare.{pixelsIn, preparedSays, enhancedSays, Ended, ending, prepareOf, Over, overing, enhanceOf}
+use Rattle.prepare.proofs.Like.{enhance-kept}
+use Rattle.draw.specs.Draw.{drawnSays, Shows, showing, drawOf, Held}
+use Rattle.draw.proofs.Tables.{draw-ready}
+use Rattle.promises.specs.Films.{clippedCounts, ruleGrey, ClippingOn, ClipCase, FooterShows, FilmSound}
+use Rattle.promises.proofs.Accepted.{table-accepted, prepare-work, prepare-record, enhance-work, draw-table}
+use Rattle.promises.proofs.Reuse.{left-settings}
+use Rattle.promises.proofs.Demand2.{own-mapping, own-mapping-enhance, own-rendering, own-pixels, enhance-agrees}
+use Rattle.promises.proofs.Windows.{accepted-by-rule, accepted-as-film, accepted-as-enhanced}
+use Rattle.promises.proofs.Demand3.{tiles-sound, tiles-sound-enhance, footer-shows, footer-shows-enhance, clip-cases}
+use Rattle.promises.proofs.Runs.{PrepareCall, EnhanceCall, DrawCall}
+use Rattle.promises.proofs.Calls.{drawnGrey}
+use Rattle.byte_promises.proofs.Inside.{prepare-bytes-wide, enhance-bytes-wide, draw-bytes-wide}
+use Rattle.byte_promises.proofs.Runs.{PreparesBytes, prepare-bytes-ends, EnhancesBytes, enhance-bytes-ends, DrawsBytes, draw-bytes-ends}
+
+-- ---- prepare on bytes
+
+module _ {p : PrepareCall} {r : MapRecord} {foot : Footer} (ran : PreparesBytes p) (prepared : preparedSays (p .answer) ≡ accepted (r, foot)) where
+  -- it ended as prepare does
+  pub prepare-bytes-as-wide : ending (p .answer) (p .map′) (p .scratch′) ≡ prepareOf (p .film) (p .width) (p .height) (p .pixels) (p .settings) (p .map) (p .scratch)
+  prepare-bytes-as-wide =
+      prepare-bytes-ends ran
+      ∙ prepare-bytes-wide (p .film) (p .width) (p .height) (p .pixels) (p .settings) (p .map) (p .scratch)
+      (sym (ap (λ (z : Ended). preparedSays (z .answer)) (prepare-bytes-ends ran)) ∙ prepared)
+
+  pub prepare-bytes-done : preparedSays (prepareOf (p .film) (p .width) (p .height) (p .pixels) (p .settings) (p .map) (p .scratch) .answer) ≡ accepted (r, foot)
+  prepare-bytes-done = sym (ap (λ (z : Ended). preparedSays (z .answer)) prepare-bytes-as-wide) ∙ prepared
+
+  -- each tile's own mapping lies in the map buffer
+  pub prepared-bytes-by-rule : clipOne (p .settings .clip) ≡ false → (k b : ℕ) → k < p .settings .across * p .settings .down → b < binsOf (p .settings)
+      → getD (p .map′) (k * binsOf (p .settings) + b) 0
+      ≡ mappedOf (p .settings .min) (p .settings .max) (pixelsIn (p .width) (p .height) (p .settings) k) (clippedCounts (p .width) (p .height) (p .pixels) (p .settings) k) b
+  prepared-bytes-by-rule one k b l q =
+      ap (λ (z : Ended). getD (z .map) (k * binsOf (p .settings) + b) 0) prepare-bytes-as-wide ∙ own-mapping _ _ _ _ _ _ _ prepare-bytes-done one k b l q
+
+  -- the record's own settings can be handed on for those that were asked
+  pub record-bytes-settings : keptOf (r .settings) ≡ keptOf (p .settings)
+  record-bytes-settings = left-settings _ _ _ _ _ _ _ prepare-bytes-done
+
+  -- demand 3: what the footer shows, by the clip setting
+  pub prepared-bytes-footer : FooterShows (p .settings .clip) (pixelsIn (p .width) (p .height) (p .settings) 0) (binsOf (p .settings)) foot
+  prepared-bytes-footer = footer-shows _ _ _ _ _ (p .map) (p .scratch) prepare-bytes-done
+
+  -- and every tile, with the limit of the footer
+  pub prepared-bytes-tiles-sound : {f : Float} → ClippingOn (p .settings .clip) f → FilmSound (p .width) (p .height) (p .pixels) (p .settings) (foot .limit) (p .map′)
+  prepared-bytes-tiles-sound {f} on =
+      rw (ap (λ (z : Footer). z .limit) (prepared-bytes-footer .above f on), ap (λ (z : Ended). z .map) prepare-bytes-as-wide)
+      (tiles-sound _ _ _ _ _ (p .map) (p .scratch) prepare-bytes-done on)
+
+-- ---- enhance on bytes
+
+module _ {e : EnhanceCall} {foot : Footer} (ran : EnhancesBytes e) (done : enhancedSays (e .answer) ≡ accepted foot) where
+  -- it ended as enhance does
+  pub enhance-bytes-as-wide : overing (e .answer) (e .pixels′) (e .map′) (e .scratch′) ≡ enhanceOf (e .width) (e .height) (e .pixels) (e .settings) (e .map) (e .scratch)
+  enhance-bytes-as-wide =
+      enhance-bytes-ends ran
+      ∙ enhance-bytes-wide (e .width) (e .height) (e .pixels) (e .settings) (e .map) (e .scratch)
+      (sym (ap (λ (z : Over). enhancedSays (z .answer)) (enhance-bytes-ends ran)) ∙ done)
+
+  over : enhancedSays (enhanceOf (e .width) (e .height) (e .pixels) (e .settings) (e .map) (e .scratch) .answer) ≡ accepted foot
+  over = sym (ap (λ (z : Over). enhancedSays (z .answer)) enhance-bytes-as-wide) ∙ done
+
+  -- demand 2: each pixel is the rule's
+  pub enhanced-bytes-by-rule : clipOne (e .settings .clip) ≡ false → (i j : ℕ) → i < e .width → j < e .height
+      → getD (e .pixels′) (j * e .width + i) 0 ≡ ruleGrey (e .width) (e .height) (e .pixels) (e .settings) i j
+  enhanced-bytes-by-rule one i j l k =
+      ap (λ (z : Over). getD (z .picture) (j * e .width + i) 0) enhance-bytes-as-wide ∙ own-rendering _ _ _ _ (e .map) (e .scratch) over one i j l k
+
+  -- at the factor 1.0 the film is unchanged
+  pub enhanced-bytes-as-film : clipOne (e .settings .clip) ≡ true → e .pixels′ ≡ e .pixels
+  enhanced-bytes-as-film one = ap (λ (z : Over). z .picture) enhance-bytes-as-wide ∙ own-pixels _ _ _ _ (e .map) (e .scratch) over one
+
+  -- each tile's own mapping lies in the map buffer
+  pub enhanced-bytes-mapped-by-rule : clipOne (e .settings .clip) ≡ false → (k b : ℕ) → k < e .settings .across * e .settings .down → b < binsOf (e .settings)
+      → getD (e .map′) (k * binsOf (e .settings) + b) 0
+      ≡ mappedOf (e .settings .min) (e .settings .max) (pixelsIn (e .width) (e .height) (e .settings) k) (clippedCounts (e .width) (e .height) (e .pixels) (e .settings) k) b
+  enhanced-bytes-mapped-by-rule one k b l q =
+      ap (λ (z : Over). getD (z .map) (k * binsOf (e .settings) + b) 0) enhance-bytes-as-wide ∙ own-mapping-enhance _ _ _ _ (e .map) (e .scratch) over one k b l q
+
+  -- demand 3: the footer, and every tile
+  pub enhanced-bytes-footer : FooterShows (e .settings .clip) (pixelsIn (e .width) (e .height) (e .settings) 0) (binsOf (e .settings)) foot
+  enhanced-bytes-footer = footer-shows-enhance _ _ _ _ (e .map) (e .scratch) over
+
+  pub enhanced-bytes-tiles-sound : {f : Float} → ClippingOn (e .settings .clip) f → FilmSound (e .width) (e .height) (e .pixels) (e .settings) (foot .limit) (e .map′)
+  enhanced-bytes-tiles-sound {f} on =
+      rw (ap (λ (z : Footer). z .limit) (enhanced-bytes-footer .above f on), ap (λ (z : Over). z .map) enhance-bytes-as-wide)
+      (tiles-sound-enhance _ _ _ _ (e .map) (e .scratch) over on)
+
+-- ---- draw on bytes
+
+-- "A window drawn with the record of a film of another number is refused.", and so is one whose record differs in whatever field
+pub draw-bytes-differing : {d : DrawCall} → DrawsBytes d → (Held (d .film) (d .width) (d .height) (d .settings) (d .kept) → ⊥) → drawnSays (d .answer) ≢ accepted tt
+draw-bytes-differing {d} ran differs done =
+    let wide = draw-bytes-ends ran ∙ draw-bytes-wide (d .film) (d .width) (d .height) (d .pixels) (d .settings) (d .kept) (d .window) (d .map) (d .out)
+    (sym (ap (λ (z : Shows). drawnSays (z .answer)) (draw-bytes-ends ran)) ∙ done) in
+    differs (draw-ready (d .film) (d .width) (d .height) (d .pixels) (d .settings) (d .kept) (d .window) (d .map) (length (d .out))
+    (table-accepted (draw-table (d .film) (d .width) (d .height) (d .pixels) (d .settings) (d .kept) (d .window) (d .map) (d .out)) (sym (ap (λ (z : Shows). drawnSays (z .answer)) wide) ∙ done) .0) .held)
+
+pub draw-bytes-other-film : {d : DrawCall} → DrawsBytes d → d .film ≢ d .kept .film → drawnSays (d .answer) ≢ accepted tt
+draw-bytes-other-film ran other = draw-bytes-differing ran (λ held. other (held .number))
+
+-- prepare on bytes accepted the film of p with this footer, and draw on bytes accepted d, handed the record that prepare answered, the same pixels and, but at the factor 1.0,
+-- the mappings that it left, whatever else
+pub record DrawnFromBytes (p : PrepareCall) (foot : Footer) (d : DrawCall) : Type 0 where
+  pub prepares : PreparesBytes p
+  pub prepared : preparedSays (p .answer) ≡ accepted (d .kept, foot)
+  pub draws : DrawsBytes d
+  pub drawn : drawnSays (d .answer) ≡ accepted tt
+  pub pixels : d .pixels ≡ p .pixels
+  pub mappings : clipOne (p .settings .clip) ≡ false → take (entriesOf (p .settings)) (d .map) ≡ take (entriesOf (p .settings)) (p .map′)
+
+-- enhance on bytes accepted the film of p, with settings that are kept as its own, and buffers that are long enough
+pub record EnhancesBytesFilm (p : PrepareCall) (foot : Footer) (e : EnhanceCall) : Type 0 where
+  pub enhances : EnhancesBytes e
+  pub done : enhancedSays (e .answer) ≡ accepted foot
+  pub width : e .width ≡ p .width
+  pub height : e .height ≡ p .height
+  pub pixels : e .pixels ≡ p .pixels
+  pub like : keptOf (e .settings) ≡ keptOf (p .settings)
+  pub map : entriesOf (p .settings) ≤ length (e .map)
+  pub scratch : binsOf (p .settings) ≤ length (e .scratch)
+
+module _ {p : PrepareCall} {foot : Footer} {d : DrawCall} (from : DrawnFromBytes p foot d) where
+  made : preparedSays (prepareOf (p .film) (p .width) (p .height) (p .pixels) (p .settings) (p .map) (p .scratch) .answer) ≡ accepted (d .kept, foot)
+  made = prepare-bytes-done (from .prepares) (from .prepared)
+
+  shows : showing (d .answer) (d .out′) ≡ drawOf (d .film) (d .width) (d .height) (p .pixels) (d .settings) (d .kept) (d .window) (d .map) (d .out)
+  shows =
+      draw-bytes-ends (from .draws)
+      ∙ draw-bytes-wide (d .film) (d .width) (d .height) (d .pixels) (d .settings) (d .kept) (d .window) (d .map) (d .out)
+      (sym (ap (λ (z : Shows). drawnSays (z .answer)) (draw-bytes-ends (from .draws))) ∙ from .drawn)
+      ∙ rw (from .pixels) refl
+
+  accepts : drawnSays (drawOf (d .film) (d .width) (d .height) (p .pixels) (d .settings) (d .kept) (d .window) (d .map) (d .out) .answer) ≡ accepted tt
+  accepts = sym (ap (λ (z : Shows). drawnSays (z .answer)) shows) ∙ from .drawn
+
+  entries : clipOne (p .settings .clip) ≡ false
+      → take (entriesOf (p .settings)) (d .map) ≡ take (entriesOf (p .settings)) (prepareOf (p .film) (p .width) (p .height) (p .pixels) (p .settings) (p .map) (p .scratch) .map)
+  entries one = from .mappings one ∙ ap (λ (z : Ended). take (entriesOf (p .settings)) (z .map)) (prepare-bytes-as-wide (from .prepares) (from .prepared))
+
+  -- demand 2: each drawn pixel is the rule's
+  pub drawn-bytes-by-rule : clipOne (p .settings .clip) ≡ false → (j i : ℕ) → j < d .window .height → i < d .window .width
+      → drawnGrey d i j ≡ ruleGrey (p .width) (p .height) (p .pixels) (p .settings) (d .window .left + i) (d .window .top + j)
+  drawn-bytes-by-rule one j i l k =
+      ap (λ (z : Shows). getD (z .out) (j * d .window .width + i) 0) shows
+      ∙ accepted-by-rule (p .film) (p .width) (p .height) (p .pixels) (p .settings) _ _ made _ _ _ _ _ (d .window) _ accepts entries one j i l k
+
+  -- at the factor 1.0 the film's own pixels
+  pub drawn-bytes-as-film : clipOne (p .settings .clip) ≡ true → (j i : ℕ) → j < d .window .height → i < d .window .width
+      → drawnGrey d i j ≡ getD (p .pixels) ((d .window .top + j) * p .width + (d .window .left + i)) 0
+  drawn-bytes-as-film one j i l k =
+      ap (λ (z : Shows). getD (z .out) (j * d .window .width + i) 0) shows
+      ∙ accepted-as-film (p .film) (p .width) (p .height) (p .pixels) (p .settings) _ _ made _ _ _ _ _ (d .window) _ accepts entries one j i l k
+
+  -- and the one in the byte picture that enhance leaves
+  pub drawn-bytes-as-enhanced : {e : EnhanceCall} → EnhancesBytesFilm p foot e → (j i : ℕ) → j < d .window .height → i < d .window .width
+      → drawnGrey d i j ≡ getD (e .pixels′) ((d .window .top + j) * p .width + (d .window .left + i)) 0
+  drawn-bytes-as-enhanced {e} too j i l k =
+      let leaves : overing (e .answer) (e .pixels′) (e .map′) (e .scratch′) ≡ enhanceOf (p .width) (p .height) (p .pixels) (p .settings) (e .map) (e .scratch) =
+      enhance-bytes-as-wide (too .enhances) (too .done)
+      ∙ rw (too .width, too .height, too .pixels)
+      (sym (enhance-kept _ _ _ (e .settings) _ _) ∙ ap (λ s. enhanceOf (p .width) (p .height) (p .pixels) s (e .map) (e .scratch)) (too .like) ∙ enhance-kept _ _ _ (p .settings) _ _) in
+      ap (λ (z : Shows). getD (z .out) (j * d .window .width + i) 0) shows
+      ∙ accepted-as-enhanced (p .film) _ _ _ _ _ _ made _ _ _ _ _ (d .window) _ accepts entries (e .map) (e .scratch) (too .map) (too .scratch) j i l k
+      ∙ sym (ap (λ (z : Over). getD (z .picture) ((d .window .top + j) * p .width + (d .window .left + i)) 0) leaves)

@@ -1,0 +1,6 @@
+pub mod Inside
+pub mod Left
+pub mod Runs
+pub mod Outcomes
+pub mod Wide
+pub mod Calls

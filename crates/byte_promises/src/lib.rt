@@ -1,0 +1,1 @@
+// The promises of the byte calls, proved over their contracts. Nothing runs.

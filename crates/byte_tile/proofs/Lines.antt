@@ -1,0 +1,90 @@
+-- Laws of rows and mappings that go through a line of 16-bit entries.
+-- Assumes nothing.
+use Prim.Native.Nat.{ℕ, _+_, _-_, _*_, _≤_, _<_}
+use mathlib.Core.Bool.{true}
+use mathlib.Core.List.{List, _++_}
+use mathlib.Core.Path.{_≡_, refl, sym, ap, subst, _∙_}
+use lib.ListN.{length, take, drop, getD}
+use lib.Seq.{take-at, length-take-le}
+use native.Mathlib.Omega.{arith}
+use borrow.Author.Tests.{lt-ltb}
+use Rattle.lists.specs.Lists.{onto, all}
+use Rattle.lists.proofs.Fills.{take-onto}
+use Rattle.lists.proofs.Maps.{onto-whole}
+use Rattle.lists.proofs.Alls.{all-at, all-from}
+use Rattle.limit.specs.declared.Clip.{Clip}
+use Rattle.scan.specs.Scan.{within}
+use Rattle.scan.proofs.Spans.{within-high}
+use Rattle.tally.specs.declared.Rect.{Rect}
+use Rattle.tally.specs.Tally.{greysOf, countsOf, FourAsks, FourAdded, RowsAsks}
+use Rattle.tally.proofs.Greys.{inside-part, length-row}
+use Rattle.tile.specs.Tile.{clippedBy, countsMapping, FromAsks, TileMapped}
+use Rattle.tile.proofs.Tiles.{length-counts-mapping, counts-mapping-within, tile-part, tile-asks, tile-mapped}
+use Rattle.narrow.specs.Narrow.{isByte}
+use Rattle.byte_tile.specs.ByteTile.{ByteTileAsks}
+
+-- ---- one row
+
+module _ (d row : List ℕ) {line : List ℕ} (e : line ≡ onto d row) where
+  -- the front of the line holds the row
+  line-row : take (length row) line ≡ row
+  line-row = ap (take (length row)) e ∙ take-onto d row (length row) refl
+
+  pub line-part : length row ≡ length (take (length row) line)
+  line-part = sym (ap length line-row)
+
+  module _ {lo hi n : ℕ} {a b c x : List ℕ} where
+    -- so it asks what the row asks
+    pub line-asks : {factor : ℕ} → FourAsks row lo hi n factor a b c x → FourAsks (take (length row) line) lo hi n factor a b c x
+    line-asks {factor} asks = subst (λ t. FourAsks t lo hi n factor a b c x) (sym line-row) asks
+
+    -- and to count it is to count the row
+    pub line-added : {a′ b′ c′ x′ : List ℕ} → FourAdded (take (length row) line) lo hi n a b c x a′ b′ c′ x′ → FourAdded row lo hi n a b c x a′ b′ c′ x′
+    line-added {a′} {b′} {c′} {x′} so = subst (λ t. FourAdded t lo hi n a b c x a′ b′ c′ x′) line-row so
+
+-- a row of the rectangle is no longer than the line
+pub row-fits : {pic : List ℕ} {stride : ℕ} {r : Rect} {lo hi n factor : ℕ} {a b c d : List ℕ} {wide : ℕ} → RowsAsks pic stride r lo hi n factor a b c d → r .width ≤ wide
+    → (y : ℕ) → y < r .height
+    → length (take ((r .top + y) * stride + r .left + r .width - ((r .top + y) * stride + r .left)) (drop ((r .top + y) * stride + r .left) pic)) ≤ wide
+row-fits {pic} {stride} {r} asks h y l = omega (arith, ap length (inside-part pic stride r (asks .asks .inside) y l) ∙ length-row pic stride r y)
+
+-- ---- the mapping
+
+-- greys of at most 255 are bytes
+pub within-bytes : (lo hi : ℕ) (vs : List ℕ) → hi ≤ 255 → all (within lo hi) vs ≡ true → all isByte vs ≡ true
+within-bytes lo hi vs h e = all-from isByte vs 0 (λ i l. lt-ltb (getD vs i 0) 256 (omega (arith, within-high lo hi (getD vs i 0) (all-at (within lo hi) vs e i 0 l))))
+
+module _ {pic : List ℕ} {stride : ℕ} {r : Rect} {lo hi b : ℕ} {clip : Clip} {line scratch out : ℕ} (asks : ByteTileAsks pic stride r lo hi b clip line scratch out)
+    (d : List ℕ) {s : List ℕ} (e : s ≡ onto d (countsOf lo hi b (greysOf pic stride r))) (l : List ℕ) (k : length l ≡ line) where
+  -- the front of the line has room for the mapping
+  pub line-room : b ≡ length (take b l)
+  line-room = sym (length-take-le b l (omega (arith, asks .long)))
+
+  -- what clipping and mapping the counts into it asks
+  pub byte-asks : FromAsks clip (r .width * r .height) lo hi (take b s) (length (take b l))
+  byte-asks = tile-asks record { counts = asks .tile .counts; holds = asks .tile .holds; room = omega (arith, line-room) } d e
+
+  module _ {o : List ℕ} (h : o ≡ onto (take b l) (countsMapping lo hi clip (r .width * r .height) (take b s))) where
+    mapping-size : length (countsMapping lo hi clip (r .width * r .height) (take b s)) ≡ b
+    mapping-size = length-counts-mapping lo hi clip (r .width * r .height) (take b s) ∙ sym (tile-part (asks .tile) d e)
+
+    -- then it holds the mapping
+    line-mapping : take b (o ++ drop b l) ≡ countsMapping lo hi clip (r .width * r .height) (take b s)
+    line-mapping =
+        let same : o ≡ countsMapping lo hi clip (r .width * r .height) (take b s) = h ∙ onto-whole (take b l) _ (omega (arith, mapping-size, line-room)) in
+        take-at o (drop b l) b (ap length same ∙ mapping-size) ∙ same
+
+    pub mapping-part : b ≡ length (take b (o ++ drop b l))
+    mapping-part = sym (ap length line-mapping ∙ mapping-size)
+
+    -- which fits the output and is made of bytes
+    pub mapping-narrow : (length (take b (o ++ drop b l)) ≤ out) × (all isByte (take b (o ++ drop b l)) ≡ true)
+    mapping-narrow = (
+      omega (arith, mapping-part, asks .tile .room),
+      ap (all isByte) line-mapping ∙ within-bytes lo hi _ (asks .bytes) (counts-mapping-within byte-asks),
+    )
+
+    -- at the end
+    pub mapping-end : (p : List ℕ) {p′ q : List ℕ} → q ≡ clippedBy clip (r .width * r .height) (take b s) → p′ ≡ onto p (take b (o ++ drop b l))
+        → TileMapped lo hi b clip (greysOf pic stride r) d (q ++ drop b s) p p′
+    mapping-end p f g = tile-mapped (asks .tile) d e p f (g ∙ ap (onto p) line-mapping)

@@ -1,0 +1,124 @@
+// One tile of a byte film: its rows go through a line of 16-bit entries and the wide rows' own functions, so that no rule is coded twice.
+ghost use mathlib.Core.Path.{_≡_};
+ghost use Prim.Native.Nat.{_≤_};
+ghost use lib.ListN.{length};
+ghost use Rattle.lists.specs.Lists.{onto};
+ghost use Rattle.tally.specs.Tally.{greysOf, countsOf, FourAsks, FourAdded, RowsAsks, CountAsks};
+ghost use Rattle.tile.specs.Tile.{TileMapped};
+ghost use Rattle.byte_tile.specs.ByteTile.{ByteTileAsks};
+use limit::Clip;
+use tally::Rect;
+
+// Adds the greys of one row of bytes to four counts.
+fn count_bytes(
+    row: &[u8],
+    min: u32,
+    max: u32,
+    bins: u32,
+    factor: u32,
+    line: &mut [u16],
+    a: &mut [u32],
+    b: &mut [u32],
+    c: &mut [u32],
+    d: &mut [u32],
+)
+    requires { ⌜ FourAsks (now row) min max bins factor (now a) (now b) (now c) (now d) × (length (now row) ≤ length (now line)) ⌝ }
+    ensures { λ _. ⌜ FourAdded (now (row .entry)) min max bins (now (a .entry)) (now (b .entry)) (now (c .entry)) (now (d .entry)) (now (a .exit)) (now (b .exit)) (now (c .exit)) (now (d .exit)) ⌝ }
+{
+    let wide = row.len();
+    narrow::widen(row, line);
+    tally::count_quarters(&line[..wide], min, max, bins, factor, a, b, c, d);
+}
+
+// Adds the greys of a rectangle of bytes to four counts, row by row: each row goes through the line.
+fn count_rows(
+    picture: &[u8],
+    stride: usize,
+    rect: Rect,
+    min: u32,
+    max: u32,
+    bins: u32,
+    factor: u32,
+    line: &mut [u16],
+    a: &mut [u32],
+    b: &mut [u32],
+    c: &mut [u32],
+    d: &mut [u32],
+)
+    requires { ⌜ RowsAsks (now picture) stride rect min max bins factor (now a) (now b) (now c) (now d) × (rect .width ≤ length (now line)) ⌝ }
+    ensures { λ _. ⌜ FourAdded (greysOf (now (picture .entry)) stride rect) min max bins (now (a .entry)) (now (b .entry)) (now (c .entry)) (now (d .entry)) (now (a .exit)) (now (b .exit)) (now (c .exit)) (now (d .exit)) ⌝ }
+{
+    let mut y = 0;
+    while y < rect.height {
+        let from = (rect.top + y) * stride + rect.left;
+        let to = from + rect.width;
+        count_bytes(&picture[from..to], min, max, bins, factor, line, a, b, c, d);
+        y += 1;
+    }
+}
+
+// The counts of a rectangle of bytes, in the first `bins` entries; entries behind keep their contents. Four counts, which are added up at the end.
+pub fn count(
+    picture: &[u8],
+    stride: usize,
+    rect: Rect,
+    min: u32,
+    max: u32,
+    bins: u32,
+    line: &mut [u16],
+    counts: &mut [u32],
+)
+    requires { ⌜ CountAsks (now picture) stride rect min max bins (length (now counts)) × (bins ≤ 256) × (rect .width ≤ length (now line)) ⌝ }
+    ensures { λ _. ⌜ now (counts .exit) ≡ onto (now (counts .entry)) (countsOf min max bins (greysOf (now (picture .entry)) stride rect)) ⌝ }
+{
+    lists::clear(counts, bins as usize);
+    let factor = binning::bin_factor(min, max, bins);
+    let mut b = [0u32; 256];
+    let mut c = [0u32; 256];
+    let mut d = [0u32; 256];
+    count_rows(
+        picture,
+        stride,
+        rect,
+        min,
+        max,
+        bins,
+        factor,
+        line,
+        counts,
+        &mut b,
+        &mut c,
+        &mut d,
+    );
+    tally::add_up(counts, &b, &c, &d, bins as usize);
+}
+
+// A tile's mapping from its bytes: counted, then clipped and mapped into the line, then made bytes. The counts stay in the front of the scratch.
+pub fn mapping(
+    picture: &[u8],
+    stride: usize,
+    rect: Rect,
+    min: u32,
+    max: u32,
+    bins: u32,
+    clip: Clip,
+    line: &mut [u16],
+    scratch: &mut [u32],
+    out: &mut [u8],
+)
+    requires { ⌜ ByteTileAsks (now picture) stride rect min max bins clip (length (now line)) (length (now scratch)) (length (now out)) ⌝ }
+    ensures { λ _. ⌜ TileMapped min max bins clip (greysOf (now (picture .entry)) stride rect) (now (scratch .entry)) (now (scratch .exit)) (now (out .entry)) (now (out .exit)) ⌝ }
+{
+    let pixels = (rect.width * rect.height) as u32;
+    let entries = bins as usize;
+    count(picture, stride, rect, min, max, bins, line, scratch);
+    tile::from_counts(
+        clip,
+        pixels,
+        min,
+        max,
+        &mut scratch[..entries],
+        &mut line[..entries],
+    );
+    narrow::narrow(&line[..entries], out);
+}
