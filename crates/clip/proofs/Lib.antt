@@ -1,4 +1,5 @@
 pub mod Walks
 pub mod Rounds
+pub mod Ends
 pub mod Shares
 pub mod Laws

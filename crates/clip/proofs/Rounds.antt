@@ -4,7 +4,7 @@ use Prim.Native.Nat.{ℕ, zero, suc, _+_, _-_, _*_, _/_, _≤_, _<_, max}
 use mathlib.Core.Bool.{cond}
 use mathlib.Core.List.{List, [], _∷_, _++_}
 use mathlib.Core.Logic.{_⊎_, inl, inr, ⊎-elim}
-use mathlib.Core.Path.{_≡_, refl, sym, ap, ap₂, subst, _∙_}
+use mathlib.Core.Path.{_≡_, refl, sym, ap, ap₂, _∙_}
 use lib.Dec.{ltb}
 use lib.ListN.{length, getD, set, length-set}
 use native.Mathlib.Nat.{le-of-suc-le-suc, not-suc-le-zero, le-refl, le-trans, suc-mul, mul-suc, one-mul, mul-zero, mul-le-mul-right}
@@ -14,7 +14,7 @@ use Rattle.lists.specs.Lists.{total}
 use Rattle.lists.proofs.Orders.{lt-or-ge}
 use Rattle.lists.proofs.Totals.{turned, rested, length-turned, total-turned, turned-at, turned-next, turned-all}
 use Rattle.clip.specs.Clip.{walk, nextStart, starts}
-use Rattle.clip.proofs.Walks.{walk-done, walk-end, walk-gain, walk-skip, length-walk, total-walk, walk-rest, walk-kept, walk-hands, walk-grows, walk-most}
+use Rattle.clip.proofs.Walks.{walk-done, walk-gain, walk-skip, length-walk, total-walk, walk-rest, walk-kept, walk-hands, walk-grows, walk-most}
 
 -- how many bins stand before the first one under the limit
 unfoldable pub ahead : ℕ → List ℕ → ℕ
@@ -86,7 +86,7 @@ next-in b s h = go (lt-or-ge (s + 1) b)
     go (inr u) = rw (le-ltb (s + 1) b u) (omega arith)
 
 -- each start leaves fewer due
-due-less : (l s step : ℕ) (cs : List ℕ) (r : ℕ) (ds : List ℕ) (t : ℕ) → 0 < step → s < length cs → total cs + r ≤ l * length cs
+pub due-less : (l s step : ℕ) (cs : List ℕ) (r : ℕ) (ds : List ℕ) (t : ℕ) → 0 < step → s < length cs → total cs + r ≤ l * length cs
     → walk l step s cs r ≡ record { counts = ds; rest = t } → 0 < t → due l (nextStart (length cs) s) ds t < due l s cs r
 unfolding due
 due-less l s step cs r ds t p h room e q = go (lt-or-ge t r)
@@ -255,7 +255,7 @@ some-fuel {l} {left} {first} {s} {cs} {r} i p =
     omega (arith, i .enough p, one-mul (length cs))
 
 -- a start whose walk ends with something left
-starting-next : {l left : ℕ} {first : List ℕ} {s : ℕ} {cs : List ℕ} {r : ℕ} (step : ℕ) {ds : List ℕ} {t : ℕ} → Starting l left first s cs r
+pub starting-next : {l left : ℕ} {first : List ℕ} {s : ℕ} {cs : List ℕ} {r : ℕ} (step : ℕ) {ds : List ℕ} {t : ℕ} → Starting l left first s cs r
     → 0 < r → 0 < step → step ≡ max 1 (length cs / r) → walk l step s cs r ≡ record { counts = ds; rest = t } → 0 < t
     → Starting l left first (nextStart (length cs) s) ds t
 starting-next {l} {left} {first} {s} {cs} {r} step {ds} {t} i p o q e z =
@@ -281,21 +281,6 @@ starting-stop : {l left : ℕ} {first : List ℕ} {s : ℕ} {cs : List ℕ} {r :
 starting-stop {l} {left} {first} {s} {cs} {r} step {ds} i p q e =
     sym (starts-one (i .fuel - 1) l s cs r step ds 0 p q e ∙ starts-none (i .fuel - 1) l (nextStart (length cs) s) ds)
     ∙ (ap (λ k. starts k l s cs r) (sym (some-fuel i p)) ∙ i .same)
-
--- the same, as the code has it: the number of bins and the next start are numbers of their own
-pub turn-next : {l left : ℕ} {first : List ℕ} {s : ℕ} {cs : List ℕ} {r : ℕ} {step : ℕ} {ds : List ℕ} {t : ℕ} (b u : ℕ)
-    → Starting l left first s cs r → b ≡ length cs → 0 < r → 0 < step → step ≡ max 1 (b / r)
-    → walk l step s cs r ≡ record { counts = ds; rest = t } → 0 < t → u ≡ nextStart b s → Starting l left first u ds t
-turn-next {l} {left} {first} {s} {cs} {r} {step} {ds} {t} b u i n p o q e z v =
-    subst (λ k. Starting l left first k ds t) (sym (v ∙ ap (λ k. nextStart k s) n))
-    (starting-next step i p o (q ∙ ap (λ k. max 1 (k / r)) n) e z)
-
--- each start leaves fewer due, as the code has it
-pub turn-less : {l left : ℕ} {first : List ℕ} {s : ℕ} {cs : List ℕ} {r : ℕ} {step : ℕ} {ds : List ℕ} {t : ℕ} (b u : ℕ)
-    → Starting l left first s cs r → b ≡ length cs → 0 < step → walk l step s cs r ≡ record { counts = ds; rest = t } → 0 < t
-    → u ≡ nextStart b s → due l u ds t < due l s cs r
-turn-less {l} {left} {first} {s} {cs} {r} {step} {ds} {t} b u i n o e z v =
-    subst (λ k. due l k ds t < due l s cs r) (sym (v ∙ ap (λ k. nextStart k s) n)) (due-less l s step cs r ds t o (i .bin) (i .room) e z)
 
 -- the walk of a start hands out the last one, as the code has it
 pub turn-stop : {l left : ℕ} {first : List ℕ} {s : ℕ} {cs : List ℕ} {r : ℕ} {step : ℕ} {ds : List ℕ} (b : ℕ) → Starting l left first s cs r
@@ -336,11 +321,6 @@ walking-skip {l} {step} {s} {first} {before} {at} {cs} {r} {ds} {t} i o h u d e 
     let g : walk l step at cs r ≡ walk l step (at + step) cs r =
     ap (walk l step at cs) f ∙ (walk-skip l step at cs (r - 1) o h u ∙ ap (walk l step (at + step) cs) (sym f)) in
     record { same = ap₂ (walk l step (at + step)) d e ∙ (sym g ∙ i .same); some = omega (arith, i .some); long = ap length d ∙ i .long }
-
--- the walk is over behind the last bin
-pub walking-end : {l step s : ℕ} {first : List ℕ} {before at : ℕ} {cs : List ℕ} {r : ℕ} → Walking l step s first before at cs r → length cs ≤ at
-    → walk l step s first before ≡ record { counts = cs; rest = r }
-walking-end {l} {step} {s} {first} {before} {at} {cs} {r} i h = sym (i .same) ∙ walk-end l step at cs r h
 
 -- the walk is over the moment nothing is left
 pub walking-stop : {l step s : ℕ} {first : List ℕ} {before at : ℕ} {cs : List ℕ} {r : ℕ} → Walking l step s first before at cs r → 0 < step

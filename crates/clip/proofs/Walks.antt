@@ -21,14 +21,6 @@ unfolding walk
 walk-done l step gap [] = refl
 walk-done l step gap (c ∷ cs) = refl
 
--- behind the last bin nothing changes
-pub walk-end : (l step gap : ℕ) (cs : List ℕ) (r : ℕ) → length cs ≤ gap → walk l step gap cs r ≡ record { counts = cs; rest = r }
-unfolding walk
-walk-end l step gap [] r h = refl
-walk-end l step gap (c ∷ cs) zero h = refl
-walk-end l step zero (c ∷ cs) (suc r) h = absurd (not-suc-le-zero h)
-walk-end l step (suc gap) (c ∷ cs) (suc r) h = ap (behind c) (walk-end l step gap cs (suc r) (le-of-suc-le-suc h))
-
 -- a bin is passed over
 walk-pass : (l step gap c : ℕ) (cs : List ℕ) (r : ℕ) → 0 < gap → walk l step gap (c ∷ cs) r ≡ behind c (walk l step (gap - 1) cs r)
 unfolding walk
@@ -49,6 +41,17 @@ walk-under l step c cs r u = ap (chosen (behind (c + 1) (walk l step (step - 1) 
 walk-over : (l step c : ℕ) (cs : List ℕ) (r : ℕ) → l ≤ c → walk l step 0 (c ∷ cs) (suc r) ≡ behind c (walk l step (step - 1) cs (suc r))
 unfolding walk
 walk-over l step c cs r u = ap (chosen (behind (c + 1) (walk l step (step - 1) cs r)) (behind c (walk l step (step - 1) cs (suc r)))) (le-ltb c l u)
+
+-- a walk over full bins changes nothing
+pub walk-full : (l step gap : ℕ) (cs : List ℕ) (r : ℕ) → ((i : ℕ) → gap ≤ i → i < length cs → l ≤ getD cs i 0)
+    → walk l step gap cs r ≡ record { counts = cs; rest = r }
+unfolding walk
+walk-full l step gap [] r f = refl
+walk-full l step gap (c ∷ cs) zero f = refl
+walk-full l step (suc gap) (c ∷ cs) (suc r) f = ap (behind c) (walk-full l step gap cs (suc r) (λ i h k. f (suc i) (omega arith) (omega arith)))
+walk-full l step zero (c ∷ cs) (suc r) f =
+    walk-over l step c cs r (f 0 (omega arith) (omega arith))
+    ∙ ap (behind c) (walk-full l step (step - 1) cs (suc r) (λ i h k. f (suc i) (omega arith) (omega arith)))
 
 -- the bin at the walk's place is under the limit: the walk goes on from the next place, with one less left
 pub walk-gain : (l step at : ℕ) (cs : List ℕ) (r : ℕ) → 0 < step → at < length cs → getD cs at 0 < l

@@ -3,7 +3,7 @@
 use Prim.Native.Nat.{ℕ, _+_, _-_, _*_, _≤_, _<_}
 use mathlib.Core.List.{List, map}
 use mathlib.Core.Path.{_≡_}
-use lib.ListN.{length}
+use lib.ListN.{length, getD}
 use Rattle.lists.specs.Lists.{total}
 use Rattle.clip.specs.Clip.{shared, taken}
 
@@ -29,3 +29,8 @@ pub record WalkAsks (limit left : ℕ) (counts : List ℕ) : Type 0 where
   pub some-bin : 0 < length counts
   pub few-bins : length counts ≤ 4096
   pub room : total counts + left ≤ limit * length counts
+
+-- the bins from `end` on are full: no walk hands anything out from there on
+pub record Shut (limit end : ℕ) (counts : List ℕ) : Type 0 where
+  pub full : (i : ℕ) → end ≤ i → i < length counts → limit ≤ getD counts i 0
+  pub within : end ≤ length counts

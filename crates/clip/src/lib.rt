@@ -4,7 +4,7 @@ ghost use Prim.Native.Nat.{_-_, _*_, _/_, _≤_, _<_, max};
 ghost use lib.ListN.{length};
 ghost use Rattle.lists.specs.Lists.{total};
 ghost use Rattle.clip.specs.Clip.{excess, shared, taken, starts, nextStart, clipped};
-ghost use Rattle.clip.specs.Asks.{ClipAsks, PassAsks, Passed, WalkAsks};
+ghost use Rattle.clip.specs.Asks.{ClipAsks, PassAsks, Passed, WalkAsks, Shut};
 
 // What of a count stands above the limit.
 fn above(count: u32, limit: u32) -> u32
@@ -84,10 +84,27 @@ fn step_of(bins: usize, r: u64) -> usize
 
 // The start behind this one: the first bin comes after the last.
 fn next_start(bins: usize, start: usize) -> usize
-    requires { ⌜ start < bins ⌝ }
+    requires { ⌜ start < 4096 ⌝ }
     ensures { λ s. ⌜ s ≡ nextStart bins start ⌝ }
 {
     if start + 1 < bins { start + 1 } else { 0 }
+}
+
+// Where the bins under the limit end, looked for from `end` down; the bins from `end` on are full. With a factor near one nearly all
+// bins end full, those at the back first, and a walk that went on to the last bin would look at full bins most of the time.
+fn open_end(counts: &[u32], limit: u32, end: usize) -> usize
+    requires { ⌜ Shut limit end (now counts) ⌝ }
+    ensures { λ r. ⌜ Shut limit r (now (counts .entry)) ⌝ }
+{
+    let mut e = end;
+    while 0 < e {
+        let last = e - 1;
+        if counts[last] < limit {
+            return e;
+        }
+        e = last;
+    }
+    e
 }
 
 // The leftover, one by one to the bins under the limit, from every start in turn, until nothing is left.
@@ -98,10 +115,11 @@ fn hand_out(counts: &mut [u32], limit: u32, left: u64)
     let bins = counts.len();
     let mut r = left;
     let mut start = 0;
+    let mut end = bins;
     'starts: while 0 < r {
         let step = step_of(bins, r);
         let mut at = start;
-        while at < bins {
+        while at < end {
             if counts[at] < limit {
                 counts[at] += 1;
                 r -= 1;
@@ -111,7 +129,8 @@ fn hand_out(counts: &mut [u32], limit: u32, left: u64)
             }
             at += step;
         }
-        start = next_start(bins, start);
+        end = open_end(counts, limit, end);
+        start = next_start(end, start);
     }
 }
 
