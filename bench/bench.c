@@ -35,12 +35,13 @@ static const struct reel {
 
 /* In the order in which they take turns: draw comes behind prepare, with whose mappings it draws. */
 enum call {
-    ENHANCE, ENHANCE_BYTES, BY_1994, COPY, SCAN, UNCLIPPED, PREPARE, DRAW, PREPARE_BYTES, DRAW_BYTES, WRITE, READ, CALLS
+    ENHANCE, ENHANCE_BYTES, BY_1994, COPY, SCAN, UNCLIPPED, NEAR_ONE, PREPARE, DRAW, PREPARE_BYTES, DRAW_BYTES, WRITE,
+    READ, CALLS
 };
 
 #define ONE(call) (1u << (call))
 #define BYTES (ONE(ENHANCE_BYTES) | ONE(PREPARE_BYTES) | ONE(DRAW_BYTES)) /* for films of 8 bits alone */
-#define ALL ((ONE(CALLS) - 1) & ~BYTES)
+#define ALL ((ONE(CALLS) - 1) & ~BYTES & ~ONE(NEAR_ONE))
 
 static const struct {
     void (*before)(struct bench *);
@@ -49,6 +50,7 @@ static const struct {
     [ENHANCE] = {lay_out, call_enhance}, [BY_1994] = {lay_out, call_1994},     [COPY] = {NULL, call_copy},
     [SCAN] = {NULL, call_scan},          [UNCLIPPED] = {NULL, call_unclipped}, [PREPARE] = {NULL, call_prepare},
     [DRAW] = {NULL, call_draw},          [WRITE] = {NULL, call_write},         [READ] = {NULL, call_read},
+    [NEAR_ONE] = {NULL, call_near_one},
     [ENHANCE_BYTES] = {lay_out_bytes, call_enhance_bytes},
     [PREPARE_BYTES] = {NULL, call_prepare_bytes},
     [DRAW_BYTES] = {NULL, call_draw_bytes},
@@ -101,6 +103,8 @@ static struct result measure(const struct subject *of, unsigned which)
     struct bench b;
     open_bench(&b, of);
     check(&b);
+    if ((which & ONE(NEAR_ONE)) != 0)
+        check_near_one(&b);
     struct result r = {.pixels = (double)b.pixels, .area = (double)b.area, .share = share_of(&b)};
     for (int i = rounds(of->side); i > 0; i--)
         for (int c = 0; c < CALLS; c++)
@@ -318,14 +322,40 @@ static void bins_row(enum kind kind, uint32_t side, uint32_t bins)
 static void bins_table(void)
 {
     static const uint32_t ends[] = {512, 4096}, bins[] = {128, 256, 1024, 4096};
+    static const enum kind plates[] = {NOISY, CALM};
     printf("\n### Bins\n\n"
            "Nanoseconds a pixel, 12 bits. Share: percent of the pixels that lie in their left neighbour's bin.\n\n");
     printf("| side | film | bins | share | enhance | prepare | rendering | 1994 | enhance of 1994 |\n"
            "|---|---|---|---|---|---|---|---|---|\n");
     for (size_t i = 0; i < MANY(ends); i++)
-        for (int kind = 0; kind < KINDS; kind++)
+        for (size_t j = 0; j < MANY(plates); j++)
             for (size_t k = 0; k < MANY(bins); k++)
-                bins_row((enum kind)kind, ends[i], bins[k]);
+                bins_row(plates[j], ends[i], bins[k]);
+}
+
+/* ---- clipping near one ---- */
+
+/* Prepare with clip off does all that prepare at a factor does but clipping. */
+static void near_one_row(enum kind kind, uint32_t grid, uint32_t bins)
+{
+    struct subject of = {kind, 4096, 12, grid, bins, SMALL_WINDOW};
+    struct result r = measure(&of, ONE(UNCLIPPED) | ONE(NEAR_ONE));
+    double off = r.best[UNCLIPPED] / 1e6, near = r.best[NEAR_ONE] / 1e6;
+    printf("| %4u | %-6s | %u by %u | %4u |", (unsigned)of.side, film_name(kind), (unsigned)grid, (unsigned)grid,
+           (unsigned)bins);
+    printf(" %7.1f | %7.1f | %7.1f |\n", off, near, near - off);
+    fflush(stdout);
+}
+
+static void near_one_table(void)
+{
+    printf("\n### Clipping near one\n\n"
+           "Prepare with clip off and at factor 1.0001, milliseconds; the difference is clipping. 12 bits.\n"
+           "All bins end full.\n\n");
+    printf("| side | film | grid | bins | clip off | 1.0001 | clipping |\n|---|---|---|---|---|---|---|\n");
+    near_one_row(NOISY, GRID, BINS);
+    near_one_row(CALM, GRID, BINS);
+    near_one_row(COMBED, 2, 2048);
 }
 
 /* ---- how time grows ---- */
@@ -387,6 +417,7 @@ static void run(const char *opencv)
     bytes_table();
     comparison();
     bins_table();
+    near_one_table();
     growth_table();
 }
 

@@ -104,6 +104,13 @@ long call_unclipped(struct bench *b)
     return prepare_by(b, &off);
 }
 
+long call_near_one(struct bench *b)
+{
+    tz_settings near = b->settings;
+    near.factor = 1.0001f;
+    return prepare_by(b, &near);
+}
+
 long call_draw(struct bench *b)
 {
     return tzofnadir_draw(FILM, b->of.side, b->of.side, b->film, b->pixels, &b->settings, &b->record, &b->window,
@@ -213,4 +220,15 @@ void check(struct bench *b)
     check_window(b);
     if (b->bytes != NULL)
         check_bytes(b);
+}
+
+void check_near_one(struct bench *b)
+{
+    const tz_settings *s = &b->settings;
+    must("prepare near one", call_near_one(b));
+    if ((uint64_t)b->footer.limit * s->bins * s->across * s->down != b->pixels)
+        end("the bins hold more than a tile's pixels, limit", b->footer.limit);
+    for (size_t i = 0; i < tz_map_entries(s); i++)
+        if (b->map[i] != s->min + (i % s->bins + 1) * (s->max - s->min) / s->bins)
+            end("a mapping near one does not rise as it should, entry", (long)i);
 }

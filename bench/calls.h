@@ -8,7 +8,7 @@
 #include "film.h"
 #include "tzofnadir.h"
 
-/* What a bench is opened for. The range is 0 to maxval and the factor 3.0. */
+/* What a bench is opened for. The range is 0 to maxval and the factor 3.0, but where a call says otherwise. */
 struct subject {
     enum kind kind;
     uint32_t side, bits;
@@ -54,11 +54,13 @@ void lay_out_bytes(struct bench *b);
  *            and nothing else is done. It is as it should be if prepare refuses with 13.
  * .. bytes:  the calls on bytes, for a film of 8 bits with a grid of 8 by 8 and 64, 128 or 256 bins.
  * unclipped: prepare with clip off. Its record is not that of the settings: draw wants prepare before it.
+ * near one:  prepare at the factor 1.0001, and so is its record not that of the settings.
  */
 long call_enhance(struct bench *b);
 long call_prepare(struct bench *b);
 long call_scan(struct bench *b);
 long call_unclipped(struct bench *b);
+long call_near_one(struct bench *b);
 long call_draw(struct bench *b);
 long call_write(struct bench *b);
 long call_read(struct bench *b);
@@ -73,5 +75,11 @@ long call_draw_bytes(struct bench *b);
  * drawn window is not enhance's, or a call on bytes leaves other greys or mappings. Leaves enhance's picture in `picture`.
  */
 void check(struct bench *b);
+
+/*
+ * Near one, where the bins hold a tile's pixels and no more, every bin ends full and every mapping rises evenly.
+ * Ends the program where one does not.
+ */
+void check_near_one(struct bench *b);
 
 #endif

@@ -4,11 +4,11 @@
 
 #include <stdint.h>
 
-enum kind { NOISY, CALM, KINDS };
+enum kind { NOISY, CALM, COMBED, KINDS };
 
 const char *film_name(enum kind kind);
 
-/* Draws a square film of 8 or 12 bits into `film`, row by row. */
+/* Draws a square film of 8 or 12 bits into `film`, row by row; the combed one is of 12 bits. */
 void film_draw(uint16_t *film, enum kind kind, uint32_t side, uint32_t bits);
 
 /* Of the pixels that have a left neighbour, the share that lies in its bin, where a bin is `wide` greys from 0 on. */

@@ -1,12 +1,12 @@
 """Prepare, draw and enhance: a second reading of document 01, and of document
-02's order 1 (byte films).
+02's orders 1 (byte films) and 2 (no more refusal 14).
 
 Plain and slow. Whole numbers and fractions.Fraction only; the one float is
 the division behind the footer's "factor used", which Python rounds correctly
 for two whole numbers.
 
-A quoted sentence in a comment is document 01's own, below the last heading
-document 02's.
+A quoted sentence in a comment is document 01's own; below the last heading,
+and where an order is named before it, document 02's.
 
 An answer is either a whole number (the refusal) or a tuple (the results).
 Pictures, map buffers, scratch and outputs are lists that the caller lends.
@@ -66,9 +66,12 @@ def bin_of(grey, low, high, bins):
 
 def limit_of(bits, pixels, bins):
     """"L = floor(factor x N / B) in whole numbers, and at least 1. Nothing is
-    rounded before the floor." """
+    rounded before the floor."  Order 2: "Let the limit be the larger of
+    today's L and the tile's pixels over the bins, rounded up." """
     exact = factor_number(bits) * pixels / bins
-    return max(1, exact.numerator // exact.denominator)
+    today = max(1, exact.numerator // exact.denominator)
+    rounded_up = pixels // bins + (1 if pixels % bins else 0)
+    return max(today, rounded_up)
 
 
 def excess_of(counts, limit):
@@ -254,24 +257,19 @@ def refusal_1_to_11(width, height, picture, settings, map_buffer):
     return 0
 
 
-def refusal_1_to_14(width, height, picture, settings, map_buffer, scratch):
-    """"Prepare and enhance: 1 to 14 upward."  0 when none applies."""
+def refusal_1_to_13(width, height, picture, settings, map_buffer, scratch):
+    """"Prepare and enhance: 1 to 14 upward."  Order 2: "Strike 14".  0 when
+    none applies."""
     refusal = refusal_1_to_11(width, height, picture, settings, map_buffer)
     if refusal:
         return refusal
-    bins = bin_count(settings.bins)
     # 12: "scratch shorter than B"
-    if len(scratch) < bins:
+    if len(scratch) < bin_count(settings.bins):
         return 12
     # 13: "a pixel outside Min to Max"
     for grey in picture:
         if grey < settings.min or grey > settings.max:
             return 13
-    # 14: "factor above 1.0 and L x B < N"
-    if settings.clip is not None and factor_number(settings.clip) > 1:
-        pixels = (width // settings.across) * (height // settings.down)
-        if limit_of(settings.clip, pixels, bins) * bins < pixels:
-            return 14
     return 0
 
 
@@ -312,7 +310,7 @@ def lay_down(width, height, picture, settings, map_buffer, scratch):
 def prepare(film_number, width, height, picture, settings, map_buffer, scratch):
     """"**prepare** (make the tile mappings of a film)".  "It returns the map
     record and a footer record".  A refusal changes nothing."""
-    refusal = refusal_1_to_14(width, height, picture, settings, map_buffer, scratch)
+    refusal = refusal_1_to_13(width, height, picture, settings, map_buffer, scratch)
     if refusal:
         return refusal
     lay_down(width, height, picture, settings, map_buffer, scratch)
@@ -324,7 +322,7 @@ def prepare(film_number, width, height, picture, settings, map_buffer, scratch):
 def enhance(width, height, picture, settings, map_buffer, scratch):
     """"Enhance: the same buffers and footer, and the picture rendered. Factor
     1.0: nothing changes." """
-    refusal = refusal_1_to_14(width, height, picture, settings, map_buffer, scratch)
+    refusal = refusal_1_to_13(width, height, picture, settings, map_buffer, scratch)
     if refusal:
         return refusal
     lay_down(width, height, picture, settings, map_buffer, scratch)

@@ -1,5 +1,5 @@
 """The worked numbers of document 01, "Numbers to check by hand", one by one,
-and the profile of document 02's order 1.
+as document 02's order 2 changes them, and the profile of its order 1.
 
 Run: python3 second/test_worked.py   (prints the number of checks)
 """
@@ -38,14 +38,32 @@ def prepared(width, height, across, down, bins, low, high, clip, grey=0, film=7)
 
 
 def limits():
-    """"N 100, B 64: factor 1.5 gives L 2; 1.25 gives L 1 and refusal 14. N 1,
-    B 4, factor 2: L 1." """
+    """"N 100, B 64: factor 1.5 gives L 2" and "N 1, B 4, factor 2: L 1."
+    Order 2: "N 100, B 64, factor 1.25 gives L 2, and N 17, B 4 gives L 5 for
+    a factor that gave 4." """
     same(clahe.limit_of(f32(1.5), 100, 64), 2)
-    same(clahe.limit_of(f32(1.25), 100, 64), 1)
+    same(clahe.limit_of(f32(1.25), 100, 64), 2)
     same(prepared(20, 20, 2, 2, 64, 0, 255, f32(1.5))[1].limit, 2)
-    same(prepared(20, 20, 2, 2, 64, 0, 255, f32(1.25)), 14)
+    same(prepared(20, 20, 2, 2, 64, 0, 255, f32(1.25))[1].limit, 2)
     same(clahe.limit_of(f32(2.0), 1, 4), 1)
     same(prepared(2, 2, 2, 2, 4, 0, 255, f32(2.0))[1].limit, 1)
+    # N 17 is a tile of 17 by 1; 1.125 and the f32 next above 1.0 both gave 4.
+    same(clahe.limit_of(f32(1.125), 17, 4), 5)
+    same(prepared(34, 2, 2, 2, 4, 0, 15, f32(1.125))[1].limit, 5)
+    same(clahe.limit_of(0x3F800001, 17, 4), 5)
+    # N a multiple of B, N below B, and a factor whose own L is the larger.
+    same(clahe.limit_of(0x3F800001, 16, 4), 4)
+    same(clahe.limit_of(0x3F800001, 3, 4), 1)
+    same(clahe.limit_of(f32(1.5), 17, 4), 6)
+    # "the larger of today's L and the tile's pixels over the bins, rounded
+    # up": it holds the tile, and where it is not today's L no lower number
+    # does.
+    for bits in (0x3F800001, f32(1.25), f32(1.5), f32(3.0)):
+        factor = clahe.factor_number(bits)
+        found = [(pixels, b, clahe.limit_of(bits, pixels, b)) for pixels in range(1, 70) for b in range(2, 40)]
+        same(all(limit * b >= pixels for pixels, b, limit in found), True)
+        same(all(limit == max(1, int(factor * pixels / b)) or (limit - 1) * b < pixels
+                 for pixels, b, limit in found), True)
 
 
 def clips():
@@ -58,10 +76,8 @@ def clips():
     same(clahe.clipped([19, 6, 0, 0], 7), [7, 7, 6, 5])
     same(sum(clahe.clipped([19, 6, 0, 0], 7)), 25)
     same(clahe.clipped([16, 0, 0, 0], 4), [4, 4, 4, 4])
-    # "L 4, B 4, N 17: refusal 14."  N 17 is a tile of 17 by 1; factor 1.0 to
-    # the next f32 gives floor(17 / 4) = 4.
-    same(clahe.limit_of(0x3F800001, 17, 4), 4)
-    same(prepared(34, 2, 2, 2, 4, 0, 15, 0x3F800001), 14)
+    # Order 2: L 5 where N is 17 and B is 4, which L 4 could not hold.
+    same(clahe.clipped([17, 0, 0, 0], 5), [5, 4, 4, 4])
     # The same 16,0,0,0 at L 6 through prepare: a flat film with tiles of 4 by
     # 4, factor 1.5.
     maps = [77] * 18
@@ -109,6 +125,10 @@ def footers():
          clahe.Footer(0, 0x3F800000, 0x3FF0000000000000))
     same(prepared(20, 20, 2, 2, 64, 0, 255, 0x3F7FFFFF), 10)
     same(prepared(20, 20, 2, 2, 64, 0, 255, None)[1], clahe.Footer(0, 0, 0))
+    # Order 2: "The footer shows that L and the factor it really stands for."
+    record, footer = prepared(20, 20, 2, 2, 64, 0, 255, f32(1.25))
+    same(footer, clahe.Footer(2, 0x3FA00000, struct.unpack(">Q", struct.pack(">d", 1.28))[0]))
+    same(record.settings.clip, 0x3FA00000)
 
 
 WORKED_FILM = [0, 0, 0, 4, 0, 0, 8, 12, 15, 15, 0, 0, 15, 15, 15, 15]

@@ -60,6 +60,7 @@ judge() { # WHAT WANTED SAW
     grep -qF -- "$told" said || ok=no
     told=''
     if [ "$3" -ne 0 ] && ! cmp -s before "$out"; then ok=no; fi
+    if [ "$3" -eq 0 ] && [ "$(head -c 2 "$out")" != P5 ]; then ok=no; fi
     no_leftover out || ok=no
     report "$ok" "$1" "status $3: $(head -n 1 said | cut -c 1-90)"
 }
@@ -107,7 +108,6 @@ try '--clip inf' 10 enhance film.pgm "$out" --clip inf
 try '--clip 1e99' 10 enhance film.pgm "$out" --clip 1e99
 try '--clip -1' 10 enhance film.pgm "$out" --clip -1
 try 'a pixel above the range' 13 enhance film.pgm "$out" --range 0:1000
-try 'bins that cannot hold a tile' 14 enhance film.pgm "$out" --bins 125 --clip 1.01
 { printf 'P5\n512 384\n255\n'; raster | head -c 196608; } >shallow.pgm
 told='The rendering has greys above'
 try 'a rendering above maxval, by --range' 26 enhance shallow.pgm "$out" --range 0:4095
@@ -119,12 +119,19 @@ told='outside the byte profile'
 try '--bytes --range 0:254, before 13' 30 enhance shallow.pgm "$out" --bytes --range 0:254
 try '--bytes --grid 4x4 --clip nan' 10 enhance shallow.pgm "$out" --bytes --grid 4x4 --clip nan
 try '--bytes --grid 17x8 --bins 100' 3 enhance shallow.pgm "$out" --bytes --grid 17x8 --bins 100
-{ printf 'P5\n80 80\n255\n'; head -c 6400 /dev/zero; } >small.pgm
-try '--bytes, and bins that cannot hold a tile' 14 enhance small.pgm "$out" --bytes --bins 64 --clip 1.25
 try '--bytes, and a window across the edge' 16 window shallow.pgm "$out" --bytes --at 511,0 --size 2x2
 try 'an empty window' 16 window film.pgm "$out" --at 0,0 --size 0x0
 try 'a window across the edge' 16 window film.pgm "$out" --at 511,0 --size 2x2
 try 'a window of 2^64 pixels' 16 window film.pgm "$out" --at 4294967295,4294967295 --size 4294967295x4294967295
+
+# ---- a factor near 1.0: the limit that just holds a tile, told in the footer, and no refusal
+told='limit 25, factor asked 1.00999999, factor used 1.0172526041666667'
+try '--bins 125 --clip 1.01: rendered' 0 enhance film.pgm "$out" --bins 125 --clip 1.01
+told='limit 25, factor asked 1.00000012, factor used 1.0172526041666667'
+try 'the factor next above 1.0, a window: rendered' 0 window film.pgm "$out" --bins 125 --clip 1.00000012 --at 9,9 --size 7x7
+{ printf 'P5\n80 80\n255\n'; head -c 6400 /dev/zero; } >small.pgm
+told='limit 2, factor asked 1.25, factor used 1.28'
+try '--bytes --bins 64 --clip 1.25, tiles of 100 pixels: rendered' 0 enhance small.pgm "$out" --bytes --bins 64 --clip 1.25
 
 # ---- bytes: inside the profile the film and the footer are those of the same command without --bytes
 alike() { # WHAT COMMAND SETTINGS..

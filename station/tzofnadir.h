@@ -54,7 +54,6 @@ enum tz_refusal {
     TZ_MAP_SHORT = 11,       /* map buffer shorter than (grid across) x (grid down) x B */
     TZ_SCRATCH_SHORT = 12,   /* scratch shorter than B */
     TZ_PIXEL_OUTSIDE = 13,   /* a pixel outside Min to Max */
-    TZ_CLIP = 14,            /* factor above 1.0 and L x B < N */
     TZ_RECORD = 15,          /* record differs in film number, size or any setting */
     TZ_WINDOW = 16,          /* window empty or not inside the film */
     TZ_OUTPUT_LENGTH = 17,   /* output length is not the window's area */
@@ -88,7 +87,7 @@ static inline const char *tz_refusal_text(uint32_t refusal)
         "The map buffer is shorter than the grid across times the grid down times the bins.",
         "The scratch buffer is shorter than the bins.",
         "A pixel of the film lies outside the grey range.",
-        "The clip factor is so low that the bins cannot hold a tile's pixels.",
+        "There is no refusal of this number.",
         "The mappings are those of another film, another size or other settings.",
         "The window is empty or does not lie inside the film.",
         "The output's length is not the window's area.",
@@ -274,7 +273,7 @@ static inline tz_footer tz_footer_of(uint32_t limit, float asked, double used)
  * Give each film that is open at the same time a number of its own.
  *
  * Sizes: picture_len is width x height; map_len at least tz_map_entries, scratch_len at least tz_scratch_entries.
- * Refusals, the first that applies: 1 to 14 upward.
+ * Refusals, the first that applies: 1 to 13 upward.
  */
 static inline uint32_t tzofnadir_prepare(uint32_t film, uint32_t width, uint32_t height,
                                          const uint16_t *picture, size_t picture_len, const tz_settings *s,
@@ -298,7 +297,7 @@ static inline uint32_t tzofnadir_prepare(uint32_t film, uint32_t width, uint32_t
  * Enhance: renders the whole film in place. Map, scratch and footer as prepare leaves them. At factor 1.0
  * nothing changes.
  *
- * Sizes as for prepare. Refusals, the first that applies: 1 to 14 upward.
+ * Sizes as for prepare. Refusals, the first that applies: 1 to 13 upward.
  */
 static inline uint32_t tzofnadir_enhance(uint32_t width, uint32_t height, uint16_t *picture, size_t picture_len,
                                          const tz_settings *s, uint16_t *map, size_t map_len,
@@ -345,7 +344,7 @@ static inline uint32_t tzofnadir_draw(uint32_t film, uint32_t width, uint32_t he
  * mappings in bytes here and in 16 bits there. A call takes up to 80 KiB of stack: rows and mappings are widened there.
  *
  * Sizes as for the wide calls; an entry of the map buffer is a byte.
- * Refusals, the first that applies: 1 to 10 upward, 30, then 11, 12, 14. A byte lies in 0 to 255, so 13 is never given.
+ * Refusals, the first that applies: 1 to 10 upward, 30, then 11, 12. A byte lies in 0 to 255, so 13 is never given.
  */
 static inline uint32_t tzofnadir_prepare_bytes(uint32_t film, uint32_t width, uint32_t height,
                                                const uint8_t *picture, size_t picture_len, const tz_settings *s,

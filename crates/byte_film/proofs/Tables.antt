@@ -27,8 +27,8 @@ module _ (w h : ℕ) (pic : List ℕ) (s : Settings) (room scratch : ℕ) where
   unfolding bytePrepareRows
   bytes-shared e z = front (byteRows w h (length pic) s room) _ e z
 
-  -- none of them does, and 12 to 14 decide
-  pub bytes-work : {a r : ℕ} → a ≡ first (byteRows w h (length pic) s room) → a ≡ 0 → r ≡ first (workRows w h pic s scratch) → r ≡ first (bytePrepareRows w h pic s room scratch)
+  -- none of them does, and 12 and 13 decide
+  pub bytes-work : {a r : ℕ} → a ≡ first (byteRows w h (length pic) s room) → a ≡ 0 → r ≡ first (workRows pic s scratch) → r ≡ first (bytePrepareRows w h pic s room scratch)
   unfolding bytePrepareRows
   bytes-work e z q = behind (byteRows w h (length pic) s room) _ (byte-numbered w h (length pic) s room) e z q
 

@@ -8,17 +8,16 @@ use mathlib.Core.Path.{_≡_}
 use lib.ListN.{length, drop}
 use Rattle.lists.specs.Lists.{onto, over, filled}
 use Rattle.refuse.specs.Refuse.{Row, first, unless}
-use Rattle.limit.specs.Limit.{tooTight}
 use Rattle.settings.specs.declared.Settings.{Settings}
 use Rattle.settings.specs.Settings.{binsOf, clipOne}
 use Rattle.prepare.specs.declared.Prepared.the-variants as Prepared
 use Rattle.prepare.specs.declared.Enhanced.the-variants as Enhanced
-use Rattle.prepare.specs.Prepare.{tileMap, mappings, pixelsIn, workRows, Ended, ending, preparedOf, Over, overing, enhancedOf, Work}
+use Rattle.prepare.specs.Prepare.{tileMap, mappings, workRows, Ended, ending, preparedOf, Over, overing, enhancedOf, Work}
 use Rattle.profile.specs.Profile.{byteRows, Profile}
 
 -- "1 to 10 as they stand, then 30 .., then 11 and on as in the wide call"
 unfoldable pub bytePrepareRows : ℕ → ℕ → List ℕ → Settings → ℕ → ℕ → List Row
-bytePrepareRows w h pic s room scratch = byteRows w h (length pic) s room ++ workRows w h pic s scratch
+bytePrepareRows w h pic s room scratch = byteRows w h (length pic) s room ++ workRows pic s scratch
 
 -- prepare on bytes: a refusal keeps all memory; else what prepare does
 unfoldable pub bytePrepareOf : ℕ → ℕ → ℕ → List ℕ → Settings → List ℕ → List ℕ → Ended

@@ -19,14 +19,8 @@ fn refusal(width: u32, height: u32, picture: &[u8], s: Settings, room: usize, sc
     if shared != 0 {
         return shared;
     }
-    let bins = settings::bins(s);
-    if scratch < (bins as usize) {
+    if scratch < (settings::bins(s) as usize) {
         return 12;
-    }
-    let clip = s.clip;
-    let pixels = prepare::tile_pixels(width, height, s, 0);
-    if prepare::too_tight(clip, pixels, bins) {
-        return 14;
     }
     0
 }

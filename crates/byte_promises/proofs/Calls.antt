@@ -17,12 +17,12 @@ use Rattle.prepare.specs.Prepare.{pixelsIn, preparedSays, enhancedSays, Ended, 
 use Rattle.prepare.proofs.Like.{enhance-kept}
 use Rattle.draw.specs.Draw.{drawnSays, Shows, showing, drawOf, Held}
 use Rattle.draw.proofs.Tables.{draw-ready}
-use Rattle.promises.specs.Films.{clippedCounts, ruleGrey, ClippingOn, ClipCase, FooterShows, FilmSound}
+use Rattle.promises.specs.Films.{clippedCounts, ruleGrey, ClippingOn, ClipCase, FooterShows, FilmSound, LimitFits}
 use Rattle.promises.proofs.Accepted.{table-accepted, prepare-work, prepare-record, enhance-work, draw-table}
 use Rattle.promises.proofs.Reuse.{left-settings}
 use Rattle.promises.proofs.Demand2.{own-mapping, own-mapping-enhance, own-rendering, own-pixels, enhance-agrees}
 use Rattle.promises.proofs.Windows.{accepted-by-rule, accepted-as-film, accepted-as-enhanced}
-use Rattle.promises.proofs.Demand3.{tiles-sound, tiles-sound-enhance, footer-shows, footer-shows-enhance, clip-cases}
+use Rattle.promises.proofs.Demand3.{tiles-sound, tiles-sound-enhance, footer-shows, footer-shows-enhance, footer-fits, clip-cases}
 use Rattle.promises.proofs.Runs.{PrepareCall, EnhanceCall, DrawCall}
 use Rattle.promises.proofs.Calls.{drawnGrey}
 use Rattle.byte_promises.proofs.Inside.{prepare-bytes-wide, enhance-bytes-wide, draw-bytes-wide}
@@ -62,6 +62,11 @@ module _ {p : PrepareCall} {r : MapRecord} {foot : Footer} (ran : PreparesBytes 
       rw (ap (λ (z : Footer). z .limit) (prepared-bytes-footer .above f on), ap (λ (z : Ended). z .map) prepare-bytes-as-wide)
       (tiles-sound _ _ _ _ _ (p .map) (p .scratch) prepare-bytes-done on)
 
+  -- whose limit holds each tile
+  pub prepared-bytes-limit-fits : {f : Float} → ClippingOn (p .settings .clip) f
+      → (k : ℕ) → LimitFits f (pixelsIn (p .width) (p .height) (p .settings) k) (binsOf (p .settings)) (foot .limit)
+  prepared-bytes-limit-fits on k = footer-fits (prepare-work _ _ _ _ _ (p .map) (p .scratch) prepare-bytes-done) prepared-bytes-footer on k
+
 -- ---- enhance on bytes
 
 module _ {e : EnhanceCall} {foot : Footer} (ran : EnhancesBytes e) (done : enhancedSays (e .answer) ≡ accepted foot) where
@@ -100,6 +105,10 @@ module _ {e : EnhanceCall} {foot : Footer} (ran : EnhancesBytes e) (done : enhan
   enhanced-bytes-tiles-sound {f} on =
       rw (ap (λ (z : Footer). z .limit) (enhanced-bytes-footer .above f on), ap (λ (z : Over). z .map) enhance-bytes-as-wide)
       (tiles-sound-enhance _ _ _ _ (e .map) (e .scratch) over on)
+
+  pub enhanced-bytes-limit-fits : {f : Float} → ClippingOn (e .settings .clip) f
+      → (k : ℕ) → LimitFits f (pixelsIn (e .width) (e .height) (e .settings) k) (binsOf (e .settings)) (foot .limit)
+  enhanced-bytes-limit-fits on k = footer-fits (enhance-work _ _ _ _ (e .map) (e .scratch) over) enhanced-bytes-footer on k
 
 -- ---- draw on bytes
 

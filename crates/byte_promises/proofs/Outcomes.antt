@@ -1,5 +1,5 @@
--- The byte calls, demand 1 and how tight their promises are: what each answer says, that a refusal keeps all lent memory, that two runs of the same end the same, that 13 and 18
--- are never given, and that outside the profile there is 30 or an earlier number. Of every run by the contracts (Runs); a name with ′ is lent memory at the end.
+-- The byte calls, demand 1 and how tight their promises are: what each answer says, that a refusal keeps all lent memory, that two runs of the same end the same, that 13, 14
+-- and 18 are never given, and that outside the profile there is 30 or an earlier number. Of every run by the contracts (Runs); a name with ′ is lent memory at the end.
 -- Assumes nothing.
 use Prim.Native.Nat.{ℕ, zero, suc}
 use mathlib.Core.Bool.{true, cond}
@@ -16,7 +16,7 @@ use Rattle.narrow.specs.Narrow.{isByte}
 use Rattle.profile.specs.Profile.{profileRows}
 use Rattle.profile.proofs.Greys.{byte-at}
 use Rattle.byte_film.specs.Bytes.{bytePrepareRows, bytePrepareOf, byteEnhanceOf}
-use Rattle.byte_film.proofs.Parts.{bytes-never-13, bytes-outside}
+use Rattle.byte_film.proofs.Parts.{bytes-never-13, bytes-never-14, bytes-outside}
 use Rattle.byte_draw.specs.Bytes.{byteDrawRows, byteDrawOf}
 use Rattle.byte_draw.proofs.Parts.{draw-never-13-18, draw-outside}
 use Rattle.promises.proofs.Accepted.{says-refused, refused-says, table-says, table-kept}
@@ -92,6 +92,15 @@ prepare-bytes-never-13 {p} ran bytes q =
 pub enhance-bytes-never-13 : {e : EnhanceCall} → EnhancesBytes e → all isByte (e .pixels) ≡ true → enhancedSays (e .answer) ≢ refused 13
 enhance-bytes-never-13 {e} ran bytes q =
     bytes-never-13 (e .width) (e .height) (e .pixels) (e .settings) (length (e .map)) (length (e .scratch)) bytes (says-refused _ _ (sym (enhance-bytes-says ran) ∙ q))
+
+-- nor is 14: "a clip refusal never occurs"
+pub prepare-bytes-never-14 : {p : PrepareCall} → PreparesBytes p → preparedSays (p .answer) ≢ refused 14
+prepare-bytes-never-14 {p} ran q =
+    bytes-never-14 (p .width) (p .height) (p .pixels) (p .settings) (length (p .map)) (length (p .scratch)) (says-refused _ _ (sym (prepare-bytes-says ran) ∙ q))
+
+pub enhance-bytes-never-14 : {e : EnhanceCall} → EnhancesBytes e → enhancedSays (e .answer) ≢ refused 14
+enhance-bytes-never-14 {e} ran q =
+    bytes-never-14 (e .width) (e .height) (e .pixels) (e .settings) (length (e .map)) (length (e .scratch)) (says-refused _ _ (sym (enhance-bytes-says ran) ∙ q))
 
 pub draw-bytes-never-13-18 : {d : DrawCall} → DrawsBytes d → all isByte (d .pixels) ≡ true → all isByte (d .map) ≡ true
     → (drawnSays (d .answer) ≢ refused 13) × (drawnSays (d .answer) ≢ refused 18)

@@ -7,7 +7,7 @@ use lib.ListN.{length, getD}
 use Rattle.lists.specs.Lists.{total}
 use Rattle.clip.specs.Clip.{shared, taken}
 
--- bins within "2 to 4096", one at least, a tile's counts, and what refusal 14 leaves out: "L x B < N"
+-- bins within "2 to 4096", one at least, a tile's counts, and a limit under which the bins hold them, as L always is (`limit: limit-holds`)
 pub record ClipAsks (limit : ℕ) (counts : List ℕ) : Type 0 where
   pub some-bin : 0 < length counts
   pub few-bins : length counts ≤ 4096

@@ -1,6 +1,6 @@
 -- Laws of the factor and of the limit, for the crates above. Assumes nothing.
-use Prim.Native.Nat.{ℕ, zero, suc, _*_, _/_, _≤_, _<_, max}
-use native.Mathlib.Nat.{le-trans, le-of-eq, le-max-left, le-max-right, max-le, mul-comm, mul-assoc, mul-right-comm, mul-le-mul, mul-le-mul-left, mul-le-mul-right, le-of-mul-le-mul-right, eq-of-mul-eq-mul-right, div-mul-le-self, le-div-iff-mul-le}
+use Prim.Native.Nat.{ℕ, zero, suc, _+_, _-_, _*_, _/_, _≤_, _<_, max}
+use native.Mathlib.Nat.{le-trans, le-of-eq, le-max-left, le-max-right, max-le, mul-comm, mul-assoc, mul-right-comm, mul-le-mul, mul-le-mul-left, mul-le-mul-right, le-of-mul-le-mul-right, eq-of-mul-eq-mul-right, div-mul-le-self, le-div-iff-mul-le, lt-div-mul-add, div-lt-iff-lt-mul, le-of-lt, le-of-suc-le-suc, suc-mul}
 use native.Mathlib.Omega.{arith}
 use mathlib.Core.Bool.{Bool, true, false, _&&_, true≢false, and-true, and-eq-true-iff}
 use mathlib.Core.Logic.{_↔_}
@@ -9,12 +9,12 @@ use lib.Dec.{leb, ltb, eqb, lit≤}
 use lib.IntN.{ℤ}
 use lib.Ieee.{Float, nan, inf, fin, up, down, eq}
 use lib.Ieee.Fits.{down-pos}
-use borrow.Author.Tests.{leb-true, le-leb, eqb-true, eqb-false, ne-eqb}
+use borrow.Author.Tests.{leb-true, leb-false, le-leb, eqb-true, eqb-false, ne-eqb}
 use Rattle.limit.specs.declared.Clip.{Clip}
 use Rattle.limit.specs.declared.Clip.the-variants.{Off, Factor}
 use Rattle.limit.specs.declared.Judged.{Judged}
 use Rattle.limit.specs.declared.Judged.the-variants as Judged
-use Rattle.limit.specs.Limit.{allowed, isOne, judgedBy, judgeOf, AboveOne, judgedSays, limitOf, tooTight}
+use Rattle.limit.specs.Limit.{allowed, isOne, judgedBy, judgeOf, AboveOne, judgedSays, flooredOf, roundedUp, limitOf}
 
 -- what an allowed number is: not below 1.0 and not above 1024.0
 pub record Allowed (m : ℕ) (e : ℤ) : Type 0 where
@@ -108,14 +108,14 @@ same-one (fin false m k) (fin true n l) p q e = absurd (true≢false (sym q))
 same-one (fin false m k) (fin false n l) p q e =
     one-alike (m * up k) (n * up l) (down k) (down l) (down-pos k) (down-pos l) (eqb-true (m * up k * down l) (n * up l * down k) (sym (and-true _) ∙ e))
 
--- ---- the limit
+-- ---- the factor's part of the limit, rounded down
 
--- the limit is at least 1
-pub limit-least : (f : Float) (n b : ℕ) → 1 ≤ limitOf f n b
-unfolding limitOf
-limit-least nan n b = lit≤ tt
-limit-least (inf s) n b = lit≤ tt
-limit-least (fin s m e) n b = le-max-left 1 (m * up e * n / (down e * b))
+-- it is at least 1
+floored-least : (f : Float) (n b : ℕ) → 1 ≤ flooredOf f n b
+unfolding flooredOf
+floored-least nan n b = lit≤ tt
+floored-least (inf s) n b = lit≤ tt
+floored-least (fin s m e) n b = le-max-left 1 (m * up e * n / (down e * b))
 
 -- the floor times the bins is at most 1024 times the pixels
 floor-room : (a d n b : ℕ) → 0 < d → a ≤ 1024 * d → n ≤ 4194304 → a * n / (d * b) * b ≤ 4294967296
@@ -138,13 +138,13 @@ max-room q b h k = go q h
     go zero p = omega arith
     go (suc x) p = subst (λ (y : ℕ). y * b ≤ 4294967296) (same x) p
 
--- the limit times the bins is at most 2 ^ 32
-pub limit-room : (f : Float) (n b : ℕ) → allowed f ≡ true → n ≤ 4194304 → 2 ≤ b → b ≤ 4096 → limitOf f n b * b ≤ 4294967296
-unfolding limitOf allowed
-limit-room nan n b h k l u = omega arith
-limit-room (inf s) n b h k l u = omega arith
-limit-room (fin true m e) n b h k l u = absurd (true≢false (sym h))
-limit-room (fin false m e) n b h k l u = max-room (m * up e * n / (down e * b)) b (floor-room (m * up e) (down e) n b (down-pos e) (allowed-told m e h .most) k) u
+-- times the bins it is at most 2 ^ 32
+floored-room : (f : Float) (n b : ℕ) → allowed f ≡ true → n ≤ 4194304 → 2 ≤ b → b ≤ 4096 → flooredOf f n b * b ≤ 4294967296
+unfolding flooredOf allowed
+floored-room nan n b h k l u = omega arith
+floored-room (inf s) n b h k l u = omega arith
+floored-room (fin true m e) n b h k l u = absurd (true≢false (sym h))
+floored-room (fin false m e) n b h k l u = max-room (m * up e * n / (down e * b)) b (floor-room (m * up e) (down e) n b (down-pos e) (allowed-told m e h .most) k) u
 
 half : (x b : ℕ) → x * b ≤ 4294967296 → 2 ≤ b → x ≤ 2147483648
 half x b h l = halved (le-trans (mul-le-mul-left x l) h)
@@ -155,19 +155,19 @@ half x b h l = halved (le-trans (mul-le-mul-left x l) h)
 max-most : (q : ℕ) → q ≤ 2147483648 → max 1 q ≤ 2147483648
 max-most q h = omega arith
 
--- the limit is at most 2 ^ 31
-pub limit-most : (f : Float) (n b : ℕ) → allowed f ≡ true → n ≤ 4194304 → 2 ≤ b → limitOf f n b ≤ 2147483648
-unfolding limitOf allowed
-limit-most nan n b h k l = lit≤ tt
-limit-most (inf s) n b h k l = lit≤ tt
-limit-most (fin true m e) n b h k l = absurd (true≢false (sym h))
-limit-most (fin false m e) n b h k l =
+-- and itself at most 2 ^ 31
+pub floored-most : (f : Float) (n b : ℕ) → allowed f ≡ true → n ≤ 4194304 → 2 ≤ b → flooredOf f n b ≤ 2147483648
+unfolding flooredOf allowed
+floored-most nan n b h k l = lit≤ tt
+floored-most (inf s) n b h k l = lit≤ tt
+floored-most (fin true m e) n b h k l = absurd (true≢false (sym h))
+floored-most (fin false m e) n b h k l =
     max-most (m * up e * n / (down e * b)) (half (m * up e * n / (down e * b)) b (floor-room (m * up e) (down e) n b (down-pos e) (allowed-told m e h .most) k) l)
 
--- a factor of at most k has a limit of at most k x N / B, or 1
-pub limit-bound : (s : Bool) (m : ℕ) (e : ℤ) (n b k : ℕ) → 0 < b → m * up e ≤ k * down e → limitOf (fin s m e) n b ≤ max 1 (k * n / b)
-unfolding limitOf
-limit-bound s m e n b k p h =
+-- of a factor of at most k it is at most k x N / B, or 1
+floored-bound : (s : Bool) (m : ℕ) (e : ℤ) (n b k : ℕ) → 0 < b → m * up e ≤ k * down e → flooredOf (fin s m e) n b ≤ max 1 (k * n / b)
+unfolding flooredOf
+floored-bound s m e n b k p h =
     max-le (le-max-left 1 (k * n / b))
     (le-trans (bound (m * up e) (down e) (down-pos e) h) (le-max-right 1 (k * n / b)))
   where
@@ -180,19 +180,51 @@ limit-bound s m e n b k p h =
         (le-trans (div-mul-le-self (a * n) (d * b)) (le-trans (mul-le-mul-right n l) (le-of-eq (mul-right-comm k d n)))))
         q)
 
--- ---- refusal 14
+-- ---- the limit
 
--- clip off is not too tight
-pub loose-off : (n b : ℕ) → tooTight Off n b ≡ false
-unfolding tooTight
-loose-off n b = refl
+-- so many bins of N / B rounded up hold the N pixels
+rounded-holds : (n b : ℕ) → 0 < b → n ≤ roundedUp n b * b
+rounded-holds n b p = let h : n + (b - 1) < (n + (b - 1)) / b * b + b = lt-div-mul-add p in omega arith
 
--- nor is the factor 1.0
-pub loose-one : (f : Float) (n b : ℕ) → isOne f ≡ true → tooTight (Factor f) n b ≡ false
-unfolding tooTight
-loose-one f n b h = rw h refl
+-- and no smaller number does
+rounded-least : (n b l : ℕ) → 0 < b → n ≤ l * b → roundedUp n b ≤ l
+rounded-least n b l p h = le-of-suc-le-suc (div-lt-iff-lt-mul p .1 (let k : suc l * b ≡ l * b + b = suc-mul l b in omega arith))
 
--- any other factor is where the limit times the bins is below the pixels
-pub tight-factor : (f : Float) (n b : ℕ) → isOne f ≡ false → tooTight (Factor f) n b ≡ ltb (limitOf f n b * b) n
-unfolding tooTight
-tight-factor f n b h = rw h refl
+-- the limit is at least 1
+pub limit-least : (f : Float) (n b : ℕ) → 1 ≤ limitOf f n b
+unfolding limitOf
+limit-least f n b = omega (arith, floored-least f n b)
+
+-- "L x B is never below N": the bins, none above the limit, hold the tile's pixels
+pub limit-holds : (f : Float) (n b : ℕ) → 0 < b → n ≤ limitOf f n b * b
+unfolding limitOf
+limit-holds f n b p = le-trans (rounded-holds n b p) (mul-le-mul-right b (le-max-right (flooredOf f n b) (roundedUp n b)))
+
+-- "L is the least that can hold the tile where the factor would give less"
+pub limit-tight : (f : Float) (n b l : ℕ) → 0 < b → flooredOf f n b * b < n → n ≤ l * b → limitOf f n b ≤ l
+unfolding limitOf
+limit-tight f n b l p h k = max-le (le-of-mul-le-mul-right (le-trans (le-of-lt h) k) p) (rounded-least n b l p k)
+
+-- where the factor gives enough, it decides
+pub limit-floored : (f : Float) (n b : ℕ) → 0 < b → n ≤ flooredOf f n b * b → limitOf f n b ≡ flooredOf f n b
+unfolding limitOf
+limit-floored f n b p h = omega (arith, rounded-least n b (flooredOf f n b) p h)
+
+-- a bound of two products with b is one of the larger one's
+max-times : (x y b most : ℕ) → x * b ≤ most → y * b ≤ most → max x y * b ≤ most
+max-times x y b most p q = go (leb x y) refl
+  where
+    go : (t : Bool) → leb x y ≡ t → max x y * b ≤ most
+    go true e = let l : x ≤ y = leb-true x y e in let z : max x y ≡ y = omega arith in rw z q
+    go false e = let l : y < x = leb-false x y e in let z : max x y ≡ x = omega arith in rw z p
+
+-- the limit times the bins is at most 2 ^ 32
+pub limit-room : (f : Float) (n b : ℕ) → allowed f ≡ true → n ≤ 4194304 → 2 ≤ b → b ≤ 4096 → limitOf f n b * b ≤ 4294967296
+unfolding limitOf
+limit-room f n b h k l u =
+    max-times (flooredOf f n b) (roundedUp n b) b 4294967296 (floored-room f n b h k l u) (let r : roundedUp n b * b ≤ n + (b - 1) = div-mul-le-self (n + (b - 1)) b in omega arith)
+
+-- of a factor of at most k it is at most k x N / B, or 1, or N / B rounded up
+pub limit-bound : (s : Bool) (m : ℕ) (e : ℤ) (n b k : ℕ) → 0 < b → m * up e ≤ k * down e → limitOf (fin s m e) n b ≤ max (max 1 (k * n / b)) (roundedUp n b)
+unfolding limitOf
+limit-bound s m e n b k p h = omega (arith, floored-bound s m e n b k p h)

@@ -14,7 +14,7 @@ use lib.Ieee.Digits.{size-lt, size-le, size-reaches}
 use lib.Ieee.Exact.{HasValue, odd-sign}
 use lib.Ieee.Fits.{down-pos, kept-lt}
 use lib.Ieee.Nearest.{div-same}
-use Rattle.limit.specs.Limit.{allowed, limitOf}
+use Rattle.limit.specs.Limit.{allowed, flooredOf}
 use Rattle.limit.proofs.Laws.{Allowed, allowed-told}
 
 -- ---- what a pattern of a positive normal number stands for
@@ -178,12 +178,12 @@ floors a d s n b D B h =
     (simp (mul-assoc, mul-comm, mul-left-comm) (simp (mul-assoc, mul-comm) at (ap (λ (x : ℕ). x * (n * b)) h)))
 
 -- the limit from the pattern
-pub limit-bits : (f : Float) (n b : ℕ) → T (fits binary32 f) → allowed f ≡ true → 2 ≤ b → limitOf f n b ≡ max 1 (scaled (toBits binary32 f) * n / (b * 8388608))
-unfolding allowed limitOf
-limit-bits nan n b t h l = absurd (true≢false (sym h))
-limit-bits (inf s) n b t h l = absurd (true≢false (sym h))
-limit-bits (fin true m e) n b t h l = absurd (true≢false (sym h))
-limit-bits (fin false m e) n b t h l =
+pub floored-bits : (f : Float) (n b : ℕ) → T (fits binary32 f) → allowed f ≡ true → 2 ≤ b → flooredOf f n b ≡ max 1 (scaled (toBits binary32 f) * n / (b * 8388608))
+unfolding allowed flooredOf
+floored-bits nan n b t h l = absurd (true≢false (sym h))
+floored-bits (inf s) n b t h l = absurd (true≢false (sym h))
+floored-bits (fin true m e) n b t h l = absurd (true≢false (sym h))
+floored-bits (fin false m e) n b t h l =
     ap (max 1) (floors (m * up e) (down e) (scaled (toBits binary32 (fin false m e))) n b (down-pos e) (le-trans (lit≤ tt) l) (told m e t (allowed-told m e h) .value))
 
 -- a shift in 64 bits drops nothing of it
@@ -199,8 +199,8 @@ pub whole-fits : (f : Float) (n : ℕ) → T (fits binary32 f) → allowed f ≡
 whole-fits f n t h k = rw (shifted f t h) (lt-of-le-of-lt (mul-le-mul (scaled-most f t h) k) (lit< tt))
 
 -- the limit is the floor that the code works out, or 1
-pub limit-code : (f : Float) (n b : ℕ) → T (fits binary32 f) → allowed f ≡ true → 2 ≤ b → limitOf f n b ≡ max 1 (wholeOf f n / (b * 8388608))
-limit-code f n b t h l = rw (shifted f t h) (limit-bits f n b t h l)
+pub floored-code : (f : Float) (n b : ℕ) → T (fits binary32 f) → allowed f ≡ true → 2 ≤ b → flooredOf f n b ≡ max 1 (wholeOf f n / (b * 8388608))
+floored-code f n b t h l = rw (shifted f t h) (floored-bits f n b t h l)
 
 -- a pattern has 32 bits
 pub pattern-fits : (f : Float) → T (fits binary32 f) → toBits binary32 f < 18446744073709551616

@@ -1,7 +1,7 @@
 -- Document 01, "Settings and sizes" and "From pixels to mappings", rule 2, and the footer's factor used.
 -- A float is `nan`, an infinity, or `fin s m e`: m x 2 ^ e, negative where s is true; 2 ^ e is the fraction up e / down e.
 -- Assumes nothing.
-use Prim.Native.Nat.{ℕ, _*_, _/_, _≤_, _<_, _^_, max}
+use Prim.Native.Nat.{ℕ, _+_, _-_, _*_, _/_, _≤_, _<_, _^_, max}
 use mathlib.Core.Bool.{Bool, true, false, not, _&&_}
 use mathlib.Core.Path.{_≡_}
 use lib.Dec.{leb, ltb, eqb}
@@ -57,21 +57,24 @@ judgedSays (Judged.Above f) clip = (clip ≡ Factor f) × (allowed f ≡ true) �
 
 -- "the factor's f32 bits are taken as the exact binary fraction they denote. L = floor(factor x N / B) in whole numbers,
 -- and at least 1. Nothing is rounded before the floor." No limit is worked out of a float that is no number.
+unfoldable pub flooredOf : Float → ℕ → ℕ → ℕ
+flooredOf nan n b = 1
+flooredOf (inf s) n b = 1
+flooredOf (fin s m e) n b = max 1 (m * up e * n / (down e * b))
+
+-- "N / B rounded up"
+abbrev pub roundedUp : ℕ → ℕ → ℕ
+roundedUp n b = (n + (b - 1)) / b
+
+-- order 2: "L is the larger of today's L and N / B rounded up"
 unfoldable pub limitOf : Float → ℕ → ℕ → ℕ
-limitOf nan n b = 1
-limitOf (inf s) n b = 1
-limitOf (fin s m e) n b = max 1 (m * up e * n / (down e * b))
+limitOf f n b = max (flooredOf f n b) (roundedUp n b)
 
 -- "the factor used as f64: L x B and N are each converted exactly and divided once"
 unfoldable pub usedOf : ℕ → ℕ → ℕ → Float
 usedOf l b n = div binary64 (ofInt binary64 (pos (l * b))) (ofInt binary64 (pos n))
 
--- refusal 14: "factor above 1.0 and L x B < N"
-unfoldable pub tooTight : Clip → ℕ → ℕ → Bool
-tooTight Off n b = false
-tooTight (Factor f) n b = not (isOne f) && ltb (limitOf f n b * b) n
-
--- what `limit` asks: an allowed factor, a tile of at most 2048 x 2048 pixels, and bins as document 01 has them
+-- what `floored` and `limit` ask: an allowed factor, a tile of at most 2048 x 2048 pixels, and bins as document 01 has them
 pub record LimitAsks (f : Float) (n b : ℕ) : Type 0 where
   pub good : allowed f ≡ true
   pub pixels : n ≤ 4194304

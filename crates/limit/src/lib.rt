@@ -1,6 +1,6 @@
 // The clip setting, the judgement of it, the limit L from the factor's exact fraction, and the factor used.
 ghost use mathlib.Core.Path.{_≡_};
-ghost use Rattle.limit.specs.Limit.{judgeOf, limitOf, usedOf, LimitAsks, UsedAsks};
+ghost use Rattle.limit.specs.Limit.{judgeOf, flooredOf, limitOf, usedOf, LimitAsks, UsedAsks};
 
 // The clip setting is one of two: off, or a factor carried as f32.
 pub enum Clip {
@@ -36,10 +36,10 @@ pub fn judge(clip: Clip) -> Judged
     }
 }
 
-// The limit L of a tile of `pixels` pixels: factor x pixels / bins in whole numbers, rounded down once, and at least 1.
-pub fn limit(factor: f32, pixels: u32, bins: u32) -> u32
+// Factor x pixels / bins of a tile, in whole numbers, rounded down once, and at least 1.
+fn floored(factor: f32, pixels: u32, bins: u32) -> u32
     requires { ⌜ LimitAsks factor pixels bins ⌝ }
-    ensures { λ r. ⌜ r ≡ limitOf factor pixels bins ⌝ }
+    ensures { λ r. ⌜ r ≡ flooredOf factor pixels bins ⌝ }
 {
     let bits = f32::to_bits(factor) as u64;
     let exponent = bits / 8388608;
@@ -50,6 +50,19 @@ pub fn limit(factor: f32, pixels: u32, bins: u32) -> u32
         return 1;
     }
     floor as u32
+}
+
+// The limit L of a tile of `pixels` pixels: that, or pixels / bins rounded up where this is larger. So the bins always hold the tile.
+pub fn limit(factor: f32, pixels: u32, bins: u32) -> u32
+    requires { ⌜ LimitAsks factor pixels bins ⌝ }
+    ensures { λ r. ⌜ r ≡ limitOf factor pixels bins ⌝ }
+{
+    let floor = floored(factor, pixels, bins);
+    let least = (pixels + (bins - 1)) / bins;
+    if floor < least {
+        return least;
+    }
+    floor
 }
 
 // The factor that the limit really stands for: L x B and N, each cast exactly, divided once.

@@ -36,7 +36,7 @@ use Rattle.pgm.proofs.Laws.{read-asks}
 use Rattle.prepare.specs.declared.Prepared.{Prepared}
 use Rattle.prepare.specs.declared.Prepared.the-variants as Prepared
 use Rattle.prepare.specs.Prepare.{prepareRows, mappings, Ended, ending, preparedOf, prepareOf, TilesAsk}
-use Rattle.prepare.proofs.Tight.{foot-limit}
+use Rattle.prepare.proofs.Footers.{foot-limit}
 use Rattle.prepare.proofs.Table.{work}
 use Rattle.prepare.proofs.Films.{length-mappings}
 use Rattle.listing.specs.Listing.{two, settingsOf, limitFor, filmText, refusedText, isLarger, pictureText, readText, listingOf, textRows, listOf, laidOf}
@@ -62,7 +62,7 @@ told-both t e = (t .bytes ∙ ap (onto _) e, t .count ∙ ap length e)
 -- ---- what prepare left
 
 module _ (w h m : ℕ) (pic : List ℕ) where
-  -- the number of the rows 1 to 14, with the listing's buffers
+  -- the number of the rows 1 to 13, with the listing's buffers
   abbrev pub number : ℕ
   number = first (prepareRows w h pic (settingsOf m) 16 4)
 

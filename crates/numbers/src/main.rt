@@ -145,7 +145,7 @@ fn main() {
         b"L 2, B 64, N 100: the factor used is 128 / 100",
         used(asked(1.5)),
     );
-    print(b"N 100, B 64, factor 1.25", number(asked(1.25)));
+    print(b"N 100, B 64, factor 1.25: L", limit(asked(1.25)));
     print(b"the rendered pixel x 2, y 2", rendered());
     large();
 }

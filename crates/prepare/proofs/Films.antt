@@ -6,7 +6,7 @@ use mathlib.Core.List.{List}
 use mathlib.Core.Path.{_≡_, refl, sym, ap, _∙_, subst}
 use native.Mathlib.Omega.{arith}
 use lib.ListN.{length, take, drop, getD}
-use borrow.Author.Tests.{ltb-false, not-false}
+use borrow.Author.Tests.{not-false}
 use borrow.Rule.Slice.PartMut.{putMid}
 use Rattle.lists.specs.Lists.{all}
 use Rattle.lists.proofs.Fills.{length-joined, drop-onto, length-onto}
@@ -16,8 +16,8 @@ use Rattle.lists.proofs.Windows.{length-block}
 use Rattle.lists.proofs.Alls.{all-joined}
 use Rattle.limit.specs.declared.Clip.{Clip}
 use Rattle.limit.specs.declared.Clip.the-variants.{Off, Factor}
-use Rattle.limit.specs.Limit.{allowed, limitOf, tooTight}
-use Rattle.limit.proofs.Laws.{tight-factor}
+use Rattle.limit.specs.Limit.{allowed}
+use Rattle.limit.proofs.Laws.{limit-holds}
 use Rattle.tally.specs.declared.Rect.{Rect}
 use Rattle.scan.specs.Scan.{within}
 use Rattle.tally.specs.Tally.{greysOf}
@@ -29,19 +29,19 @@ use Rattle.settings.specs.declared.Settings.{Settings}
 use Rattle.settings.specs.Settings.{binsOf, entriesOf, clipBad, clipOne, Ready}
 use Rattle.settings.proofs.Ready.{entries-small}
 use Rattle.prepare.specs.Prepare.{tileOf, pixelsIn, tileMap, mappings, TilesAsk, TileAsks, TileDone}
-use Rattle.prepare.proofs.Tiles.{tile-area, length-tile-greys, tile-pixels-alike, tile-inside}
+use Rattle.prepare.proofs.Tiles.{tile-area, length-tile-greys, tile-inside}
 
 -- ---- the limit has room for a tile's pixels
 
--- a clip setting that is neither refused nor 1.0 nor too tight
-pub holds : (clip : Clip) (n b : ℕ) → clipBad clip ≡ false → clipOne clip ≡ false → tooTight clip n b ≡ false → Holds clip n b
-holds Off n b g o t = off
-holds (Factor f) n b g o t = factor (not-false (allowed f) g) (ltb-false (limitOf f n b * b) n (sym (tight-factor f n b o) ∙ t))
+-- of any clip setting that is not refused: "a clip refusal never occurs"
+pub holds : (clip : Clip) (n b : ℕ) → clipBad clip ≡ false → 0 < b → Holds clip n b
+holds Off n b g p = off
+holds (Factor f) n b g p = factor (not-false (allowed f) g) (limit-holds f n b p)
 
 module _ {w h : ℕ} {pic : List ℕ} {s : Settings} {room scratch : ℕ} (asks : TilesAsk w h pic s room scratch) where
   -- so the limit has room for each tile
   pub tile-holds : (k : ℕ) → Holds (s .clip) (pixelsIn w h s k) (binsOf s)
-  tile-holds k = rw (tile-pixels-alike w h s k) (holds (s .clip) (pixelsIn w h s 0) (binsOf s) (asks .work .ready .clip) (asks .changes) (asks .work .loose))
+  tile-holds k = holds (s .clip) (pixelsIn w h s k) (binsOf s) (asks .work .ready .clip) (omega (arith, asks .work .ready .tiled .bins))
 
   -- a tile's greys lie in Min to Max
   pub tile-greys : {k : ℕ} → k < s .across * s .down → all (within (s .min) (s .max)) (greysOf pic w (tileOf w h s k)) ≡ true

@@ -1,5 +1,5 @@
 pub mod Tiles
-pub mod Tight
+pub mod Footers
 pub mod Table
 pub mod Films
 pub mod Turns

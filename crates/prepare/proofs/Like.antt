@@ -12,7 +12,7 @@ use Rattle.settings.specs.Settings.{keptOf}
 use Rattle.settings.proofs.Like.{bins-kept, shared-kept}
 use Rattle.render.specs.Render.{whole}
 use Rattle.render.proofs.Laws.{render-kept}
-use Rattle.prepare.specs.Prepare.{tileOf, pixelsIn, tileMap, mappings, lentRows, tightRows, workRows, prepareRows, footerOf, footOf, prepareOf, preparedOf, enhanceOf, enhancedOf}
+use Rattle.prepare.specs.Prepare.{tileOf, pixelsIn, tileMap, mappings, workRows, prepareRows, footerOf, footOf, prepareOf, preparedOf, enhanceOf, enhancedOf}
 
 -- the mappings
 pub mappings-kept : (w h : ℕ) (pic : List ℕ) (s : Settings) → mappings w h pic (keptOf s) ≡ mappings w h pic s
@@ -25,15 +25,15 @@ pub foot-kept : (w h : ℕ) (s : Settings) → footOf w h (keptOf s) ≡ footOf 
 unfolding footOf
 foot-kept w h s = ap (footerOf (s .clip) (pixelsIn w h s 0)) (bins-kept s)
 
--- the rows 12 to 14
-pub work-kept : (w h : ℕ) (pic : List ℕ) (s : Settings) (scratch : ℕ) → workRows w h pic (keptOf s) scratch ≡ workRows w h pic s scratch
-unfolding workRows lentRows tightRows
-work-kept w h pic s scratch = rw (bins-kept s) refl
+-- the rows 12 and 13
+pub work-kept : (pic : List ℕ) (s : Settings) (scratch : ℕ) → workRows pic (keptOf s) scratch ≡ workRows pic s scratch
+unfolding workRows
+work-kept pic s scratch = rw (bins-kept s) refl
 
--- and 1 to 14
+-- and 1 to 13
 pub rows-kept : (w h : ℕ) (pic : List ℕ) (s : Settings) (room scratch : ℕ) → prepareRows w h pic (keptOf s) room scratch ≡ prepareRows w h pic s room scratch
 unfolding prepareRows
-rows-kept w h pic s room scratch = rw (shared-kept w h (length pic) s room, work-kept w h pic s scratch) refl
+rows-kept w h pic s room scratch = rw (shared-kept w h (length pic) s room, work-kept pic s scratch) refl
 
 -- so prepare answers and leaves the same
 pub prepare-kept : (film w h : ℕ) (pic : List ℕ) (s : Settings) (m t : List ℕ) → prepareOf film w h pic (keptOf s) m t ≡ prepareOf film w h pic s m t

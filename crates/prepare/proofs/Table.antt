@@ -1,27 +1,27 @@
--- The rows 1 to 14: their numbers, how `work_refusal` asks 12 to 14, and what they tell where none of them applies.
+-- The rows 1 to 13: their numbers, how `work_refusal` asks 12 and 13, and what they tell where none of them applies.
 -- Assumes nothing.
 use Prim.Native.Nat.{ℕ, _≤_, _<_}
 use mathlib.Core.Bool.{Bool, true, false, not, cond}
 use mathlib.Core.List.{List, [], _∷_, _++_}
-use mathlib.Core.Path.{_≡_, refl, sym, ap, ap₂, _∙_}
+use mathlib.Core.Logic.{_≢_}
+use mathlib.Core.Path.{_≡_, refl, sym, ap, _∙_}
 use native.Mathlib.Omega.{arith}
 use lib.Dec.{ltb}
 use lib.ListN.{length}
 use borrow.Author.Tests.{lt-ltb, le-ltb, ltb-false, not-false}
-use Rattle.refuse.specs.Refuse.{row, first, numbersOf, Numbered}
-use Rattle.refuse.proofs.Walk.{front, behind, first-behind, first-none, first-both, numbers-append}
+use Rattle.refuse.specs.Refuse.{first, numbersOf}
+use Rattle.refuse.proofs.Walk.{front, behind, first-none, first-never, first-both, numbers-append}
 use Rattle.lists.specs.Lists.{all}
-use Rattle.limit.specs.Limit.{tooTight}
 use Rattle.scan.specs.Scan.{within}
 use Rattle.settings.specs.declared.Settings.{Settings}
 use Rattle.settings.specs.Settings.{binsOf, entriesOf, sharedRows, Ready}
 use Rattle.settings.proofs.Ready.{ready, shared-numbers, shared-numbered, shared-room-any}
-use Rattle.prepare.specs.Prepare.{pixelsIn, lentRows, tightRows, workRows, prepareRows, FilmAsks, TightAsks, Work}
+use Rattle.prepare.specs.Prepare.{pixelsIn, workRows, prepareRows, FilmAsks, FooterAsks, Work}
 use Rattle.prepare.proofs.Tiles.{tiles-some, tile-pixels-most}
 
--- a film of which no setting is refused has a limit and a footer
-pub tight-asks : {w h : ℕ} {s : Settings} {b : ℕ} → FilmAsks w h s → b ≡ binsOf s → TightAsks (s .clip) (pixelsIn w h s 0) b
-tight-asks asks e =
+-- a film of which no setting is refused has a footer
+pub footer-asks : {w h : ℕ} {s : Settings} {b : ℕ} → FilmAsks w h s → b ≡ binsOf s → FooterAsks (s .clip) (pixelsIn w h s 0) b
+footer-asks asks e =
     record {
       good = asks .fair;
       pixels = tile-pixels-most (asks .tiled) (tiles-some (asks .tiled));
@@ -33,49 +33,41 @@ tight-asks asks e =
 pub film-asks : {w h size : ℕ} {s : Settings} {room : ℕ} → Ready w h size s room → FilmAsks w h s
 film-asks known = record { tiled = known .tiled; fair = known .clip }
 
--- ---- 12 to 14
+-- ---- 12 and 13
 
-module _ (w h : ℕ) (pic : List ℕ) (s : Settings) (scratch : ℕ) where
-  pub lent-numbered : Numbered (lentRows pic s scratch)
-  unfolding all numbersOf lentRows
-  lent-numbered = refl
-
+module _ (pic : List ℕ) (s : Settings) (scratch : ℕ) where
   -- the numbers, in the order of document 01
-  pub work-numbers : numbersOf (workRows w h pic s scratch) ≡ 12 ∷ 13 ∷ 14 ∷ []
-  unfolding numbersOf workRows lentRows tightRows
+  pub work-numbers : numbersOf (workRows pic s scratch) ≡ 12 ∷ 13 ∷ []
+  unfolding numbersOf workRows
   work-numbers = refl
 
   module _ {b : ℕ} (n : b ≡ binsOf s) where
     -- 12 applies
-    pub work-scratch : scratch < b → 12 ≡ first (workRows w h pic s scratch)
-    unfolding first workRows lentRows
+    pub work-scratch : scratch < b → 12 ≡ first (workRows pic s scratch)
+    unfolding first workRows
     work-scratch l = let t : ltb scratch (binsOf s) ≡ true = lt-ltb scratch (binsOf s) (omega arith) in rw t refl
 
-    module _ (l : b ≤ scratch) where
-      -- 13 applies
-      pub work-greys : all (within (s .min) (s .max)) pic ≡ false → 13 ≡ first (workRows w h pic s scratch)
-      unfolding first workRows lentRows
-      work-greys g = let t : ltb scratch (binsOf s) ≡ false = le-ltb scratch (binsOf s) (omega arith) in rw (t, g) refl
+    -- 12 does not, and 13 decides
+    pub work-greys : b ≤ scratch → (t : Bool) → t ≡ all (within (s .min) (s .max)) pic → cond t 0 13 ≡ first (workRows pic s scratch)
+    unfolding first workRows
+    work-greys l true g = let t : ltb scratch (binsOf s) ≡ false = le-ltb scratch (binsOf s) (omega arith) in rw (t, sym g) refl
+    work-greys l false g = let t : ltb scratch (binsOf s) ≡ false = le-ltb scratch (binsOf s) (omega arith) in rw (t, sym g) refl
 
-      module _ (g : all (within (s .min) (s .max)) pic ≡ true) where
-        -- neither does, and 14 decides
-        pub work-tight : {p : ℕ} {t : Bool} → p ≡ pixelsIn w h s 0 → t ≡ tooTight (s .clip) p b → cond t 14 0 ≡ first (workRows w h pic s scratch)
-        unfolding first workRows lentRows tightRows
-        work-tight {p} {t} e q =
-            let x : ltb scratch (binsOf s) ≡ false = le-ltb scratch (binsOf s) (omega arith) in
-            let y : tooTight (s .clip) (pixelsIn w h s 0) (binsOf s) ≡ t = sym (q ∙ ap₂ (tooTight (s .clip)) e n) in
-            rw (x, g, y) refl
-
--- ---- 1 to 14
+-- ---- 1 to 13
 
 module _ (w h : ℕ) (pic : List ℕ) (s : Settings) (room scratch : ℕ) where
   -- the numbers, in the order of document 01
-  pub table-numbers : numbersOf (prepareRows w h pic s room scratch) ≡ numbersOf (sharedRows w h (length pic) s room) ++ (12 ∷ 13 ∷ 14 ∷ [])
+  pub table-numbers : numbersOf (prepareRows w h pic s room scratch) ≡ numbersOf (sharedRows w h (length pic) s room) ++ (12 ∷ 13 ∷ [])
   unfolding prepareRows
-  table-numbers = numbers-append (sharedRows w h (length pic) s room) (workRows w h pic s scratch) ∙ ap (λ ns. numbersOf (sharedRows w h (length pic) s room) ++ ns) (work-numbers w h pic s scratch)
+  table-numbers = numbers-append (sharedRows w h (length pic) s room) (workRows pic s scratch) ∙ ap (λ ns. numbersOf (sharedRows w h (length pic) s room) ++ ns) (work-numbers pic s scratch)
+
+  -- "14 is struck": no film is refused for its clip setting
+  pub table-never-14 : first (prepareRows w h pic s room scratch) ≢ 14
+  unfolding all
+  table-never-14 = first-never 14 (prepareRows w h pic s room scratch) refl (rw (table-numbers, shared-numbers w h (length pic) s room) refl)
 
   -- its parts
-  pub table-parts : prepareRows w h pic s room scratch ≡ sharedRows w h (length pic) s room ++ workRows w h pic s scratch
+  pub table-parts : prepareRows w h pic s room scratch ≡ sharedRows w h (length pic) s room ++ workRows pic s scratch
   unfolding prepareRows
   table-parts = refl
 
@@ -84,34 +76,26 @@ module _ (w h : ℕ) (pic : List ℕ) (s : Settings) (room scratch : ℕ) where
   unfolding prepareRows
   table-shared e z = front (sharedRows w h (length pic) s room) _ e z
 
-  -- none of them does, and 12 to 14 decide
-  pub table-work : {a r : ℕ} → a ≡ first (sharedRows w h (length pic) s room) → a ≡ 0 → r ≡ first (workRows w h pic s scratch) → r ≡ first (prepareRows w h pic s room scratch)
+  -- none of them does, and 12 and 13 decide
+  pub table-work : {a r : ℕ} → a ≡ first (sharedRows w h (length pic) s room) → a ≡ 0 → r ≡ first (workRows pic s scratch) → r ≡ first (prepareRows w h pic s room scratch)
   unfolding prepareRows
   table-work e z q = behind (sharedRows w h (length pic) s room) _ (shared-numbered w h (length pic) s room) e z q
 
-  -- none of 1 to 14 applies: none of 1 to 11, and none of 12 to 14
-  pub table-both : first (prepareRows w h pic s room scratch) ≡ 0 → (first (sharedRows w h (length pic) s room) ≡ 0) × (first (workRows w h pic s scratch) ≡ 0)
+  -- none of 1 to 13 applies: none of 1 to 11, and none of 12 and 13
+  pub table-both : first (prepareRows w h pic s room scratch) ≡ 0 → (first (sharedRows w h (length pic) s room) ≡ 0) × (first (workRows pic s scratch) ≡ 0)
   unfolding prepareRows
   table-both e = first-both (sharedRows w h (length pic) s room) _ (shared-numbered w h (length pic) s room) e
 
-  -- none of 1 to 13 applies: 14 decides
-  pub table-tight : first (sharedRows w h (length pic) s room) ≡ 0 → first (lentRows pic s scratch) ≡ 0 → first (prepareRows w h pic s room scratch) ≡ cond (tooTight (s .clip) (pixelsIn w h s 0) (binsOf s)) 14 0
-  unfolding first workRows tightRows
-  table-tight e q =
-      sym (table-work (sym e) refl
-      (sym (first-behind (lentRows pic s scratch) (tightRows w h s) (first-none (lentRows pic s scratch) (lent-numbered w h pic s scratch) q))))
-
-  -- none of the rows 1 to 14 applies: what the work below relies on
+  -- none of the rows 1 to 13 applies: what the work below relies on
   pub work : first (prepareRows w h pic s room scratch) ≡ 0 → Work w h pic s room scratch
-  unfolding all numbersOf workRows lentRows tightRows
+  unfolding all numbersOf workRows
   work e =
       let both = table-both e in
-      let t = first-none (workRows w h pic s scratch) refl (both .1) in
+      let t = first-none (workRows pic s scratch) refl (both .1) in
       record {
         ready = ready w h (length pic) s room (both .0);
         bins = ltb-false _ _ (t .0);
         greys = not-false _ (t .1 .0);
-        loose = t .1 .1 .0;
       }
 
 -- the same film with other buffers that are long enough
@@ -121,4 +105,4 @@ rows-any w h pic s room scratch room′ scratch′ e l q =
     let known : Work w h pic s room scratch = work w h pic s room scratch e in
     sym (table-work w h pic s room′ scratch′
     (sym (shared-room-any w h (length pic) s room room′ (table-both w h pic s room scratch e .0) l)) refl
-    (ap (λ t. cond t 14 0) (sym (known .loose)) ∙ work-tight w h pic s scratch′ refl q (known .greys) refl refl))
+    (work-greys pic s scratch′ refl q true (sym (known .greys))))

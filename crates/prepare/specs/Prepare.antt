@@ -13,7 +13,7 @@ use Rattle.lists.specs.Lists.{joined, onto, over, filled, all}
 use Rattle.refuse.specs.Refuse.{Row, row, first, unless, Says, accepted, refused}
 use Rattle.limit.specs.declared.Clip.{Clip}
 use Rattle.limit.specs.declared.Clip.the-variants.{Off, Factor}
-use Rattle.limit.specs.Limit.{isOne, limitOf, usedOf, tooTight}
+use Rattle.limit.specs.Limit.{isOne, limitOf, usedOf}
 use Rattle.tally.specs.declared.Rect.{Rect}
 use Rattle.scan.specs.Scan.{within}
 use Rattle.tally.specs.Tally.{greysOf}
@@ -54,20 +54,12 @@ unfoldable pub mappings : ℕ → ℕ → List ℕ → Settings → List ℕ
 mappings w h pic s = joined (s .across * s .down) (tileMap w h pic s)
 
 -- 12 and 13: "scratch shorter than B", "a pixel outside Min to Max"
-unfoldable pub lentRows : List ℕ → Settings → ℕ → List Row
-lentRows pic s scratch = row 12 (ltb scratch (binsOf s)) ∷ row 13 (not (all (within (s .min) (s .max)) pic)) ∷ []
+unfoldable pub workRows : List ℕ → Settings → ℕ → List Row
+workRows pic s scratch = row 12 (ltb scratch (binsOf s)) ∷ row 13 (not (all (within (s .min) (s .max)) pic)) ∷ []
 
--- 14: "factor above 1.0 and L x B < N", which is the same of every tile
-unfoldable pub tightRows : ℕ → ℕ → Settings → List Row
-tightRows w h s = row 14 (tooTight (s .clip) (pixelsIn w h s 0) (binsOf s)) ∷ []
-
--- 12 to 14
-unfoldable pub workRows : ℕ → ℕ → List ℕ → Settings → ℕ → List Row
-workRows w h pic s scratch = lentRows pic s scratch ++ tightRows w h s
-
--- "Prepare and enhance: 1 to 14 upward"
+-- "Prepare and enhance: 1 to 14 upward", of which order 2 strikes 14
 unfoldable pub prepareRows : ℕ → ℕ → List ℕ → Settings → ℕ → ℕ → List Row
-prepareRows w h pic s room scratch = sharedRows w h (length pic) s room ++ workRows w h pic s scratch
+prepareRows w h pic s room scratch = sharedRows w h (length pic) s room ++ workRows pic s scratch
 
 -- ---- the answers
 
@@ -163,24 +155,23 @@ pub record RectAsks (across down k : ℕ) : Type 0 where
   pub rows : 0 < down
   pub tile : k < 256
 
--- what the footer and the search for 12 to 14 ask: settings of which none is refused
+-- what the footer of a film asks: settings of which none is refused
 pub record FilmAsks (w h : ℕ) (s : Settings) : Type 0 where
   pub tiled : Tiled w h s
   pub fair : clipBad (s .clip) ≡ false
 
--- a clip setting that is not refused, and a tile's sizes as document 01 has them
-pub record TightAsks (clip : Clip) (n b : ℕ) : Type 0 where
+-- what a footer asks: a clip setting that is not refused, and a tile's sizes as document 01 has them
+pub record FooterAsks (clip : Clip) (n b : ℕ) : Type 0 where
   pub good : clipBad clip ≡ false
   pub pixels : n ≤ 4194304
   pub least : 2 ≤ b
   pub most : b ≤ 4096
 
--- what a call knows once none of the rows 1 to 14 applies
+-- what a call knows once none of the rows 1 to 13 applies
 pub record Work (w h : ℕ) (pic : List ℕ) (s : Settings) (room scratch : ℕ) : Type 0 where
   pub ready : Ready w h (length pic) s room
   pub bins : binsOf s ≤ scratch
   pub greys : all (within (s .min) (s .max)) pic ≡ true
-  pub loose : tooTight (s .clip) (pixelsIn w h s 0) (binsOf s) ≡ false
 
 -- what `map_tiles` asks: that, and a factor that is not 1.0
 pub record TilesAsk (w h : ℕ) (pic : List ℕ) (s : Settings) (room scratch : ℕ) : Type 0 where

@@ -2,10 +2,9 @@
 ghost use mathlib.Core.Path.{_≡_};
 ghost use Prim.Native.Nat.{_<_, _*_};
 ghost use lib.ListN.{length};
-ghost use Rattle.limit.specs.Limit.{tooTight};
 ghost use Rattle.refuse.specs.Refuse.{first};
 ghost use Rattle.settings.specs.Settings.{Tiled};
-ghost use Rattle.prepare.specs.Prepare.{workRows, prepareRows, footerOf, footOf, tileRect, pixelsIn, prepareOf, enhanceOf, ending, overing, RectAsks, FilmAsks, TightAsks, TileAsks, TilesAsk, TileDone, TilesDone};
+ghost use Rattle.prepare.specs.Prepare.{workRows, prepareRows, footerOf, footOf, tileRect, pixelsIn, prepareOf, enhanceOf, ending, overing, RectAsks, FilmAsks, FooterAsks, TileAsks, TilesAsk, TileDone, TilesDone};
 use limit::Clip;
 use settings::Footer;
 use settings::MapRecord;
@@ -25,26 +24,9 @@ pub enum Enhanced {
     Refused(u32),
 }
 
-// Whether the bins, none above the limit, cannot hold the tile's pixels, where the factor is above 1.0.
-pub fn too_tight(clip: Clip, pixels: u32, bins: u32) -> bool
-    requires { ⌜ TightAsks clip pixels bins ⌝ }
-    ensures { λ r. ⌜ r ≡ tooTight clip pixels bins ⌝ }
-{
-    match clip {
-        Clip::Off => false,
-        Clip::Factor(f) => {
-            if settings::clip_one(clip) {
-                return false;
-            }
-            let limit = limit::limit(f, pixels, bins);
-            (limit as u64) * (bins as u64) < (pixels as u64)
-        }
-    }
-}
-
 // The footer of a film whose tiles have `pixels` pixels.
 pub fn footer(clip: Clip, pixels: u32, bins: u32) -> Footer
-    requires { ⌜ TightAsks clip pixels bins ⌝ }
+    requires { ⌜ FooterAsks clip pixels bins ⌝ }
     ensures { λ r. ⌜ r ≡ footerOf clip pixels bins ⌝ }
 {
     match clip {
@@ -107,27 +89,20 @@ pub fn foot(width: u32, height: u32, s: Settings) -> Footer
     footer(clip, pixels, settings::bins(s))
 }
 
-// The first of the refusals 12 to 14 that applies, else 0.
-fn work_refusal(width: u32, height: u32, picture: &[u16], s: Settings, scratch: usize) -> u32
-    requires { ⌜ FilmAsks width height s ⌝ }
-    ensures { λ r. ⌜ r ≡ first (workRows width height (now (picture .entry)) s scratch) ⌝ }
+// The first of the refusals 12 and 13 that applies, else 0.
+fn work_refusal(picture: &[u16], s: Settings, scratch: usize) -> u32
+    ensures { λ r. ⌜ r ≡ first (workRows (now (picture .entry)) s scratch) ⌝ }
 {
-    let bins = settings::bins(s);
-    if scratch < (bins as usize) {
+    if scratch < (settings::bins(s) as usize) {
         return 12;
     }
     if !scan::all_within(picture, s.min, s.max) {
         return 13;
     }
-    let clip = s.clip;
-    let pixels = tile_pixels(width, height, s, 0);
-    if too_tight(clip, pixels, bins) {
-        return 14;
-    }
     0
 }
 
-// The first of the refusals 1 to 14 that applies, else 0.
+// The first of the refusals 1 to 13 that applies, else 0.
 fn refusal(
     width: u32,
     height: u32,
@@ -142,7 +117,7 @@ fn refusal(
     if shared != 0 {
         return shared;
     }
-    work_refusal(width, height, picture, s, scratch)
+    work_refusal(picture, s, scratch)
 }
 
 // Makes the mapping of tile k, in its place in the map buffer.

@@ -1,8 +1,9 @@
--- Document 00, demand 3, call by call: "in every tile of a film that prepare or enhance accepts", with the limit that the footer hands back, and when the clip refusal is given.
+-- Document 00, demand 3, call by call: "in every tile of a film that prepare or enhance accepts", with the limit that the footer hands back; and order 2: that limit, and that no clip refusal is given.
 -- Of every run of the calls by their contracts (Runs); a name with ′ is lent memory at the end.
 -- Assumes nothing.
+use Prim.Native.Nat.{ℕ}
 use mathlib.Core.List.{[], _∷_}
-use mathlib.Core.Logic.{_↔_}
+use mathlib.Core.Logic.{_≢_}
 use mathlib.Core.Path.{_≡_, refl, sym, ap, _∙_}
 use lib.Ieee.{Float}
 use lib.ListN.{length}
@@ -15,10 +16,11 @@ use Rattle.settings.specs.declared.MapRecord.{MapRecord}
 use Rattle.settings.specs.declared.Footer.{Footer}
 use Rattle.settings.specs.Settings.{binsOf, clipBad}
 use Rattle.prepare.specs.Prepare.{pixelsIn, preparedSays, enhancedSays, Ended, prepareOf, Over, enhanceOf}
-use Rattle.promises.specs.Films.{ClippingOn, ClipCase, FooterShows, FilmSound, earlierRows, FilmFilling}
-use Rattle.promises.proofs.Accepted.{says-refused, refused-says, prepare-work, enhance-work}
+use Rattle.prepare.proofs.Table.{table-never-14}
+use Rattle.promises.specs.Films.{ClippingOn, ClipCase, FooterShows, FilmSound, LimitFits}
+use Rattle.promises.proofs.Accepted.{says-refused, prepare-work, enhance-work}
 use Rattle.promises.proofs.Demand1.{prepare-says, enhance-says}
-use Rattle.promises.proofs.Demand3.{tiles-sound, tiles-sound-enhance, footer-shows, footer-shows-enhance, clip-cases, clip-refusal}
+use Rattle.promises.proofs.Demand3.{tiles-sound, tiles-sound-enhance, footer-shows, footer-shows-enhance, clip-cases, footer-fits}
 use Rattle.promises.proofs.Runs.{PrepareCall, Prepares, prepare-ends, EnhanceCall, Enhances, enhance-ends, JudgeCall, Judges, judge-ends}
 
 -- ---- every tile
@@ -42,6 +44,11 @@ module _ {p : PrepareCall} {r : MapRecord} {foot : Footer} (ran : Prepares p) (d
       rw (ap (λ (z : Footer). z .limit) (prepared-footer .above f on), ap (λ (z : Ended). z .map) (prepare-ends ran))
       (tiles-sound _ _ _ _ _ (p .map) (p .scratch) prepared on)
 
+  -- "L x B is never below N, and L is the least that can hold the tile where the factor would give less": of each tile, with the limit of the footer
+  pub prepared-limit-fits : {f : Float} → ClippingOn (p .settings .clip) f
+      → (k : ℕ) → LimitFits f (pixelsIn (p .width) (p .height) (p .settings) k) (binsOf (p .settings)) (foot .limit)
+  prepared-limit-fits on k = footer-fits (prepare-work _ _ _ _ _ (p .map) (p .scratch) prepared) prepared-footer on k
+
 -- a film that enhance accepted, answering this footer
 module _ {e : EnhanceCall} {foot : Footer} (ran : Enhances e) (done : enhancedSays (e .answer) ≡ accepted foot) where
   enhanced : enhancedSays (enhanceOf (e .width) (e .height) (e .pixels) (e .settings) (e .map) (e .scratch) .answer) ≡ accepted foot
@@ -61,24 +68,22 @@ module _ {e : EnhanceCall} {foot : Footer} (ran : Enhances e) (done : enhancedSa
       rw (ap (λ (z : Footer). z .limit) (enhanced-footer .above f on), ap (λ (z : Over). z .map) (enhance-ends ran))
       (tiles-sound-enhance _ _ _ _ (e .map) (e .scratch) enhanced on)
 
+  -- "L x B is never below N, and L is the least that can hold the tile where the factor would give less"
+  pub enhanced-limit-fits : {f : Float} → ClippingOn (e .settings .clip) f
+      → (k : ℕ) → LimitFits f (pixelsIn (e .width) (e .height) (e .settings) k) (binsOf (e .settings)) (foot .limit)
+  enhanced-limit-fits on k = footer-fits (enhance-work _ _ _ _ (e .map) (e .scratch) enhanced) enhanced-footer on k
+
 -- ---- the clip refusal
 
--- "Where the factor is above one and no earlier refusal of 01's order applies, prepare and enhance give the clip refusal exactly when no filling of the bins,
--- none above the limit, could hold the tile's pixels.": of prepare
-pub prepare-says-clip : {p : PrepareCall} {f : Float} → Prepares p → ClippingOn (p .settings .clip) f
-    → first (earlierRows (p .width) (p .height) (p .pixels) (p .settings) (length (p .map)) (length (p .scratch))) ≡ 0
-    → (preparedSays (p .answer) ≡ refused 14) ↔ (FilmFilling (p .width) (p .height) (p .settings) f → ⊥)
-prepare-says-clip {p} ran on earlier =
-    let law = clip-refusal (p .width) (p .height) (p .pixels) (p .settings) (length (p .map)) (length (p .scratch)) earlier on in
-    ((λ e. law .0 (says-refused _ _ (sym (prepare-says ran) ∙ e))), (λ none. prepare-says ran ∙ refused-says _ _ (law .1 none)))
+-- "a clip refusal never occurs": of prepare
+pub prepare-never-14 : {p : PrepareCall} → Prepares p → preparedSays (p .answer) ≢ refused 14
+prepare-never-14 {p} ran q =
+    table-never-14 (p .width) (p .height) (p .pixels) (p .settings) (length (p .map)) (length (p .scratch)) (says-refused _ _ (sym (prepare-says ran) ∙ q))
 
 -- and of enhance
-pub enhance-says-clip : {e : EnhanceCall} {f : Float} → Enhances e → ClippingOn (e .settings .clip) f
-    → first (earlierRows (e .width) (e .height) (e .pixels) (e .settings) (length (e .map)) (length (e .scratch))) ≡ 0
-    → (enhancedSays (e .answer) ≡ refused 14) ↔ (FilmFilling (e .width) (e .height) (e .settings) f → ⊥)
-enhance-says-clip {e} ran on earlier =
-    let law = clip-refusal (e .width) (e .height) (e .pixels) (e .settings) (length (e .map)) (length (e .scratch)) earlier on in
-    ((λ q. law .0 (says-refused _ _ (sym (enhance-says ran) ∙ q))), (λ none. enhance-says ran ∙ refused-says _ _ (law .1 none)))
+pub enhance-never-14 : {e : EnhanceCall} → Enhances e → enhancedSays (e .answer) ≢ refused 14
+enhance-never-14 {e} ran q =
+    table-never-14 (e .width) (e .height) (e .pixels) (e .settings) (length (e .map)) (length (e .scratch)) (says-refused _ _ (sym (enhance-says ran) ∙ q))
 
 -- ---- the judgement of a clip setting
 

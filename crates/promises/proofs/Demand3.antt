@@ -2,25 +2,21 @@
 -- rectangle, of which each tile is a case. Laws of the outcomes that the contracts of prepare and enhance cite; of the calls themselves they are said in Clipping.
 -- Assumes nothing.
 use Prim.Native.Nat.{ℕ, _+_, _*_, _≤_, _<_}
-use mathlib.Core.Bool.{Bool, true, false, cond}
+use mathlib.Core.Bool.{Bool, true, false}
 use mathlib.Core.List.{List}
-use mathlib.Core.Logic.{_↔_}
 use mathlib.Core.Path.{_≡_, refl, sym, ap, _∙_, subst}
 use native.Mathlib.Omega.{arith}
-use lib.Dec.{ltb}
 use lib.Ieee.{Float, ofBits}
 use lib.ListN.{length}
-use borrow.Author.Tests.{ltb-true, ltb-false, not-false}
+use borrow.Author.Tests.{not-false}
 use Rattle.lists.specs.Lists.{total, all}
-use Rattle.refuse.specs.Refuse.{first, accepted}
-use Rattle.refuse.proofs.Walk.{first-both}
+use Rattle.refuse.specs.Refuse.{accepted}
 use Rattle.limit.specs.declared.Clip.{Clip}
 use Rattle.limit.specs.declared.Clip.the-variants.{Off, Factor}
-use Rattle.limit.specs.Limit.{isOne, limitOf, tooTight}
-use Rattle.limit.specs.Limit.{allowed}
-use Rattle.limit.proofs.Laws.{above-one, above-not-one, tight-factor}
+use Rattle.limit.specs.Limit.{allowed, isOne, limitOf}
+use Rattle.limit.proofs.Laws.{above-one, above-not-one, limit-holds, limit-tight, limit-floored}
 use Rattle.clip.specs.Clip.{clipped}
-use Rattle.clip.proofs.Laws.{length-clipped, total-clipped, clipped-most, clipped-least, no-filling, filling}
+use Rattle.clip.proofs.Laws.{length-clipped, total-clipped, clipped-most, clipped-least}
 use Rattle.scan.specs.Scan.{within}
 use Rattle.tally.specs.declared.Rect.{Rect}
 use Rattle.tally.specs.Tally.{greysOf, countsOf}
@@ -32,14 +28,13 @@ use Rattle.tile.proofs.Tiles.{holds-room, tile-counts-factor}
 use Rattle.settings.specs.declared.Settings.{Settings}
 use Rattle.settings.specs.declared.MapRecord.{MapRecord}
 use Rattle.settings.specs.declared.Footer.{Footer}
-use Rattle.settings.specs.Settings.{binsOf, clipBad, clipOne, sharedRows}
-use Rattle.settings.proofs.Ready.{shared-numbered}
-use Rattle.prepare.specs.Prepare.{tileOf, pixelsIn, lentRows, prepareRows, preparedSays, enhancedSays, footOf, prepareOf, enhanceOf, TightAsks, Work, TilesAsk}
-use Rattle.prepare.proofs.Table.{tight-asks, film-asks, table-tight}
-use Rattle.prepare.proofs.Tight.{footer-off, footer-one, footer-above, foot-is}
+use Rattle.settings.specs.Settings.{binsOf, clipBad, clipOne}
+use Rattle.prepare.specs.Prepare.{tileOf, pixelsIn, preparedSays, enhancedSays, footOf, prepareOf, enhanceOf, FooterAsks, Work, TilesAsk}
+use Rattle.prepare.proofs.Table.{footer-asks, film-asks}
+use Rattle.prepare.proofs.Footers.{footer-off, footer-one, footer-above, foot-is}
 use Rattle.prepare.proofs.Tiles.{tile-area, tile-pixels-some, tile-pixels-alike}
 use Rattle.prepare.proofs.Films.{tile-greys, rect-holds}
-use Rattle.promises.specs.Films.{rawCounts, clippedCounts, ClippingOn, ClipCase, clip-off, clip-one, clip-on, FooterShows, TileSound, FilmSound, earlierRows, FilmFilling}
+use Rattle.promises.specs.Films.{rawCounts, clippedCounts, ClippingOn, ClipCase, clip-off, clip-one, clip-on, FooterShows, TileSound, FilmSound, LimitFits}
 use Rattle.promises.proofs.Accepted.{prepare-work, prepare-foot, enhance-work, enhance-foot}
 use Rattle.promises.proofs.Demand2.{own-mapping, own-mapping-enhance}
 
@@ -143,8 +138,8 @@ tiles-sound-enhance w h pic s m t e on k l =
 
 module _ {w h : ℕ} {pic : List ℕ} {s : Settings} {room scratch : ℕ} (work : Work w h pic s room scratch) where
   -- what the laws of the footer ask
-  foot-asks : TightAsks (s .clip) (pixelsIn w h s 0) (binsOf s)
-  foot-asks = tight-asks (film-asks (work .ready)) refl
+  foot-asks : FooterAsks (s .clip) (pixelsIn w h s 0) (binsOf s)
+  foot-asks = footer-asks (film-asks (work .ready)) refl
 
   -- the factor of an accepted film is accepted
   factor-allowed : (f : Float) → s .clip ≡ Factor f → allowed f ≡ true
@@ -185,32 +180,19 @@ pub footer-shows-enhance : (w h : ℕ) (pic : List ℕ) (s : Settings) (m t : Li
 footer-shows-enhance w h pic s m t e =
     subst (FooterShows (s .clip) (pixelsIn w h s 0) (binsOf s)) (enhance-foot w h pic s m t e) (foot-shows (enhance-work w h pic s m t e))
 
--- ---- the clip refusal
+-- ---- the limit
 
-module _ (w h : ℕ) (pic : List ℕ) (s : Settings) (room scratch : ℕ) where
-  module _ (earlier : first (earlierRows w h pic s room scratch) ≡ 0) {f : Float} (on : ClippingOn (s .clip) f) where
-    -- where none of the rows 1 to 13 applies, the limit times the bins decides
-    rows-tight : (b : Bool) → ltb (limitOf f (pixelsIn w h s 0) (binsOf s) * binsOf s) (pixelsIn w h s 0) ≡ b → first (prepareRows w h pic s room scratch) ≡ cond b 14 0
-    unfolding earlierRows
-    rows-tight b e =
-        let both = first-both (sharedRows w h (length pic) s room) (lentRows pic s scratch) (shared-numbered w h (length pic) s room) earlier in
-        table-tight w h pic s room scratch (both .0) (both .1)
-        ∙ ap (λ x. cond (tooTight x (pixelsIn w h s 0) (binsOf s)) 14 0) (on .factor)
-        ∙ ap (λ x. cond x 14 0) (tight-factor f (pixelsIn w h s 0) (binsOf s) (above-not-one f (on .above)) ∙ e)
-
-    -- "the clip refusal exactly when no filling of the bins, none above the limit, could hold the tile's pixels": of the table that prepare and enhance share
-    pub clip-refusal : (first (prepareRows w h pic s room scratch) ≡ 14) ↔ (FilmFilling w h s f → ⊥)
-    clip-refusal = (forth _ refl, back _ refl)
-      where
-        forth : (b : Bool) → ltb (limitOf f (pixelsIn w h s 0) (binsOf s) * binsOf s) (pixelsIn w h s 0) ≡ b → first (prepareRows w h pic s room scratch) ≡ 14
-            → FilmFilling w h s f → ⊥
-        forth true e q fill =
-            no-filling (limitOf f (pixelsIn w h s 0) (binsOf s)) (binsOf s) (pixelsIn w h s 0) (ltb-true _ _ e) (fill .counts) (fill .bins) (λ i k. omega (arith, fill .under i k)) (fill .holds)
-        forth false e q fill = let z : _≡_ {A = ℕ} 0 14 = sym (rows-tight false e) ∙ q in omega arith
-
-        back : (b : Bool) → ltb (limitOf f (pixelsIn w h s 0) (binsOf s) * binsOf s) (pixelsIn w h s 0) ≡ b
-            → (FilmFilling w h s f → ⊥) → first (prepareRows w h pic s room scratch) ≡ 14
-        back true e none = rows-tight true e
-        back false e none =
-            let x = filling (limitOf f (pixelsIn w h s 0) (binsOf s)) (binsOf s) (pixelsIn w h s 0) (ltb-false _ _ e) in
-            absurd (none (record { counts = x .0; bins = x .1; under = x .2; holds = x .3 }))
+-- order 2: the limit that the footer of an accepted film shows holds each tile, and is no larger than the factor and the tile ask
+pub footer-fits : {w h : ℕ} {pic : List ℕ} {s : Settings} {room scratch : ℕ} {foot : Footer} → Work w h pic s room scratch → FooterShows (s .clip) (pixelsIn w h s 0) (binsOf s) foot
+    → {f : Float} → ClippingOn (s .clip) f → (k : ℕ) → LimitFits f (pixelsIn w h s k) (binsOf s) (foot .limit)
+footer-fits {w} {h} {pic} {s} work shows {f} on k =
+    subst (LimitFits f (pixelsIn w h s k) (binsOf s))
+    (ap (λ n. limitOf f n (binsOf s)) (tile-pixels-alike w h s k) ∙ sym (ap (λ (z : Footer). z .limit) (shows .above f on)))
+    record {
+      holds = limit-holds f _ (binsOf s) some;
+      least = λ less l enough. limit-tight f _ (binsOf s) l some less enough;
+      given = limit-floored f _ (binsOf s) some;
+    }
+  where
+    some : 0 < binsOf s
+    some = omega (arith, work .ready .tiled .bins)

@@ -1,19 +1,18 @@
 -- What the promises speak of: the grey of a pixel by document 01's rule, clipping that is on, the footer by the clip setting, what holds of each tile
--- of an accepted film with clipping on, and fillings of the bins.
+-- of an accepted film with clipping on, and its limit.
 -- w and h are the film's width and height, pic its pixels.
 -- Assumes nothing.
 use Prim.Native.Nat.{ℕ, _+_, _-_, _*_, _/_, _≤_, _<_}
 use mathlib.Core.Bool.{true, false}
-use mathlib.Core.List.{List, _++_}
+use mathlib.Core.List.{List}
 use mathlib.Core.Logic.{_⊎_}
 use mathlib.Core.Path.{_≡_}
 use lib.Ieee.{Float}
 use lib.ListN.{length, getD, take}
 use Rattle.lists.specs.Lists.{total}
-use Rattle.refuse.specs.Refuse.{Row}
 use Rattle.limit.specs.declared.Clip.{Clip}
 use Rattle.limit.specs.declared.Clip.the-variants.{Off, Factor}
-use Rattle.limit.specs.Limit.{isOne, AboveOne, limitOf, usedOf}
+use Rattle.limit.specs.Limit.{isOne, AboveOne, flooredOf, limitOf, usedOf}
 use Rattle.clip.specs.Clip.{share}
 use Rattle.binning.specs.Binning.{binOf}
 use Rattle.tally.specs.Tally.{greysOf, countsOf}
@@ -21,10 +20,10 @@ use Rattle.tile.specs.Tile.{mappedOf, tileCounts}
 use Rattle.settings.specs.declared.Settings.{Settings}
 use Rattle.settings.specs.declared.Footer.{Footer}
 use Rattle.settings.specs.declared.Window.{Window}
-use Rattle.settings.specs.Settings.{binsOf, entriesOf, keptOf, clipOne, sharedRows}
+use Rattle.settings.specs.Settings.{binsOf, entriesOf, keptOf, clipOne}
 use Rattle.blend.specs.Blend.{greyOf}
 use Rattle.render.specs.Render.{columnPlace, rowPlace}
-use Rattle.prepare.specs.Prepare.{tileOf, pixelsIn, lentRows, none, one}
+use Rattle.prepare.specs.Prepare.{tileOf, pixelsIn, none, one}
 
 -- ---- a tile
 
@@ -126,17 +125,11 @@ FilmSound w h pic s l m =
     (k : ℕ) → k < s .across * s .down
     → TileSound (s .min) (s .max) (pixelsIn w h s k) (binsOf s) l (rawCounts w h pic s k) (clippedCounts w h pic s k) (λ b. getD m (k * binsOf s + b) 0)
 
--- the rows 1 to 13, which stand before the clip refusal in "01's order"
-unfoldable pub earlierRows : ℕ → ℕ → List ℕ → Settings → ℕ → ℕ → List Row
-earlierRows w h pic s room scratch = sharedRows w h (length pic) s room ++ lentRows pic s scratch
-
--- a "filling of the bins, none above the limit," that holds the tile's pixels: b counts, none above l, that add up to n
-pub record Filling (l b n : ℕ) : Type 0 where
-  pub counts : List ℕ
-  pub bins : length counts ≡ b
-  pub under : (i : ℕ) → i < b → getD counts i 0 ≤ l
-  pub holds : total counts ≡ n
-
--- the same of the tiles of a film, which have the pixels of the first, with the limit of the factor f
-abbrev pub FilmFilling : ℕ → ℕ → Settings → Float → Type 0
-FilmFilling w h s f = Filling (limitOf f (pixelsIn w h s 0) (binsOf s)) (binsOf s) (pixelsIn w h s 0)
+-- order 2: a limit l of a tile of n pixels and b bins, with the factor f
+pub record LimitFits (f : Float) (n b l : ℕ) : Type 0 where
+  -- "L x B is never below N"
+  pub holds : n ≤ l * b
+  -- "L is the least that can hold the tile where the factor would give less"
+  pub least : flooredOf f n b * b < n → (k : ℕ) → n ≤ k * b → l ≤ k
+  -- and elsewhere it is what the factor gives
+  pub given : n ≤ flooredOf f n b * b → l ≡ flooredOf f n b

@@ -1,13 +1,12 @@
 -- Document 01, "Numbers to check by hand": the numbers marked (*), as rows of one table. The rules are the definitions that the contracts cite.
 -- Assumes nothing.
 use Prim.Native.Nat.{ℕ, _+_, _*_}
-use mathlib.Core.Bool.{Bool, true, false, _&&_, Bool·beq}
+use mathlib.Core.Bool.{Bool, true, false, _&&_}
 use mathlib.Core.List.{List, [], _∷_}
 use lib.Dec.{eqb}
 use lib.ListN.{getD}
 use lib.Ieee.{ofBits, binary32}
-use Rattle.limit.specs.declared.Clip.the-variants.{Factor}
-use Rattle.limit.specs.Limit.{limitOf, tooTight}
+use Rattle.limit.specs.Limit.{limitOf}
 use Rattle.clip.specs.Clip.{clipped}
 use Rattle.binning.specs.Binning.{binOf}
 use Rattle.tile.specs.Tile.{mappingOf}
@@ -22,8 +21,8 @@ same (x ∷ xs) (y ∷ ys) = eqb x y && same xs ys
 
 -- a worked number: what goes in, and last what the document says comes out
 pub data Worked : Type 0 where
-  -- a factor's f32 bits, N and B: L, and whether 14 is given
-  limit : ℕ → ℕ → ℕ → ℕ → Bool → Worked
+  -- a factor's f32 bits, N and B: L
+  limit : ℕ → ℕ → ℕ → ℕ → Worked
   -- L and counts: the clipped counts
   clip : ℕ → List ℕ → List ℕ → Worked
   -- Min, Max, N and counts: the mapping
@@ -45,7 +44,7 @@ greyAt x y =
 
 -- a worked number holds of the rules
 unfoldable pub holds : Worked → Bool
-holds (limit f n b l tight) = eqb (limitOf (ofBits binary32 f) n b) l && Bool·beq (tooTight (Factor (ofBits binary32 f)) n b) tight
+holds (limit f n b l) = eqb (limitOf (ofBits binary32 f) n b) l
 holds (clip l cs ds) = same (clipped l cs) ds
 holds (mapping lo hi n cs vs) = same (mappingOf lo hi n cs) vs
 holds (bin lo hi b v k) = eqb (binOf lo hi b v) k
@@ -59,10 +58,10 @@ allHold (r ∷ rs) = holds r && allHold rs
 -- the marked numbers, in the document's order
 unfoldable pub worked : List Worked
 worked =
-    -- N 100, B 64: factor 1.5 gives L 2; 1.25 gives L 1 and refusal 14. N 1, B 4, factor 2: L 1.
-    limit 0x3fc00000 100 64 2 false
-    ∷ limit 0x3fa00000 100 64 1 true
-    ∷ limit 0x40000000 1 4 1 false
+    -- N 100, B 64: factor 1.5 gives L 2; 1.25 gives L 2 (order 2: 100 / 64 rounded up). N 1, B 4, factor 2: L 1.
+    limit 0x3fc00000 100 64 2
+    ∷ limit 0x3fa00000 100 64 2
+    ∷ limit 0x40000000 1 4 1
     -- B 4, L 6, counts 16,0,0,0: result 6,4,3,3; for range 0..15 the mapping is 5,9,12,15.
     ∷ clip 6 (16 ∷ 0 ∷ 0 ∷ 0 ∷ []) (6 ∷ 4 ∷ 3 ∷ 3 ∷ [])
     ∷ mapping 0 15 16 (6 ∷ 4 ∷ 3 ∷ 3 ∷ []) (5 ∷ 9 ∷ 12 ∷ 15 ∷ [])
@@ -71,9 +70,9 @@ worked =
     ∷ clip 6 (11 ∷ 5 ∷ 0 ∷ 0 ∷ []) (6 ∷ 6 ∷ 3 ∷ 1 ∷ [])
     -- L 7, 19,6,0,0: 7,7,6,5
     ∷ clip 7 (19 ∷ 6 ∷ 0 ∷ 0 ∷ []) (7 ∷ 7 ∷ 6 ∷ 5 ∷ [])
-    -- L 4, 16,0,0,0: 4,4,4,4. L 4, B 4, N 17: refusal 14 (the factor 1.125 gives L 4).
+    -- L 4, 16,0,0,0: 4,4,4,4. B 4, N 17: L 5 for the factor 1.125, which gave 4 (order 2).
     ∷ clip 4 (16 ∷ 0 ∷ 0 ∷ 0 ∷ []) (4 ∷ 4 ∷ 4 ∷ 4 ∷ [])
-    ∷ limit 0x3f900000 17 4 4 true
+    ∷ limit 0x3f900000 17 4 5
     -- Range 0..255: B 128 puts 255 in bin 127; B 100 in bin 85.
     ∷ bin 0 255 128 255 127
     ∷ bin 0 255 100 255 85

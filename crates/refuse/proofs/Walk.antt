@@ -1,13 +1,13 @@
 -- Laws of refusal tables: tables one behind the other, their numbers, and what an accepting table tells.
 -- Assumes nothing.
 use Prim.Native.Nat.{ℕ, suc, zero}
-use mathlib.Core.Bool.{Bool, true, false}
+use mathlib.Core.Bool.{Bool, true, false, not}
 use mathlib.Core.List.{List, [], _∷_, _++_}
 use mathlib.Core.Logic.{_≢_}
 use mathlib.Core.Path.{_≡_, refl, sym, ap, _∙_}
 use native.Mathlib.Omega.{arith}
-use lib.Dec.{ltb}
-use borrow.Author.Tests.{ltb-true}
+use lib.Dec.{ltb, eqb}
+use borrow.Author.Tests.{ltb-true, eqb-false, not-true}
 use Rattle.lists.specs.Lists.{all}
 use Rattle.lists.proofs.Tabs.{and-left, and-right}
 use Rattle.lists.proofs.Alls.{all-both}
@@ -57,6 +57,10 @@ unfolding first all numbersOf
 each-first p [] z h = z
 each-first p (row n true ∷ rows) z h = and-left (p n) (all p (numbersOf rows)) h
 each-first p (row n false ∷ rows) z h = each-first p rows z (and-right (p n) (all p (numbersOf rows)) h)
+
+-- a number above 0 that none of a table's rows has is never given
+pub first-never : (n : ℕ) (rows : List Row) → eqb 0 n ≡ false → Each (λ k. not (eqb k n)) rows → first rows ≢ n
+first-never n rows z h q = eqb-false (first rows) n (not-true _ (each-first (λ k. not (eqb k n)) rows (ap not z) h)) q
 
 -- ---- what an accepting table tells
 

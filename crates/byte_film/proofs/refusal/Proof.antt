@@ -1,11 +1,10 @@
--- `refusal` gives the first of 1 to 10, 30 and 11 to 14 that applies; 13 is never given, since the picture is of bytes.
+-- `refusal` gives the first of 1 to 10, 30 and 11 to 13 that applies; 13 is never given, since the picture is of bytes.
 -- Assumes nothing.
-use mathlib.Core.Bool.{cond}
-use mathlib.Core.Path.{sym, ap, _∙_}
+use mathlib.Core.Bool.{true}
+use mathlib.Core.Path.{sym, _∙_}
 use native.Mathlib.Omega.{arith}
 use borrow.Author.Needs.{needs}
-use Rattle.prepare.proofs.Tiles.{tiles-some}
-use Rattle.prepare.proofs.Table.{tight-asks, film-asks, work-scratch, work-tight}
+use Rattle.prepare.proofs.Table.{work-scratch, work-greys}
 use Rattle.profile.proofs.Profile.{byte-ready}
 use Rattle.profile.proofs.Greys.{bytes-within}
 use Rattle.byte_film.proofs.Tables.{bytes-shared, bytes-work}
@@ -13,8 +12,6 @@ use Rattle.byte_film.proofs.refusal.Statement.{statement}
 use Rattle.byte_film.proofs.refusal.Tie as tie
 use Rattle.byte_film.proofs.refusal.Reads as reads
 use Rattle.byte_film.proofs.refusal.Lts as lts
-use Rattle.prepare.proofs.tile_pixels.Reads as tile-pixels-reads
-use Rattle.prepare.proofs.too_tight.Reads as too-tight-reads
 use Rattle.profile.proofs.shared.Reads as shared-reads
 use Rattle.settings.proofs.bins.Reads as bins-reads
 
@@ -31,43 +28,13 @@ cast-if2 : tie.Need-cast-if2
 cast-if2 c = search needs
 
 returns-2 : tie.Need-returns-2
-returns-2 c = bytes-work _ _ _ _ _ _ (c .before .before .before .shared .ensures) (c .before .before .if1 .left) (work-scratch _ _ _ _ _ (c .before .bins .ensures) (c .if2 .taken))
-
-tile-pixels-requires : tie.Need-tile-pixels-requires
-tile-pixels-requires c κs =
-    let known = byte-ready _ _ _ _ _ (sym (c .before .before .before .shared .ensures) ∙ c .before .before .if1 .left) .ready .tiled in
-    (known, tiles-some known)
-
-too-tight-requires : tie.Need-too-tight-requires
-too-tight-requires c κs =
-    rw (c .tile-pixels .ensures) (tight-asks (film-asks (byte-ready _ _ _ _ _ (sym (c .before .before .before .before .shared .ensures) ∙ c .before .before .before .if1 .left) .ready)) (c .before .before .bins .ensures))
+returns-2 c = bytes-work _ _ _ _ _ _ (c .before .before .before .shared .ensures) (c .before .before .if1 .left) (work-scratch _ _ _ (c .before .bins .ensures) (c .if2 .taken))
 
 returns-3 : tie.Need-returns-3
 returns-3 c =
-    bytes-work _ _ _ _ _ _ (c .before .before .before .before .before .before .shared .ensures) (c .before .before .before .before .before .if1 .left)
-    (ap (λ t. cond t 14 0) (sym (c .if3 .taken))
-    ∙ work-tight _ _ _ _ _ (c .before .before .before .before .bins .ensures) (c .before .before .before .if2 .left)
-    (bytes-within _ (byte-ready _ _ _ _ _ (sym (c .before .before .before .before .before .before .shared .ensures) ∙ c .before .before .before .before .before .if1 .left) .profile) (λ i l. omega (arith, c .before .before .before .before .before .before .before .shared-slice-known .given i)))
-    (c .before .before .tile-pixels .ensures) (c .before .too-tight .ensures))
-
-returns-4 : tie.Need-returns-4
-returns-4 c =
-    bytes-work _ _ _ _ _ _ (c .before .before .before .before .before .before .shared .ensures) (c .before .before .before .before .before .if1 .left)
-    (ap (λ t. cond t 14 0) (sym (c .if3 .left))
-    ∙ work-tight _ _ _ _ _ (c .before .before .before .before .bins .ensures) (c .before .before .before .if2 .left)
-    (bytes-within _ (byte-ready _ _ _ _ _ (sym (c .before .before .before .before .before .before .shared .ensures) ∙ c .before .before .before .before .before .if1 .left) .profile) (λ i l. omega (arith, c .before .before .before .before .before .before .before .shared-slice-known .given i)))
-    (c .before .before .tile-pixels .ensures) (c .before .too-tight .ensures))
+    bytes-work _ _ _ _ _ _ (c .before .before .before .shared .ensures) (c .before .before .if1 .left)
+    (work-greys _ _ _ (c .before .bins .ensures) (c .if2 .left) true
+    (sym (bytes-within _ (byte-ready _ _ _ _ _ (sym (c .before .before .before .shared .ensures) ∙ c .before .before .if1 .left) .profile) (λ i l. omega (arith, c .before .before .before .before .shared-slice-known .given i)))))
 
 pub refusal-spec : {M : Type 1} → statement M
-refusal-spec =
-    tie.close
-    (tie.spec
-    shared-requires
-    returns
-    bins-requires
-    cast-if2
-    returns-2
-    tile-pixels-requires
-    too-tight-requires
-    returns-3
-    returns-4)
+refusal-spec = tie.close (tie.spec shared-requires returns bins-requires cast-if2 returns-2 returns-3)

@@ -1,60 +1,32 @@
--- `limit::limit` meets its contract. What the code makes of the factor's bits is the factor times 2 ^ 23 (`proofs/Pattern.antt`),
--- so its one division gives the floor of the exact fraction. Assumes nothing.
-use borrow.Author.Needs.{needs}
+-- `limit::limit` meets its contract: it is the larger of `floored` and the pixels over the bins, rounded up.
+-- Assumes nothing.
 use native.Mathlib.Omega.{arith}
-use Prim.Native.Nat.{_*_, _/_, _≤_, max}
-use mathlib.Core.Path.{_≡_, sym, subst}
-use lib.Dec.{T}
-use lib.Ieee.{binary32, fits}
 use Rattle.limit.specs.Limit.{limitOf}
-use Rattle.limit.proofs.Laws.{limit-most}
-use Rattle.limit.proofs.Pattern.{not-nan, field-least, field-most, wholeOf, whole-fits, limit-code, pattern-fits}
 use Rattle.limit.proofs.limit.Statement.{statement}
 use Rattle.limit.proofs.limit.Tie as tie
+use Rattle.limit.proofs.limit.Reads as reads
+use Rattle.limit.proofs.limit.Lts as lts
+use Rattle.limit.proofs.floored.Reads as floored-reads
 
--- what owning an `f32` tells: the format holds it
-held : (c : tie.Start) → T (fits binary32 (c .args .factor))
-held c = subst T (sym (c .good .0 .1)) tt
+floored-requires : tie.Need-floored-requires
+floored-requires c κs = c .pre
 
--- the limit by the code's own floor, and its bound
-limit-is : (c : tie.Start) → limitOf (c .args .factor) (c .args .pixels) (c .args .bins) ≡ max 1 (wholeOf (c .args .factor) (c .args .pixels) / (c .args .bins * 8388608))
-limit-is c = limit-code _ _ _ (held c) (c .pre .good) (c .pre .least)
+sub-least : tie.Need-sub-least
+sub-least c = omega (arith, c .before .pre .least)
 
-limit-under : (c : tie.Start) → limitOf (c .args .factor) (c .args .pixels) (c .args .bins) ≤ 2147483648
-limit-under c = limit-most _ _ _ (c .pre .good) (c .pre .pixels) (c .pre .least)
+add-least : tie.Need-add-least
+add-least c = omega (arith, c .before .pre .pixels, c .before .pre .most)
 
-float-to-bits-bits : tie.Need-float-to-bits-bits
-float-to-bits-bits c = not-nan _ (c .pre .good)
-
-cast-bits : tie.Need-cast-bits
-cast-bits c = record { fits = pattern-fits _ (held c) }
-
-add-digits : tie.Need-add-digits
-add-digits c = search needs
-
-sub-whole : tie.Need-sub-whole
-sub-whole c = omega (arith, field-least _ (held c) (c .pre .good))
-
-shl-whole : tie.Need-shl-whole
-shl-whole c = omega (arith, field-most _ (held c) (c .pre .good))
-
-mul-whole : tie.Need-mul-whole
-mul-whole c = omega (arith, whole-fits (c .args .factor) (c .args .pixels) (held c) (c .pre .good) (c .pre .pixels))
-
-mul-floor : tie.Need-mul-floor
-mul-floor c = search needs
-
-div-floor : tie.Need-div-floor
-div-floor c = search needs
+div-least : tie.Need-div-least
+div-least c = omega (arith, c .before .pre .least)
 
 returns : tie.Need-returns
-returns c = omega (arith, limit-is (c .before))
-
-cast-result : tie.Need-cast-result
-cast-result c = omega (arith, limit-is (c .before), limit-under (c .before))
+unfolding limitOf
+returns c = omega (arith, c .before .floored .ensures, c .if1 .taken)
 
 returns-2 : tie.Need-returns-2
-returns-2 c = omega (arith, c .if1 .left, limit-is (c .before))
+unfolding limitOf
+returns-2 c = omega (arith, c .before .floored .ensures, c .if1 .left)
 
 pub limit-spec : {M : Type 1} → statement M
-limit-spec = tie.close (tie.spec float-to-bits-bits cast-bits add-digits sub-whole shl-whole mul-whole mul-floor div-floor returns cast-result returns-2)
+limit-spec = tie.close (tie.spec floored-requires sub-least add-least div-least returns returns-2)

@@ -3,7 +3,7 @@
 use mathlib.Core.Path.{_∙_, ap₂}
 use Rattle.prepare.specs.Prepare.{footOf, footerOf}
 use Rattle.prepare.proofs.Tiles.{tiles-some}
-use Rattle.prepare.proofs.Table.{tight-asks}
+use Rattle.prepare.proofs.Table.{footer-asks}
 use borrow.Author.Needs.{needs}
 use Rattle.prepare.proofs.foot.Statement.{statement}
 use Rattle.prepare.proofs.foot.Tie as tie
@@ -20,7 +20,7 @@ bins-requires : tie.Need-bins-requires
 bins-requires c κs = search needs
 
 footer-requires : tie.Need-footer-requires
-footer-requires c κs = rw (c .before .tile-pixels .ensures) (tight-asks (c .before .before .pre) (c .bins .ensures))
+footer-requires c κs = rw (c .before .tile-pixels .ensures) (footer-asks (c .before .before .pre) (c .bins .ensures))
 
 returns : tie.Need-returns
 unfolding footOf

@@ -1,7 +1,7 @@
 -- `footer` gives the footer of the clip setting, a tile's pixels and the bins.
 -- Assumes nothing.
 use mathlib.Core.Path.{sym, _∙_}
-use Rattle.prepare.proofs.Tight.{footer-off, footer-one, footer-above, limit-asks, used-asks}
+use Rattle.prepare.proofs.Footers.{footer-off, footer-one, footer-above, limit-asks, used-asks}
 use borrow.Author.Needs.{needs}
 use Rattle.prepare.proofs.footer.Statement.{statement}
 use Rattle.prepare.proofs.footer.Tie as tie

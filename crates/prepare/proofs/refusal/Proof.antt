@@ -1,8 +1,6 @@
--- `refusal` gives the first of 1 to 14 that applies.
+-- `refusal` gives the first of 1 to 13 that applies.
 -- Assumes nothing.
-use mathlib.Core.Path.{sym, _∙_}
-use Rattle.settings.proofs.Ready.{ready}
-use Rattle.prepare.proofs.Table.{film-asks, table-shared, table-work}
+use Rattle.prepare.proofs.Table.{table-shared, table-work}
 use borrow.Author.Needs.{needs}
 use Rattle.prepare.proofs.refusal.Statement.{statement}
 use Rattle.prepare.proofs.refusal.Tie as tie
@@ -18,7 +16,7 @@ returns : tie.Need-returns
 returns c = table-shared _ _ _ _ _ _ (c .before .shared .ensures) (c .if1 .taken)
 
 work-refusal-requires : tie.Need-work-refusal-requires
-work-refusal-requires c κs = film-asks (ready _ _ _ _ _ (sym (c .before .shared .ensures) ∙ c .if1 .left))
+work-refusal-requires c κs = search needs
 
 returns-2 : tie.Need-returns-2
 returns-2 c = table-work _ _ _ _ _ _ (c .before .before .shared .ensures) (c .before .if1 .left) (c .work-refusal .ensures)

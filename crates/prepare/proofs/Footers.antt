@@ -1,40 +1,32 @@
--- Refusal 14 and the footer, by the clip setting.
+-- The footer, by the clip setting.
 -- Assumes nothing.
 use Prim.Native.Nat.{ℕ, _*_}
-use mathlib.Core.Bool.{Bool, true, false, not}
+use mathlib.Core.Bool.{true, false}
 use mathlib.Core.Path.{_≡_, refl, sym, ap, _∙_, subst}
 use native.Mathlib.Omega.{arith}
-use lib.Dec.{ltb}
 use borrow.Author.Tests.{not-false}
 use lib.Ieee.{Float, ofBits, binary32, binary64}
 use Rattle.limit.specs.declared.Clip.{Clip}
 use Rattle.limit.specs.declared.Clip.the-variants.{Off, Factor}
-use Rattle.limit.specs.Limit.{allowed, isOne, limitOf, usedOf, LimitAsks, UsedAsks, tooTight}
-use Rattle.limit.proofs.Laws.{limit-room, loose-off, loose-one, tight-factor}
+use Rattle.limit.specs.Limit.{allowed, isOne, limitOf, usedOf, LimitAsks, UsedAsks}
+use Rattle.limit.proofs.Laws.{limit-room}
 use Rattle.settings.specs.declared.Settings.{Settings}
 use Rattle.settings.specs.Settings.{binsOf, clipBad, clipOne}
 use Rattle.settings.specs.declared.Footer.{Footer}
-use Rattle.prepare.specs.Prepare.{pixelsIn, footerOf, footOf, TightAsks}
+use Rattle.prepare.specs.Prepare.{pixelsIn, footerOf, footOf, FooterAsks}
 
-module _ (clip : Clip) (n b : ℕ) (asks : TightAsks clip n b) where
-  -- clip off is never too tight
-  pub tight-off : clip ≡ Off → false ≡ tooTight clip n b
-  tight-off e = rw e (sym (loose-off n b))
-
+module _ (clip : Clip) (n b : ℕ) (asks : FooterAsks clip n b) where
+  -- clip off
   pub footer-off : clip ≡ Off → _≡_ {A = Footer} (record { limit = 0; asked = ofBits binary32 0; used = ofBits binary64 0 }) (footerOf clip n b)
   unfolding footerOf ofBits
   footer-off e = rw e refl
 
   module _ (f : Float) (e : clip ≡ Factor f) where
-    -- a factor that is allowed is not refused
     -- the factor is allowed
     fair : allowed f ≡ true
     fair = not-false (allowed f) (subst (λ x. clipBad x ≡ false) e (asks .good))
 
-    -- at 1.0 there is no 14
-    pub tight-one : isOne f ≡ true → false ≡ tooTight clip n b
-    tight-one q = rw e (sym (loose-one f n b q))
-
+    -- exactly 1.0
     pub footer-one : isOne f ≡ true
         → _≡_ {A = Footer} (record { limit = 0; asked = ofBits binary32 1065353216; used = ofBits binary64 4607182418800017408 }) (footerOf clip n b)
     unfolding footerOf ofBits
@@ -43,10 +35,7 @@ module _ (clip : Clip) (n b : ℕ) (asks : TightAsks clip n b) where
     pub limit-asks : LimitAsks f n b
     limit-asks = record { good = fair; pixels = asks .pixels; least = asks .least; most = asks .most }
 
-    -- above 1.0 it is the limit times the bins that decides
-    pub tight-above : {l : ℕ} → isOne f ≡ false → l ≡ limitOf f n b → ltb (l * b) n ≡ tooTight clip n b
-    tight-above q p = rw (e, p) (sym (tight-factor f n b q))
-
+    -- above 1.0
     pub footer-above : {l : ℕ} {u : Float} → isOne f ≡ false → l ≡ limitOf f n b → u ≡ usedOf l b n
         → _≡_ {A = Footer} (record { limit = l; asked = f; used = u }) (footerOf clip n b)
     unfolding footerOf
