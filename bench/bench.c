@@ -94,7 +94,7 @@ static int rounds(uint32_t side) { return side >= 4096 ? 15 : side >= 2048 ? 30 
 
 static double share_of(const struct bench *b)
 {
-    return film_share(b->film, b->of.side, 1 + (b->settings.max - b->settings.min) / b->settings.bins);
+    return film_share(b->film, b->of.side, b->settings.bins, b->settings.max + 1);
 }
 
 /* Measures the calls of the set `which` on a film, when its check is passed. */

@@ -98,11 +98,11 @@ void film_draw(uint16_t *film, enum kind kind, uint32_t side, uint32_t bits)
         draw_plate(film, kind, side, bits);
 }
 
-double film_share(const uint16_t *film, uint32_t side, uint32_t wide)
+double film_share(const uint16_t *film, uint32_t side, uint32_t bins, uint32_t greys)
 {
     size_t same = 0;
     for (uint32_t y = 0; y < side; y++, film += side)
         for (uint32_t x = 1; x < side; x++)
-            same += film[x] / wide == film[x - 1] / wide;
+            same += film[x] * bins / greys == film[x - 1] * bins / greys;
     return (double)same / ((double)side * (side - 1));
 }

@@ -1,5 +1,6 @@
 """Prepare, draw and enhance: a second reading of document 01, and of document
-02's orders 1 (byte films) and 2 (no more refusal 14).
+02's orders 1 (byte films), 2 (no more refusal 14) and 3 (bins that no pixel
+reaches).
 
 Plain and slow. Whole numbers and fractions.Fraction only; the one float is
 the division behind the footer's "factor used", which Python rounds correctly
@@ -54,14 +55,10 @@ def bin_count(bins):
     return 128 if bins == 0 else bins
 
 
-def bin_width(low, high, bins):
-    """"Bin width W = 1 + floor(R / B)", with "R = Max - Min." """
-    return 1 + (high - low) // bins
-
-
 def bin_of(grey, low, high, bins):
-    """"a grey v is in bin floor((v - Min) / W)." """
-    return (grey - low) // bin_width(low, high, bins)
+    """Order 3: "The bin of grey v shall be floor((v - Min) x B / (R + 1))."
+    "R = Max - Min." """
+    return (grey - low) * bins // (high - low + 1)
 
 
 def limit_of(bits, pixels, bins):
@@ -139,11 +136,10 @@ def mapping_of(counts, low, high, pixels):
 def tile_counts(picture, width, tile_width, tile_height, row, column, low, high, bins):
     """The raw counts of the tile in the given tile row and tile column."""
     counts = [0] * bins
-    size = bin_width(low, high, bins)
     for y in range(row * tile_height, (row + 1) * tile_height):
         at = y * width + column * tile_width
         for grey in picture[at:at + tile_width]:
-            counts[(grey - low) // size] += 1
+            counts[bin_of(grey, low, high, bins)] += 1
     return counts
 
 
@@ -211,8 +207,8 @@ def grey_at(x, y, grey, width, height, settings, maps):
 
 
 def refusal_1_to_10(width, height, picture, settings):
-    """Rows 1 to 10 of the table, "The first that applies is given."  0 when
-    none applies."""
+    """Rows 1 to 10 of the table, with 31 behind 9, "The first that applies is
+    given."  0 when none applies."""
     across, down, bins, low, high, clip = settings
     # 1: "width or height is 0 or above 4096"
     if width == 0 or width > 4096 or height == 0 or height > 4096:
@@ -238,6 +234,9 @@ def refusal_1_to_10(width, height, picture, settings):
     # 9: "bins 1 or above 4096"
     if bins == 1 or bins > 4096:
         return 9
+    # Order 3: "31, bins (after 0 is read as 128) above R + 1, after 9."
+    if bin_count(bins) > high - low + 1:
+        return 31
     # 10: "factor NaN, infinite, below 1.0 or above 1024.0"
     if clip is not None:
         factor = factor_number(clip)
@@ -247,7 +246,7 @@ def refusal_1_to_10(width, height, picture, settings):
 
 
 def refusal_1_to_11(width, height, picture, settings, map_buffer):
-    """Rows 1 to 11 of the table.  0 when none applies."""
+    """Rows 1 to 11 of the table, with 31 behind 9.  0 when none applies."""
     refusal = refusal_1_to_10(width, height, picture, settings)
     if refusal:
         return refusal
@@ -258,8 +257,8 @@ def refusal_1_to_11(width, height, picture, settings, map_buffer):
 
 
 def refusal_1_to_13(width, height, picture, settings, map_buffer, scratch):
-    """"Prepare and enhance: 1 to 14 upward."  Order 2: "Strike 14".  0 when
-    none applies."""
+    """"Prepare and enhance: 1 to 14 upward."  Order 2: "Strike 14"; order 3
+    puts 31 behind 9.  0 when none applies."""
     refusal = refusal_1_to_11(width, height, picture, settings, map_buffer)
     if refusal:
         return refusal

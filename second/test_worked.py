@@ -1,5 +1,5 @@
 """The worked numbers of document 01, "Numbers to check by hand", one by one,
-as document 02's order 2 changes them, and the profile of its order 1.
+as document 02's orders 2 and 3 change them, and the profile of its order 1.
 
 Run: python3 second/test_worked.py   (prints the number of checks)
 """
@@ -90,9 +90,46 @@ def clips():
 
 
 def bins():
-    """"Range 0..255: B 128 puts 255 in bin 127; B 100 in bin 85." """
+    """"Range 0..255: B 128 puts 255 in bin 127".  Order 3: "Range 0..255 with
+    B 100 now puts 255 in bin 99, with B 255 in bin 254." """
     same(clahe.bin_of(255, 0, 255, 128), 127)
-    same(clahe.bin_of(255, 0, 255, 100), 85)
+    same(clahe.bin_of(255, 0, 255, 100), 99)
+    same(clahe.bin_of(255, 0, 255, 255), 254)
+    same([clahe.bin_of(grey, 0, 5, 4) for grey in range(6)], [0, 0, 1, 2, 2, 3])
+    same([clahe.bin_of(grey, 100, 200, 4) for grey in (100, 125, 126, 130, 200)], [0, 0, 1, 1, 3])
+    # "Show that every bin has at least one grey."  And with one bin more than
+    # there are greys some bin has none.
+    for low, high in ((0, 1), (0, 15), (7, 29), (0, 255), (4000, 4095), (0, 4095)):
+        greys = high - low + 1
+        for b in (2, 3, greys // 2, greys - 1, greys):
+            if 2 <= b <= greys:
+                same({clahe.bin_of(grey, low, high, b) for grey in range(low, high + 1)}, set(range(b)))
+        same(len({clahe.bin_of(grey, low, high, greys + 1) for grey in range(low, high + 1)}) < greys + 1, True)
+
+
+def unreached():
+    """Order 3: "31, bins (after 0 is read as 128) above R + 1, after 9." """
+    for low, high in ((0, 1), (0, 15), (100, 110), (0, 255), (1, 4095)):
+        for clip in (None, 0x3F800000, f32(2.0)):
+            same(isinstance(prepared(8, 8, 2, 2, high - low + 1, low, high, clip, low), tuple), True)
+            same(prepared(8, 8, 2, 2, high - low + 2, low, high, clip, low), 31)
+    same(isinstance(prepared(8, 8, 2, 2, 0, 0, 127, None), tuple), True)
+    same(prepared(8, 8, 2, 2, 0, 0, 126, None), 31)
+    # Behind 9 and 8, before 10 and all that follows.
+    same(prepared(8, 8, 2, 2, 4097, 0, 4095, None), 9)
+    same(prepared(8, 8, 2, 2, 2, 9, 9, None, 9), 8)
+    same(prepared(8, 8, 2, 2, 17, 0, 15, 0x7FC00000), 31)
+    settings = clahe.Settings(2, 2, 17, 0, 15, None)
+    same(clahe.enhance(8, 8, [99] * 64, settings, [], []), 31)
+    record = clahe.Record(1, 8, 8, settings)
+    same(clahe.draw(1, 8, 8, [0] * 64, settings, record, (0, 0, 8, 8), [0] * 68, [0] * 64), 31)
+    same(clahe.draw(2, 8, 8, [0] * 64, settings, record, (0, 0, 0, 0), [], []), 31)
+    # "in a strongly clipped tile the whites stop well short of Max": now they
+    # reach it, with 255 bins on 0 to 255 as with 128.
+    for b in (128, 255):
+        picture = [0, 0, 0, 255] * 16
+        clahe.enhance(8, 8, picture, clahe.Settings(2, 2, b, 0, 255, 0x3F800001), [0] * 4 * b, [0] * b)
+        same(max(picture), 255)
 
 
 def blends():
@@ -161,6 +198,13 @@ def listings():
     same(listing.listing(b"P5\n128 65\n#"), b"refused\t21\n")
     same(listing.listing(b"P5\n128 64\n0\n"), b"refused\t23\n")
     same(listing.listing(b"P5\n128 64\n255\n"), b"refused\t24\n")
+    # Order 3: four bins want four greys.  26, 5 and 6 come first.
+    for maxval in (1, 2):
+        same(listing.listing(b"P5\n2 2\n%d\n" % maxval + b"\x00\x01\x01\x00"), b"refused\t31\n")
+    same(listing.listing(b"P5\n2 2\n3\n\x00\x01\x02\x03")[:16], b"2\t2\t2\t2\t4\t0\t3\t1\n")
+    same(listing.listing(b"P5\n2 2\n1\n\x00\x01\x02\x00"), b"refused\t26\n")
+    same(listing.listing(b"P5\n3 2\n1\n" + b"\x00" * 6), b"refused\t5\n")
+    same(listing.listing(b"P5\n2 3\n1\n" + b"\x00" * 6), b"refused\t6\n")
     # The largest film, two bytes a sample.
     same(listing.listing(b"P5\n128 64\n4095\n" + b"\x0f\xff" * 8192)[:29],
          b"128\t64\t2\t2\t4\t0\t4095\t1024\n0\t0\t")
@@ -207,6 +251,14 @@ def byte_films():
         same(answer(profile(clip=f32(1025.0), **outside)), 10)
     same(answer(profile(across=17)), 3)
     same(answer(profile(bins=1)), 9)
+    # Order 3: 31 behind 9, before 10 and so before 30; in the profile it is
+    # never met.
+    for few in ({"max": 62}, {"bins": 0, "max": 126}, {"bins": 256, "min": 1}, {"bins": 257}):
+        same(answer(profile(**few)), 31)
+        same(answer(profile(clip=f32(1025.0), across=4, **few)), 31)
+    same(answer(profile(max=63)), 30)
+    same(answer(profile(bins=0, max=127)), 30)
+    same(answer(profile(bins=4097, max=62)), 9)
     same(answer(profile(max=4096)), 7)
     same(answer(profile(), 4095), 11)
     for clip in (None, f32(1.0), f32(3.0)):
@@ -244,6 +296,7 @@ if __name__ == "__main__":
     limits()
     clips()
     bins()
+    unreached()
     blends()
     footers()
     listings()

@@ -120,6 +120,20 @@ try '--bytes --range 0:254, before 13' 30 enhance shallow.pgm "$out" --bytes --r
 try '--bytes --grid 4x4 --clip nan' 10 enhance shallow.pgm "$out" --bytes --grid 4x4 --clip nan
 try '--bytes --grid 17x8 --bins 100' 3 enhance shallow.pgm "$out" --bytes --grid 17x8 --bins 100
 try '--bytes, and a window across the edge' 16 window shallow.pgm "$out" --bytes --at 511,0 --size 2x2
+{ printf 'P5\n80 80\n15\n'; head -c 6400 /dev/zero; } >faint.pgm
+told='There are more bins'
+try '--bins 128, a film of 16 greys' 31 enhance faint.pgm "$out" --bins 128
+told='There are more bins'
+try '--bins 0, a film of 16 greys' 31 enhance faint.pgm "$out" --bins 0
+told='There are more bins'
+try '--bins 17, a film of 16 greys, a window' 31 window faint.pgm "$out" --bins 17 --at 0,0 --size 8x8
+try '--range 0:100 --bins 102 --clip nan' 31 enhance film.pgm "$out" --range 0:100 --bins 102 --clip nan
+try '--range 0:100 --bins 4097' 9 enhance film.pgm "$out" --range 0:100 --bins 4097
+try '--range 0:100, and no --bins: a pixel above the range' 13 enhance film.pgm "$out" --range 0:100
+told='There are more bins'
+try '--bytes --range 0:100 --bins 128' 31 enhance shallow.pgm "$out" --bytes --range 0:100 --bins 128
+told='outside the byte profile'
+try '--bytes --range 0:100, and no --bins' 30 enhance shallow.pgm "$out" --bytes --range 0:100
 try 'an empty window' 16 window film.pgm "$out" --at 0,0 --size 0x0
 try 'a window across the edge' 16 window film.pgm "$out" --at 511,0 --size 2x2
 try 'a window of 2^64 pixels' 16 window film.pgm "$out" --at 4294967295,4294967295 --size 4294967295x4294967295
@@ -132,6 +146,17 @@ try 'the factor next above 1.0, a window: rendered' 0 window film.pgm "$out" --b
 { printf 'P5\n80 80\n255\n'; head -c 6400 /dev/zero; } >small.pgm
 told='limit 2, factor asked 1.25, factor used 1.28'
 try '--bytes --bins 64 --clip 1.25, tiles of 100 pixels: rendered' 0 enhance small.pgm "$out" --bytes --bins 64 --clip 1.25
+
+# ---- no --bins: 128, or as many as the range has greys
+told='limit 18,'
+try 'no --bins, a film of 16 greys: 16 bins' 0 enhance faint.pgm "$out"
+told='limit 150,'
+try 'no --bins, a range of 2 greys, a window: 2 bins' 0 window faint.pgm "$out" --range 0:1 --at 7,7 --size 9x9
+"$tz" enhance film.pgm plain.pgm --bins 128 2>plain
+"$tz" enhance film.pgm "$out" 2>said
+saw=$?
+if [ "$saw" -eq 0 ] && cmp -s plain.pgm "$out" && cmp -s plain said && no_leftover out; then ok=yes; else ok=no; fi
+report "$ok" 'no --bins, a film of 4,096 greys: 128 bins' "status $saw: $(head -n 1 said)"
 
 # ---- bytes: inside the profile the film and the footer are those of the same command without --bytes
 alike() { # WHAT COMMAND SETTINGS..
@@ -201,6 +226,9 @@ judge 'a raster without end, through a pipe' 25 $?
 try 'no such file' 66 enhance nowhere.pgm "$out"
 try 'an input that is a folder' 66 enhance out "$out"
 try 'a listing of a film too large for it' 22 listing film.pgm
+printf 'P5 2 2 2 \0\1\2\0' >three.pgm
+told='The listing has 4 bins'
+try 'a listing of a film of three greys' 31 listing three.pgm
 
 # ---- standard input and output
 cp before "$out"

@@ -21,7 +21,7 @@
 
 #include "tzofnadir.h"
 
-/* Exit statuses beside the refusals' own numbers, 1 to 30. */
+/* Exit statuses beside the refusals' own numbers, 1 to 31. */
 enum {
     BAD_WORDS = 64,     /* the command line */
     TOO_LONG = 65,      /* IN goes on behind what is read of it */
@@ -109,12 +109,13 @@ static const char usage[] =
     "       tzofnadir listing IN.pgm\n"
     "\n"
     "SETTINGS: --grid 8x8         tiles across and down, 2 to 16 each\n"
-    "          --bins 128         grey bins, 2 to 4096; 0 means 128\n"
+    "          --bins 128         grey bins, 2 to 4096, no more than the range has greys; 0 means 128\n"
+    "                             where none are given: 128, or MAX - MIN + 1 if that is less\n"
     "          --range MIN:MAX    grey range, 0 to the file's maxval unless given\n"
     "          --clip 3.0|off     clip factor, 1.0 to 1024.0\n"
     "          --bytes            work on bytes: maxval at most 255, grid 8x8, range 0:255, bins 64, 128 or 256\n"
     "'-' stands for standard input or standard output. Films are raw PGM (P5) of up to 4096 by 4096 pixels.\n"
-    "Exit status: 0 done; 1 to 30 a refusal, told on standard error; 64 bad words; 65 the input is too long;\n"
+    "Exit status: 0 done; 1 to 31 a refusal, told on standard error; 64 bad words; 65 the input is too long;\n"
     "66 no input; 71 no memory; 73 the output cannot be created; 74 reading or writing failed.\n";
 
 static int bad_words(const char *why, const char *word)
@@ -544,7 +545,14 @@ static int write_film(const char *name, const uint16_t *picture, const tz_sizes 
 
 /* ---- the commands ---- */
 
-/* Reads the film, settles the range and lends map and scratch. */
+/* The bins where none are asked for. A range of fewer greys would be refused with more. */
+static uint32_t bins_for(const tz_settings *s)
+{
+    int few = s->min < s->max && s->max - s->min < TZ_USUAL_BINS;
+    return few ? s->max - s->min + 1 : TZ_USUAL_BINS;
+}
+
+/* Reads the film, settles the range and the bins, and lends map and scratch. */
 static int begin(struct job *job, struct work *w)
 {
     int bytes = (job->given & BYTES) != 0;
@@ -555,6 +563,8 @@ static int begin(struct job *job, struct work *w)
         job->settings.min = 0;
         job->settings.max = bytes ? 255 : w->sizes.maxval;
     }
+    if ((job->given & BINS) == 0)
+        job->settings.bins = bins_for(&job->settings);
     /* one entry more, so that there is memory to point at whatever the settings say */
     size_t entries = tz_map_entries(&job->settings) + 1;
     if (bytes)
@@ -664,6 +674,8 @@ static int listing(struct job *job, struct work *w)
         return refuse(refusal);
     code = put_straight(STDOUT_FILENO, "standard output", text, count);
     refusal = listed_refusal(text, count);
+    if (refusal == TZ_BINS_UNREACHED) /* the listing's bins are not asked for */
+        return refuse_saying(refusal, "The listing has 4 bins, and a film of this maxval has fewer greys.");
     return refusal == TZ_DONE ? code : refuse(refusal);
 }
 
@@ -693,7 +705,7 @@ static void let_go(struct work *w)
 
 int main(int argc, char **argv)
 {
-    struct job job = {.settings = {.across = 8, .down = 8, .bins = 128, .clip = 1, .factor = 3.0f}};
+    struct job job = {.settings = {.across = 8, .down = 8, .clip = 1, .factor = 3.0f}};
     struct work work = {0};
     if (hold_streams() != 0)
         return IO_FAULT;

@@ -66,7 +66,8 @@ enum tz_refusal {
     TZ_RASTER_LONG = 25,     /* bytes behind the raster */
     TZ_SAMPLE = 26,          /* a sample above maxval */
     TZ_TARGET_SHORT = 27,    /* the caller's target too short */
-    TZ_PROFILE = 30          /* a film of bytes: grid not 8 by 8, range not 0 to 255, or bins not 64, 128 or 256 */
+    TZ_PROFILE = 30,         /* a film of bytes: grid not 8 by 8, range not 0 to 255, or bins not 64, 128 or 256 */
+    TZ_BINS_UNREACHED = 31   /* bins, 0 read as 128, above Max - Min + 1 */
 };
 
 /* One plain sentence for a refusal's number, to show to a person. */
@@ -104,6 +105,7 @@ static inline const char *tz_refusal_text(uint32_t refusal)
         "There is no refusal of this number.",
         "There is no refusal of this number.",
         "The settings are outside the byte profile: grid 8 by 8, range 0 to 255, bins 64, 128 or 256.",
+        "There are more bins (0 stands for 128) than greys in the range: ask for fewer, on the command line by --bins.",
     };
     return refusal < sizeof text / sizeof text[0] ? text[refusal] : text[19];
 }
@@ -113,7 +115,7 @@ static inline const char *tz_refusal_text(uint32_t refusal)
 /* What the interpreter chooses. clip 0: off, and factor does not count; any other: the factor counts. */
 typedef struct tz_settings {
     uint32_t across, down; /* tiles across and down, 2 to 16 each; both sides of the film are multiples */
-    uint32_t bins;         /* 2 to 4096; 0 means 128 */
+    uint32_t bins;         /* 2 to 4096; 0 means 128; at most max - min + 1, so that each bin has a grey */
     uint32_t min, max;     /* the grey range: all pixels lie in it, and so does the rendering */
     uint32_t clip;
     float factor;          /* 1.0 to 1024.0; exactly 1.0 returns the film unchanged */
@@ -273,7 +275,7 @@ static inline tz_footer tz_footer_of(uint32_t limit, float asked, double used)
  * Give each film that is open at the same time a number of its own.
  *
  * Sizes: picture_len is width x height; map_len at least tz_map_entries, scratch_len at least tz_scratch_entries.
- * Refusals, the first that applies: 1 to 13 upward.
+ * Refusals, the first that applies: 1 to 9 upward, 31, then 10 to 13.
  */
 static inline uint32_t tzofnadir_prepare(uint32_t film, uint32_t width, uint32_t height,
                                          const uint16_t *picture, size_t picture_len, const tz_settings *s,
@@ -297,7 +299,7 @@ static inline uint32_t tzofnadir_prepare(uint32_t film, uint32_t width, uint32_t
  * Enhance: renders the whole film in place. Map, scratch and footer as prepare leaves them. At factor 1.0
  * nothing changes.
  *
- * Sizes as for prepare. Refusals, the first that applies: 1 to 13 upward.
+ * Sizes and refusals as for prepare.
  */
 static inline uint32_t tzofnadir_enhance(uint32_t width, uint32_t height, uint16_t *picture, size_t picture_len,
                                          const tz_settings *s, uint16_t *map, size_t map_len,
@@ -323,7 +325,8 @@ static inline uint32_t tzofnadir_enhance(uint32_t width, uint32_t height, uint16
  * record (bins 0 read as 128 on both sides), so that no film is drawn with the mappings of another.
  *
  * Sizes: picture_len is width x height; map_len at least tz_map_entries; out_len exactly the window's area.
- * Refusals, the first that applies: 1 to 11, 15, 16, 17, then 13 over the window, then 18 (not at factor 1.0).
+ * Refusals, the first that applies: 1 to 9, 31, 10, 11, 15, 16, 17, then 13 over the window, then 18 (not at factor
+ * 1.0).
  */
 static inline uint32_t tzofnadir_draw(uint32_t film, uint32_t width, uint32_t height,
                                       const uint16_t *picture, size_t picture_len, const tz_settings *s,
@@ -344,7 +347,7 @@ static inline uint32_t tzofnadir_draw(uint32_t film, uint32_t width, uint32_t he
  * mappings in bytes here and in 16 bits there. A call takes up to 80 KiB of stack: rows and mappings are widened there.
  *
  * Sizes as for the wide calls; an entry of the map buffer is a byte.
- * Refusals, the first that applies: 1 to 10 upward, 30, then 11, 12. A byte lies in 0 to 255, so 13 is never given.
+ * Refusals, the first that applies: 1 to 9 upward, 31, 10, 30, 11, 12. A byte lies in 0 to 255, so 13 is never given.
  */
 static inline uint32_t tzofnadir_prepare_bytes(uint32_t film, uint32_t width, uint32_t height,
                                                const uint8_t *picture, size_t picture_len, const tz_settings *s,
@@ -381,7 +384,7 @@ static inline uint32_t tzofnadir_enhance_bytes(uint32_t width, uint32_t height, 
 }
 
 /*
- * Draw on bytes. Refusals, the first that applies: 1 to 10 upward, 30, then 11, 15, 16, 17. Neither 13 nor 18 is ever
+ * Draw on bytes. Refusals, the first that applies: 1 to 9 upward, 31, 10, 30, 11, 15, 16, 17. Neither 13 nor 18 is ever
  * given: a byte lies in 0 to 255.
  */
 static inline uint32_t tzofnadir_draw_bytes(uint32_t film, uint32_t width, uint32_t height,
@@ -460,7 +463,7 @@ static inline uint32_t tzofnadir_write(const uint16_t *picture, size_t picture_l
  *
  * Sizes: out_len at least TZ_LISTING_BYTES, else 27. A film's refusal is part of the text, `refused`, tab, number:
  * 22 for an input above 32,768 bytes before all else, then as read gives them, where a film above 8,192 pixels is 22
- * too, then 26, then as prepare gives them.
+ * too, then 26, then as prepare gives them, and so 31 where maxval is 1 or 2.
  */
 static inline uint32_t tzofnadir_listing(const uint8_t *bytes, size_t len, uint8_t *out, size_t out_len, size_t *count)
 {

@@ -1,14 +1,15 @@
 // The bin of a grey.
 ghost use mathlib.Core.Path.{_≡_};
-ghost use Prim.Native.Nat.{_-_, _*_, _≤_, _<_};
+ghost use Prim.Native.Nat.{_+_, _-_, _*_, _≤_, _<_};
 ghost use Rattle.binning.specs.Binning.{factorOf, binBy};
 
-// The factor that stands for one over the bin width, so that no grey is divided.
+// The factor that stands for the bins over the greys of the range, so that no grey is divided. With no more bins than greys it stays in 32 bits.
 pub fn bin_factor(min: u32, max: u32, bins: u32) -> u32
-    requires { ⌜ (min ≤ max) × (max ≤ 4095) × (0 < bins) ⌝ }
+    requires { ⌜ (min ≤ max) × (max ≤ 4095) × (0 < bins) × (bins ≤ max - min + 1) ⌝ }
     ensures { λ r. ⌜ r ≡ factorOf min max bins ⌝ }
 {
-    16777216 / (1 + (max - min) / bins) + 1
+    let greys = max - min + 1;
+    ((bins as u64) * 16777216 / (greys as u64) + 1) as u32
 }
 
 // The bin of a grey by the factor: one product and one division by 2^24, which is a shift.

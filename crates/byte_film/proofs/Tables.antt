@@ -22,7 +22,7 @@ use Rattle.profile.proofs.Profile.{byte-numbered, byte-ready, byte-inside, prof
 use Rattle.byte_film.specs.Bytes.{bytePrepareRows, ByteWork, ByteTilesAsk}
 
 module _ (w h : ℕ) (pic : List ℕ) (s : Settings) (room scratch : ℕ) where
-  -- one of the rows 1 to 10, 30 and 11 applies
+  -- one of the rows 1 to 9, 31, 10, 30 and 11 applies
   pub bytes-shared : {r : ℕ} → r ≡ first (byteRows w h (length pic) s room) → (r ≡ 0 → ⊥) → r ≡ first (bytePrepareRows w h pic s room scratch)
   unfolding bytePrepareRows
   bytes-shared e z = front (byteRows w h (length pic) s room) _ e z

@@ -15,7 +15,7 @@ use Rattle.prepare.specs.declared.Enhanced.the-variants as Enhanced
 use Rattle.prepare.specs.Prepare.{tileMap, mappings, workRows, Ended, ending, preparedOf, Over, overing, enhancedOf, Work}
 use Rattle.profile.specs.Profile.{byteRows, Profile}
 
--- "1 to 10 as they stand, then 30 .., then 11 and on as in the wide call"
+-- "1 to 10 as they stand, then 30 .., then 11 and on as in the wide call"; 31 stands behind 9
 unfoldable pub bytePrepareRows : ℕ → ℕ → List ℕ → Settings → ℕ → ℕ → List Row
 bytePrepareRows w h pic s room scratch = byteRows w h (length pic) s room ++ workRows pic s scratch
 

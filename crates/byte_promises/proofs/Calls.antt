@@ -15,14 +15,15 @@ use Rattle.settings.specs.declared.Footer.{Footer}
 use Rattle.settings.specs.Settings.{binsOf, entriesOf, keptOf, recordOf, clipOne}
 use Rattle.prepare.specs.Prepare.{pixelsIn, preparedSays, enhancedSays, Ended, ending, prepareOf, Over, overing, enhanceOf}
 use Rattle.prepare.proofs.Like.{enhance-kept}
-use Rattle.draw.specs.Draw.{drawnSays, Shows, showing, drawOf, Held}
+use Rattle.draw.specs.Draw.{drawnSays, Shows, showing, drawOf, Held, DrawReady}
 use Rattle.draw.proofs.Tables.{draw-ready}
-use Rattle.promises.specs.Films.{clippedCounts, ruleGrey, ClippingOn, ClipCase, FooterShows, FilmSound, LimitFits}
+use Rattle.promises.specs.Films.{clippedCounts, ruleGrey, ClippingOn, ClipCase, FooterShows, FilmSound, LimitFits, BinsReached}
 use Rattle.promises.proofs.Accepted.{table-accepted, prepare-work, prepare-record, enhance-work, draw-table}
 use Rattle.promises.proofs.Reuse.{left-settings}
 use Rattle.promises.proofs.Demand2.{own-mapping, own-mapping-enhance, own-rendering, own-pixels, enhance-agrees}
 use Rattle.promises.proofs.Windows.{accepted-by-rule, accepted-as-film, accepted-as-enhanced}
 use Rattle.promises.proofs.Demand3.{tiles-sound, tiles-sound-enhance, footer-shows, footer-shows-enhance, footer-fits, clip-cases}
+use Rattle.promises.proofs.Bins.{tiled-reached}
 use Rattle.promises.proofs.Runs.{PrepareCall, EnhanceCall, DrawCall}
 use Rattle.promises.proofs.Calls.{drawnGrey}
 use Rattle.byte_promises.proofs.Inside.{prepare-bytes-wide, enhance-bytes-wide, draw-bytes-wide}
@@ -67,6 +68,10 @@ module _ {p : PrepareCall} {r : MapRecord} {foot : Footer} (ran : PreparesBytes 
       → (k : ℕ) → LimitFits f (pixelsIn (p .width) (p .height) (p .settings) k) (binsOf (p .settings)) (foot .limit)
   prepared-bytes-limit-fits on k = footer-fits (prepare-work _ _ _ _ _ (p .map) (p .scratch) prepare-bytes-done) prepared-bytes-footer on k
 
+  -- order 3: "every bin has at least one grey"
+  pub prepared-bytes-bins-reached : BinsReached (p .settings)
+  prepared-bytes-bins-reached = tiled-reached (prepare-work _ _ _ _ _ (p .map) (p .scratch) prepare-bytes-done .ready .tiled)
+
 -- ---- enhance on bytes
 
 module _ {e : EnhanceCall} {foot : Footer} (ran : EnhancesBytes e) (done : enhancedSays (e .answer) ≡ accepted foot) where
@@ -110,15 +115,26 @@ module _ {e : EnhanceCall} {foot : Footer} (ran : EnhancesBytes e) (done : enhan
       → (k : ℕ) → LimitFits f (pixelsIn (e .width) (e .height) (e .settings) k) (binsOf (e .settings)) (foot .limit)
   enhanced-bytes-limit-fits on k = footer-fits (enhance-work _ _ _ _ (e .map) (e .scratch) over) enhanced-bytes-footer on k
 
+  pub enhanced-bytes-bins-reached : BinsReached (e .settings)
+  enhanced-bytes-bins-reached = tiled-reached (enhance-work _ _ _ _ (e .map) (e .scratch) over .ready .tiled)
+
 -- ---- draw on bytes
+
+-- what an accepting draw on bytes knows
+drawn-bytes-ready : {d : DrawCall} → DrawsBytes d → drawnSays (d .answer) ≡ accepted tt
+    → DrawReady (d .film) (d .width) (d .height) (d .pixels) (d .settings) (d .kept) (d .window) (d .map) (length (d .out))
+drawn-bytes-ready {d} ran done =
+    let wide = draw-bytes-ends ran ∙ draw-bytes-wide (d .film) (d .width) (d .height) (d .pixels) (d .settings) (d .kept) (d .window) (d .map) (d .out)
+    (sym (ap (λ (z : Shows). drawnSays (z .answer)) (draw-bytes-ends ran)) ∙ done) in
+    draw-ready (d .film) (d .width) (d .height) (d .pixels) (d .settings) (d .kept) (d .window) (d .map) (length (d .out))
+    (table-accepted (draw-table (d .film) (d .width) (d .height) (d .pixels) (d .settings) (d .kept) (d .window) (d .map) (d .out)) (sym (ap (λ (z : Shows). drawnSays (z .answer)) wide) ∙ done) .0)
+
+pub drawn-bytes-bins-reached : {d : DrawCall} → DrawsBytes d → drawnSays (d .answer) ≡ accepted tt → BinsReached (d .settings)
+drawn-bytes-bins-reached ran done = tiled-reached (drawn-bytes-ready ran done .shown .ready .tiled)
 
 -- "A window drawn with the record of a film of another number is refused.", and so is one whose record differs in whatever field
 pub draw-bytes-differing : {d : DrawCall} → DrawsBytes d → (Held (d .film) (d .width) (d .height) (d .settings) (d .kept) → ⊥) → drawnSays (d .answer) ≢ accepted tt
-draw-bytes-differing {d} ran differs done =
-    let wide = draw-bytes-ends ran ∙ draw-bytes-wide (d .film) (d .width) (d .height) (d .pixels) (d .settings) (d .kept) (d .window) (d .map) (d .out)
-    (sym (ap (λ (z : Shows). drawnSays (z .answer)) (draw-bytes-ends ran)) ∙ done) in
-    differs (draw-ready (d .film) (d .width) (d .height) (d .pixels) (d .settings) (d .kept) (d .window) (d .map) (length (d .out))
-    (table-accepted (draw-table (d .film) (d .width) (d .height) (d .pixels) (d .settings) (d .kept) (d .window) (d .map) (d .out)) (sym (ap (λ (z : Shows). drawnSays (z .answer)) wide) ∙ done) .0) .held)
+draw-bytes-differing ran differs done = differs (drawn-bytes-ready ran done .held)
 
 pub draw-bytes-other-film : {d : DrawCall} → DrawsBytes d → d .film ≢ d .kept .film → drawnSays (d .answer) ≢ accepted tt
 draw-bytes-other-film ran other = draw-bytes-differing ran (λ held. other (held .number))

@@ -35,7 +35,7 @@ record-fifteen film w h s r d =
     ∙ each-first (λ n. eqb n 0 || eqb n 15) (recordRows film w h s r) refl (rw (record-numbers film w h s r) refl))
 
 module _ (film w h : ℕ) (pic : List ℕ) (s : Settings) (r : MapRecord) (win : Window) (m : List ℕ) (room : ℕ) (shared : first (sharedRows w h (length pic) s (length m)) ≡ 0) where
-  -- where none of the refusals 1 to 11 applies, a record that differs is refused with 15
+  -- where none of the refusals 1 to 11 and 31 applies, a record that differs is refused with 15
   pub other-record : first (recordRows film w h s r) ≢ 0 → first (drawRows film w h pic s r win m room) ≡ 15
   other-record d =
       sym (draw-record film w h pic s r win m room refl shared refl d)

@@ -1,6 +1,6 @@
 -- The parts of draw's table, one behind the other: their numbers, and what they tell where none of their rows applies.
 -- Assumes nothing.
-use Prim.Native.Nat.{ℕ, zero, suc, _+_, _*_, _≤_, _<_}
+use Prim.Native.Nat.{ℕ, zero, suc, _+_, _-_, _*_, _≤_, _<_}
 use mathlib.Core.Bool.{Bool, true, false, not, _&&_}
 use mathlib.Core.List.{List, [], _∷_, _++_}
 use mathlib.Core.Path.{_≡_, refl, ap, _∙_}
@@ -12,14 +12,15 @@ use borrow.Author.Tests.{ltb-false, eqb-false, eqb-true, not-false}
 use Rattle.lists.specs.Lists.{all}
 use Rattle.lists.proofs.Orders.{pos}
 use Rattle.refuse.specs.Refuse.{first, numbersOf, Numbered}
-use Rattle.refuse.proofs.Walk.{numbers-append, first-none, first-both, front, behind}
+use Rattle.refuse.proofs.Walk.{numbers-append, first-none, first-both, front, behind, only-front}
 use Rattle.scan.specs.Scan.{within}
 use Rattle.tally.specs.Tally.{greysOf}
 use Rattle.settings.specs.declared.Settings.{Settings}
 use Rattle.settings.specs.declared.MapRecord.{MapRecord}
 use Rattle.settings.specs.declared.Window.{Window}
-use Rattle.settings.specs.Settings.{entriesOf, clipOne, sharedRows}
+use Rattle.settings.specs.Settings.{binsOf, entriesOf, clipOne, sharedRows}
 use Rattle.settings.proofs.Ready.{shared-numbers, shared-numbered, ready}
+use Rattle.settings.proofs.Reach.{shared-31}
 use Rattle.render.specs.Render.{rectOf}
 use Rattle.draw.specs.Draw.{filmRows, keptRows, recordRows, windowRows, pixelRows, drawRows, Framed, LookAsks, Held, DrawReady}
 
@@ -52,7 +53,7 @@ pixel-numbers w pic s win m = refl
 -- of draw
 pub draw-numbers : (film w h : ℕ) (pic : List ℕ) (s : Settings) (r : MapRecord) (win : Window) (m : List ℕ) (room : ℕ)
     → numbersOf (drawRows film w h pic s r win m room)
-    ≡ 1 ∷ 1 ∷ 1 ∷ 1 ∷ 2 ∷ 3 ∷ 3 ∷ 4 ∷ 4 ∷ 5 ∷ 6 ∷ 7 ∷ 8 ∷ 9 ∷ 9 ∷ 10 ∷ 11 ∷ 15 ∷ 15 ∷ 15 ∷ 15 ∷ 15 ∷ 15 ∷ 15 ∷ 15 ∷ 15 ∷ 16 ∷ 16 ∷ 16 ∷ 16 ∷ 17 ∷ 13 ∷ 18 ∷ []
+    ≡ 1 ∷ 1 ∷ 1 ∷ 1 ∷ 2 ∷ 3 ∷ 3 ∷ 4 ∷ 4 ∷ 5 ∷ 6 ∷ 7 ∷ 8 ∷ 9 ∷ 9 ∷ 31 ∷ 10 ∷ 11 ∷ 15 ∷ 15 ∷ 15 ∷ 15 ∷ 15 ∷ 15 ∷ 15 ∷ 15 ∷ 15 ∷ 16 ∷ 16 ∷ 16 ∷ 16 ∷ 17 ∷ 13 ∷ 18 ∷ []
 unfolding numbersOf drawRows recordRows filmRows keptRows windowRows pixelRows
 draw-numbers film w h pic s r win m room =
     numbers-append (sharedRows w h (length pic) s (length m)) (recordRows film w h s r ++ (windowRows w h win room ++ pixelRows w pic s win m))
@@ -206,3 +207,18 @@ pub draw-rows : (film w h : ℕ) (pic : List ℕ) (s : Settings) (r : MapRecord)
     → drawRows film w h pic s r win m room ≡ sharedRows w h (length pic) s (length m) ++ (recordRows film w h s r ++ (windowRows w h win room ++ pixelRows w pic s win m))
 unfolding drawRows
 draw-rows film w h pic s r win m room = refl
+
+-- 31 is given only where the bins are more than the greys of the range
+pub draw-31 : (film w h : ℕ) (pic : List ℕ) (s : Settings) (r : MapRecord) (win : Window) (m : List ℕ) (room : ℕ)
+    → first (drawRows film w h pic s r win m room) ≡ 31 → s .max - s .min + 1 < binsOf s
+unfolding all drawRows
+draw-31 film w h pic s r win m room q =
+    shared-31 w h (length pic) s (length m)
+    (only-front 31 (sharedRows w h (length pic) s (length m)) _ refl
+    (rw (
+      numbers-append (recordRows film w h s r) (windowRows w h win room ++ pixelRows w pic s win m),
+      numbers-append (windowRows w h win room) (pixelRows w pic s win m),
+      record-numbers film w h s r,
+      window-numbers w h win room,
+      pixel-numbers w pic s win m,
+    ) refl) q)

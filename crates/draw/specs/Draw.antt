@@ -56,7 +56,7 @@ pixelRows w pic s win m =
     ∷ row 18 (not (clipOne (s .clip)) && not (all (within (s .min) (s .max)) (take (entriesOf s) m)))
     ∷ []
 
--- "Draw: 1 to 11, 15, 16, 17, then 13 over the window, then 18 (not at factor 1.0)"
+-- "Draw: 1 to 11, 15, 16, 17, then 13 over the window, then 18 (not at factor 1.0)"; 31 stands behind 9
 unfoldable pub drawRows : ℕ → ℕ → ℕ → List ℕ → Settings → MapRecord → Window → List ℕ → ℕ → List Row
 drawRows film w h pic s r win m room =
     sharedRows w h (length pic) s (length m) ++ (recordRows film w h s r ++ (windowRows w h win room ++ pixelRows w pic s win m))

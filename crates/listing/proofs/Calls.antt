@@ -62,7 +62,7 @@ told-both t e = (t .bytes ∙ ap (onto _) e, t .count ∙ ap length e)
 -- ---- what prepare left
 
 module _ (w h m : ℕ) (pic : List ℕ) where
-  -- the number of the rows 1 to 13, with the listing's buffers
+  -- the number of the rows 1 to 13 and 31, with the listing's buffers
   abbrev pub number : ℕ
   number = first (prepareRows w h pic (settingsOf m) 16 4)
 

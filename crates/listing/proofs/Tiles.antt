@@ -37,6 +37,11 @@ module _ {w h m : ℕ} {pic : List ℕ} (asks : TilesAsk w h pic (settingsOf m) 
   ready : Ready w h (length pic) (settingsOf m) 16
   ready = asks .work .ready
 
+  -- 4 bins are no more than the greys of 0 to maxval
+  four-reach : 4 ≤ m - 0 + 1
+  unfolding binsOf
+  four-reach = ready .tiled .reach
+
   module _ {k : ℕ} (l : k < 4) where
     -- what counting a tile asks
     pub count-asks : {r : Rect} (room : ℕ) → r ≡ tileOf w h (settingsOf m) k → 4 ≤ room → CountAsks pic w r 0 m 4 room
@@ -44,7 +49,7 @@ module _ {w h m : ℕ} {pic : List ℕ} (asks : TilesAsk w h pic (settingsOf m) 
         rw e
         record {
           inside = tile-inside (ready .tiled) l (ready .whole);
-          scale = record { order = omega arith; most = ready .tiled .max; some = omega arith; few = omega arith };
+          scale = record { order = omega arith; most = ready .tiled .max; some = omega arith; few = omega arith; reach = four-reach };
           enough = n;
           greys = tile-greys asks l;
         }

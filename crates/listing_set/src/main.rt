@@ -9,7 +9,8 @@ fn show(index: u64, bytes: &[u8]) {
     io::write_all(STDOUT_FILENO, &text[..length]);
 }
 
-// Films that are listed: document 01's example, the smallest film, two bytes a sample, and tiles with an excess.
+// Films that are listed: document 01's example, two bytes a sample, and tiles with an excess. The second has two greys for
+// four bins, and is refused with 31.
 fn listed() {
     show(
         0,
@@ -55,7 +56,7 @@ fn rasters() {
     show(24, b"P5 2 2 256 \x01\0\x01\x01\0\0\0\0");
 }
 
-// Films whose sides are no multiples of the grid: 5 before 6, and 26 before both.
+// Films whose sides are no multiples of the grid: 5 before 6, 26 before both, and all of them before 31.
 fn grids() {
     show(25, b"P5 3 2 1 \0\x01\x01\0\0\0");
     show(26, b"P5 2 3 1 \0\x01\x01\0\0\0");
@@ -84,6 +85,16 @@ fn largest() {
     show(33, b"P5 3 2731 15 ");
 }
 
+// Films of few greys. Three are fewer than the bins, 31; four have a bin each; of six the first bin and the third have two.
+fn greys() {
+    show(34, b"P5 2 2 2 \0\x01\x02\0");
+    show(35, b"P5 2 2 3 \0\x01\x02\x03");
+    show(
+        36,
+        b"P5 4 4 5 \0\x01\x02\x03\x04\x05\0\x01\x02\x03\x04\x05\x05\x05\x05\x05",
+    );
+}
+
 fn main() {
     listed();
     headers();
@@ -91,4 +102,5 @@ fn main() {
     grids();
     lengths();
     largest();
+    greys();
 }

@@ -121,7 +121,7 @@ tile-asks m {w} {h} {pic} {s} {k} {scratch} asks {r} {b} p q =
     record {
       counts = record {
         inside = tile-inside (ready .tiled) (asks .tile) (ready .whole);
-        scale = record { order = omega (arith, ready .tiled .min); most = ready .tiled .max; some = ready .tiled .bins; few = ready .tiled .binsmost };
+        scale = record { order = omega (arith, ready .tiled .min); most = ready .tiled .max; some = ready .tiled .bins; few = ready .tiled .binsmost; reach = ready .tiled .reach };
         enough = asks .film .work .bins;
         greys = tile-greys (asks .film) (asks .tile);
       };

@@ -30,7 +30,7 @@ pub work-kept : (pic : List ℕ) (s : Settings) (scratch : ℕ) → workRows pic
 unfolding workRows
 work-kept pic s scratch = rw (bins-kept s) refl
 
--- and 1 to 13
+-- and 1 to 13 and 31
 pub rows-kept : (w h : ℕ) (pic : List ℕ) (s : Settings) (room scratch : ℕ) → prepareRows w h pic (keptOf s) room scratch ≡ prepareRows w h pic s room scratch
 unfolding prepareRows
 rows-kept w h pic s room scratch = rw (shared-kept w h (length pic) s room, work-kept pic s scratch) refl

@@ -1,6 +1,6 @@
--- The rows 1 to 13: their numbers, how `work_refusal` asks 12 and 13, and what they tell where none of them applies.
+-- The rows 1 to 13 and 31: their numbers, how `work_refusal` asks 12 and 13, and what they tell where none of them applies.
 -- Assumes nothing.
-use Prim.Native.Nat.{ℕ, _≤_, _<_}
+use Prim.Native.Nat.{ℕ, _+_, _-_, _≤_, _<_}
 use mathlib.Core.Bool.{Bool, true, false, not, cond}
 use mathlib.Core.List.{List, [], _∷_, _++_}
 use mathlib.Core.Logic.{_≢_}
@@ -10,12 +10,13 @@ use lib.Dec.{ltb}
 use lib.ListN.{length}
 use borrow.Author.Tests.{lt-ltb, le-ltb, ltb-false, not-false}
 use Rattle.refuse.specs.Refuse.{first, numbersOf}
-use Rattle.refuse.proofs.Walk.{front, behind, first-none, first-never, first-both, numbers-append}
+use Rattle.refuse.proofs.Walk.{front, behind, first-none, first-never, first-both, only-front, numbers-append}
 use Rattle.lists.specs.Lists.{all}
 use Rattle.scan.specs.Scan.{within}
 use Rattle.settings.specs.declared.Settings.{Settings}
 use Rattle.settings.specs.Settings.{binsOf, entriesOf, sharedRows, Ready}
 use Rattle.settings.proofs.Ready.{ready, shared-numbers, shared-numbered, shared-room-any}
+use Rattle.settings.proofs.Reach.{shared-31}
 use Rattle.prepare.specs.Prepare.{pixelsIn, workRows, prepareRows, FilmAsks, FooterAsks, Work}
 use Rattle.prepare.proofs.Tiles.{tiles-some, tile-pixels-most}
 
@@ -29,7 +30,7 @@ footer-asks asks e =
       most = omega (arith, asks .tiled .binsmost);
     }
 
--- where none of the rows 1 to 11 applies, no setting is refused
+-- where none of the rows 1 to 11 and 31 applies, no setting is refused
 pub film-asks : {w h size : ℕ} {s : Settings} {room : ℕ} → Ready w h size s room → FilmAsks w h s
 film-asks known = record { tiled = known .tiled; fair = known .clip }
 
@@ -53,7 +54,7 @@ module _ (pic : List ℕ) (s : Settings) (scratch : ℕ) where
     work-greys l true g = let t : ltb scratch (binsOf s) ≡ false = le-ltb scratch (binsOf s) (omega arith) in rw (t, sym g) refl
     work-greys l false g = let t : ltb scratch (binsOf s) ≡ false = le-ltb scratch (binsOf s) (omega arith) in rw (t, sym g) refl
 
--- ---- 1 to 13
+-- ---- 1 to 13 and 31
 
 module _ (w h : ℕ) (pic : List ℕ) (s : Settings) (room scratch : ℕ) where
   -- the numbers, in the order of document 01
@@ -71,7 +72,14 @@ module _ (w h : ℕ) (pic : List ℕ) (s : Settings) (room scratch : ℕ) where
   unfolding prepareRows
   table-parts = refl
 
-  -- one of the rows 1 to 11 applies
+  -- 31 is given only where the bins are more than the greys of the range
+  pub table-31 : first (prepareRows w h pic s room scratch) ≡ 31 → s .max - s .min + 1 < binsOf s
+  unfolding all prepareRows
+  table-31 q =
+      shared-31 w h (length pic) s room
+      (only-front 31 (sharedRows w h (length pic) s room) (workRows pic s scratch) refl (rw (work-numbers pic s scratch) refl) q)
+
+  -- one of the rows 1 to 11 and 31 applies
   pub table-shared : {r : ℕ} → r ≡ first (sharedRows w h (length pic) s room) → (r ≡ 0 → ⊥) → r ≡ first (prepareRows w h pic s room scratch)
   unfolding prepareRows
   table-shared e z = front (sharedRows w h (length pic) s room) _ e z
@@ -81,12 +89,12 @@ module _ (w h : ℕ) (pic : List ℕ) (s : Settings) (room scratch : ℕ) where
   unfolding prepareRows
   table-work e z q = behind (sharedRows w h (length pic) s room) _ (shared-numbered w h (length pic) s room) e z q
 
-  -- none of 1 to 13 applies: none of 1 to 11, and none of 12 and 13
+  -- none of 1 to 13 and 31 applies: none of 1 to 11 and 31, and none of 12 and 13
   pub table-both : first (prepareRows w h pic s room scratch) ≡ 0 → (first (sharedRows w h (length pic) s room) ≡ 0) × (first (workRows pic s scratch) ≡ 0)
   unfolding prepareRows
   table-both e = first-both (sharedRows w h (length pic) s room) _ (shared-numbered w h (length pic) s room) e
 
-  -- none of the rows 1 to 13 applies: what the work below relies on
+  -- none of the rows 1 to 13 and 31 applies: what the work below relies on
   pub work : first (prepareRows w h pic s room scratch) ≡ 0 → Work w h pic s room scratch
   unfolding all numbersOf workRows
   work e =

@@ -57,7 +57,7 @@ mappings w h pic s = joined (s .across * s .down) (tileMap w h pic s)
 unfoldable pub workRows : List ℕ → Settings → ℕ → List Row
 workRows pic s scratch = row 12 (ltb scratch (binsOf s)) ∷ row 13 (not (all (within (s .min) (s .max)) pic)) ∷ []
 
--- "Prepare and enhance: 1 to 14 upward", of which order 2 strikes 14
+-- "Prepare and enhance: 1 to 14 upward", of which order 2 strikes 14; 31 stands behind 9
 unfoldable pub prepareRows : ℕ → ℕ → List ℕ → Settings → ℕ → ℕ → List Row
 prepareRows w h pic s room scratch = sharedRows w h (length pic) s room ++ workRows pic s scratch
 
@@ -167,7 +167,7 @@ pub record FooterAsks (clip : Clip) (n b : ℕ) : Type 0 where
   pub least : 2 ≤ b
   pub most : b ≤ 4096
 
--- what a call knows once none of the rows 1 to 13 applies
+-- what a call knows once none of the rows 1 to 13 and 31 applies
 pub record Work (w h : ℕ) (pic : List ℕ) (s : Settings) (room scratch : ℕ) : Type 0 where
   pub ready : Ready w h (length pic) s room
   pub bins : binsOf s ≤ scratch

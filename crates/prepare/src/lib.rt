@@ -102,7 +102,7 @@ fn work_refusal(picture: &[u16], s: Settings, scratch: usize) -> u32
     0
 }
 
-// The first of the refusals 1 to 13 that applies, else 0.
+// The first of the refusals 1 to 13 and 31 that applies, else 0.
 fn refusal(
     width: u32,
     height: u32,

@@ -26,10 +26,10 @@ pub profile-numbered : (s : Settings) → Numbered (profileRows s)
 unfolding all
 profile-numbered s = rw (profile-numbers s) refl
 
--- "1 to 10 as they stand, then 30 .., then 11"
+-- "1 to 10 as they stand, then 30 .., then 11"; 31 stands behind 9
 pub byte-numbers : (w h size : ℕ) (s : Settings) (room : ℕ)
     → numbersOf (byteRows w h size s room)
-    ≡ 1 ∷ 1 ∷ 1 ∷ 1 ∷ 2 ∷ 3 ∷ 3 ∷ 4 ∷ 4 ∷ 5 ∷ 6 ∷ 7 ∷ 8 ∷ 9 ∷ 9 ∷ 10 ∷ 30 ∷ 30 ∷ 30 ∷ 30 ∷ 30 ∷ 11 ∷ []
+    ≡ 1 ∷ 1 ∷ 1 ∷ 1 ∷ 2 ∷ 3 ∷ 3 ∷ 4 ∷ 4 ∷ 5 ∷ 6 ∷ 7 ∷ 8 ∷ 9 ∷ 9 ∷ 31 ∷ 10 ∷ 30 ∷ 30 ∷ 30 ∷ 30 ∷ 30 ∷ 11 ∷ []
 unfolding byteRows
 byte-numbers w h size s room =
     numbers-append (settingRows w h size s) (profileRows s ++ roomRows s room)
@@ -69,7 +69,7 @@ pub profile-none : (s : Settings) → Profile s → first (profileRows s) ≡ 0
 unfolding first profileRows
 profile-none s p = rw (p .bins, p .across, p .down, p .min, p .max) refl
 
--- none of the rows 1 to 10, 30 and 11 applies: what the work below relies on
+-- none of the rows 1 to 9, 31, 10, 30 and 11 applies: what the work below relies on
 pub byte-ready : (w h size : ℕ) (s : Settings) (room : ℕ) → first (byteRows w h size s room) ≡ 0 → ByteReady w h size s room
 unfolding byteRows
 byte-ready w h size s room e =

@@ -23,7 +23,7 @@ profileRows s =
     ∷ row 30 (not (eqb (s .max) 255))
     ∷ []
 
--- the rows 1 to 10, then 30, then 11
+-- the rows 1 to 9, 31 and 10, then 30, then 11
 unfoldable pub byteRows : ℕ → ℕ → ℕ → Settings → ℕ → List Row
 byteRows w h size s room = settingRows w h size s ++ (profileRows s ++ roomRows s room)
 
@@ -36,7 +36,7 @@ pub record Profile (s : Settings) : Type 0 where
   pub min : s .min ≡ 0
   pub max : s .max ≡ 255
 
--- what a byte call knows once none of the rows 1 to 10, 30 and 11 applies
+-- what a byte call knows once none of the rows 1 to 9, 31, 10, 30 and 11 applies
 pub record ByteReady (w h size : ℕ) (s : Settings) (room : ℕ) : Type 0 where
   pub ready : Ready w h size s room
   pub profile : Profile s

@@ -39,7 +39,7 @@ pub fn profile_refusal(s: Settings) -> u32
     0
 }
 
-// The first of the refusals 1 to 10, 30 and 11 that applies, else 0.
+// The first of the refusals 1 to 9, 31, 10, 30 and 11 that applies, else 0.
 pub fn shared(width: u32, height: u32, size: usize, s: Settings, room: usize) -> u32
     ensures { λ r. ⌜ r ≡ first (byteRows width height size s room) ⌝ }
 {

@@ -80,7 +80,7 @@ module _ {Y A : Type 0} {said : Y → Says A} {n : ℕ} {v : A} {done : Y} {lent
 -- ---- prepare
 
 module _ (film w h : ℕ) (pic : List ℕ) (s : Settings) (m t : List ℕ) where
-  -- prepare goes by the rows 1 to 13
+  -- prepare goes by the rows 1 to 13 and 31
   pub prepare-table : ByTable (λ (x : Ended). preparedSays (x .answer)) (first (prepareRows w h pic s (length m) (length t)))
       (recordOf film w h s, footOf w h s) (preparedOf film w h pic s m t) (λ k. ending (Prepared.Refused k) m t) (prepareOf film w h pic s m t)
   unfolding preparedOf preparedSays
@@ -93,7 +93,7 @@ module _ (film w h : ℕ) (pic : List ℕ) (s : Settings) (m t : List ℕ) where
       }
 
   module _ {r : MapRecord} {foot : Footer} (done : preparedSays (prepareOf film w h pic s m t .answer) ≡ accepted (r, foot)) where
-    -- an accepted film meets none of the rows 1 to 13
+    -- an accepted film meets none of the rows 1 to 13 and 31
     pub prepare-accepts : first (prepareRows w h pic s (length m) (length t)) ≡ 0
     prepare-accepts = table-accepted prepare-table done .0
 

@@ -43,7 +43,7 @@ draw-differing-refused {d} ran other = go (first (drawRows (d .film) (d .width) 
 pub draw-other-film-refused : {d : DrawCall} → Draws d → d .film ≢ d .kept .film → Refuses d
 draw-other-film-refused ran other = draw-differing-refused ran (λ held. other (held .number))
 
--- 15, "record differs in film number, size or any setting (bins 0 read as 128 on both sides)": given where none of 1 to 11 applies, whatever the window, the output,
+-- 15, "record differs in film number, size or any setting (bins 0 read as 128 on both sides)": given where none of 1 to 11 and 31 applies, whatever the window, the output,
 -- the pixels and the map entries
 module _ {d : DrawCall} (ran : Draws d) (shared : first (sharedRows (d .width) (d .height) (length (d .pixels)) (d .settings) (length (d .map))) ≡ 0) where
   pub draw-differing-15 : (Held (d .film) (d .width) (d .height) (d .settings) (d .kept) → ⊥) → drawnSays (d .answer) ≡ refused 15

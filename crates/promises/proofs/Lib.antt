@@ -11,3 +11,4 @@ pub mod Demand3
 pub mod Clipping
 pub mod Files
 pub mod FileOutcomes
+pub mod Bins

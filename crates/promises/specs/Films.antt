@@ -1,5 +1,5 @@
 -- What the promises speak of: the grey of a pixel by document 01's rule, clipping that is on, the footer by the clip setting, what holds of each tile
--- of an accepted film with clipping on, and its limit.
+-- of an accepted film with clipping on, its limit, and that its bins are reached.
 -- w and h are the film's width and height, pic its pixels.
 -- Assumes nothing.
 use Prim.Native.Nat.{ℕ, _+_, _-_, _*_, _/_, _≤_, _<_}
@@ -14,6 +14,7 @@ use Rattle.limit.specs.declared.Clip.{Clip}
 use Rattle.limit.specs.declared.Clip.the-variants.{Off, Factor}
 use Rattle.limit.specs.Limit.{isOne, AboveOne, flooredOf, limitOf, usedOf}
 use Rattle.clip.specs.Clip.{share}
+use Rattle.scan.specs.Scan.{within}
 use Rattle.binning.specs.Binning.{binOf}
 use Rattle.tally.specs.Tally.{greysOf, countsOf}
 use Rattle.tile.specs.Tile.{mappedOf, tileCounts}
@@ -133,3 +134,13 @@ pub record LimitFits (f : Float) (n b l : ℕ) : Type 0 where
   pub least : flooredOf f n b * b < n → (k : ℕ) → n ≤ k * b → l ≤ k
   -- and elsewhere it is what the factor gives
   pub given : n ≤ flooredOf f n b * b → l ≡ flooredOf f n b
+
+-- ---- order 3
+
+-- "every bin has at least one grey": a grey of the range
+abbrev pub BinsReached : Settings → Type 0
+BinsReached s = (k : ℕ) → k < binsOf s → (v : ℕ) × (within (s .min) (s .max) v ≡ true) × (binOf (s .min) (s .max) (binsOf s) v ≡ k)
+
+-- some bin has none
+abbrev pub BinUnreached : Settings → Type 0
+BinUnreached s = (k : ℕ) × (k < binsOf s) × ((v : ℕ) → within (s .min) (s .max) v ≡ true → (binOf (s .min) (s .max) (binsOf s) v ≡ k → ⊥))

@@ -73,9 +73,10 @@ worked =
     -- L 4, 16,0,0,0: 4,4,4,4. B 4, N 17: L 5 for the factor 1.125, which gave 4 (order 2).
     ∷ clip 4 (16 ∷ 0 ∷ 0 ∷ 0 ∷ []) (4 ∷ 4 ∷ 4 ∷ 4 ∷ [])
     ∷ limit 0x3f900000 17 4 5
-    -- Range 0..255: B 128 puts 255 in bin 127; B 100 in bin 85.
+    -- Range 0..255: B 128 puts 255 in bin 127; B 100 in bin 99, B 255 in bin 254 (order 3).
     ∷ bin 0 255 128 255 127
-    ∷ bin 0 255 100 255 85
+    ∷ bin 0 255 100 255 99
+    ∷ bin 0 255 255 255 254
     -- Tiles 2 by 2, grid 2 by 2, mapped values 10, 20, 30, 41: pixel x 2, y 2 gives 25; x 1, y 2 gives 20; x 2, y 0 gives 15.
     ∷ grey 2 2 25
     ∷ grey 1 2 20

@@ -62,6 +62,26 @@ each-first p (row n false ∷ rows) z h = each-first p rows z (and-right (p n) (
 pub first-never : (n : ℕ) (rows : List Row) → eqb 0 n ≡ false → Each (λ k. not (eqb k n)) rows → first rows ≢ n
 first-never n rows z h q = eqb-false (first rows) n (not-true _ (each-first (λ k. not (eqb k n)) rows (ap not z) h)) q
 
+-- a number that none of a table's rows has comes from the table behind it
+pub only-behind : (n : ℕ) (s t : List Row) → Each (λ k. not (eqb k n)) s → first (s ++ t) ≡ n → first t ≡ n
+unfolding first all numbersOf
+only-behind n [] t h q = q
+only-behind n (row m true ∷ s) t h q = absurd (eqb-false m n (not-true _ (and-left (not (eqb m n)) (all (λ k. not (eqb k n)) (numbersOf s)) h)) q)
+only-behind n (row m false ∷ s) t h q = only-behind n s t (and-right (not (eqb m n)) (all (λ k. not (eqb k n)) (numbersOf s)) h) q
+
+-- and from the table in front where none behind has it
+pub only-front : (n : ℕ) (s t : List Row) → eqb 0 n ≡ false → Each (λ k. not (eqb k n)) t → first (s ++ t) ≡ n → first s ≡ n
+unfolding first
+only-front n [] t z h q = absurd (first-never n t z h q)
+only-front n (row m true ∷ s) t z h q = q
+only-front n (row m false ∷ s) t z h q = only-front n s t z h q
+
+-- a table of one row gives that row's number only where the row applies
+pub only-one : (n : ℕ) (b : Bool) → eqb 0 n ≡ false → first (row n b ∷ []) ≡ n → b ≡ true
+unfolding first
+only-one n true z q = refl
+only-one n false z q = absurd (eqb-false 0 n z q)
+
 -- ---- what an accepting table tells
 
 -- no row applies: the table gives 0

@@ -147,7 +147,7 @@ ready-mapped {w} {h} {size} {s} {room} {m} ready e g =
           record {
             across = ready .tiled .acrossmost;
             down = ready .tiled .downmost;
-            scale = record { order = omega (arith, ready .tiled .min); most = ready .tiled .max; some = ready .tiled .bins; few = ready .tiled .binsmost };
+            scale = record { order = omega (arith, ready .tiled .min); most = ready .tiled .max; some = ready .tiled .bins; few = ready .tiled .binsmost; reach = ready .tiled .reach };
             room = rw e (ready .fitting);
             greys = g;
           };

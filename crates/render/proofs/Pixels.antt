@@ -100,7 +100,7 @@ pixel-within {s} {m} {column} {row} {v} asks =
     c′ = asks .column .upper
 
 module _ {s : Settings} {m : List ℕ} {column row : Place} {v f k : ℕ} (asks : PixelAsks s m column row v) (e : f ≡ factorOf (s .min) (s .max) (binsOf s)) (q : k ≡ binBy (s .min) f v) where
-  -- the pixel's bin by the factor of the bin width
+  -- the pixel's bin by the factor of the range and the bins
   bin-is : k ≡ binOf (s .min) (s .max) (binsOf s) v
   bin-is = q ∙ ap (λ n. binBy (s .min) n v) e ∙ bin-by (s .min) (s .max) (binsOf s) v (asks .grey) (asks .maps .scale .most) (omega (arith, asks .maps .scale .some))
 

@@ -24,7 +24,7 @@ fn mapped(s: Settings, map: &[u16], j: u32, i: u32, k: u32) -> u32
     map[at] as u32
 }
 
-// The rendered grey of a pixel of grey v at these places; `by` stands for the division by the spans, `bin` for that by the bin width.
+// The rendered grey of a pixel of grey v at these places; `by` stands for the division by the spans, `bin` for the one that gives the bin.
 fn pixel(s: Settings, map: &[u16], column: Place, row: Place, by: u64, bin: u32, v: u32) -> u32
     requires { ⌜ PixelAsks s (now map) column row v × Inverse (column .span * row .span) by × (bin ≡ factorOf (s .min) (s .max) (binsOf s)) ⌝ }
     ensures { λ r. ⌜ r ≡ pixelOf s (now (map .entry)) column row v ⌝ }

@@ -1,3 +1,4 @@
 pub mod Clips
 pub mod Like
 pub mod Ready
+pub mod Reach

@@ -28,9 +28,9 @@ pub bins-kept : (s : Settings) → binsOf (keptOf s) ≡ binsOf s
 unfolding binsOf
 bins-kept s = kept-law binsOf (λ x. refl) s
 
--- 7 to 9: only 9 takes the bins as they are given, and it refuses neither 0 nor 128
+-- 7 to 9 and 31: only 9 takes the bins as they are given, and it refuses neither 0 nor 128; 31 takes them with 0 read as 128
 pub range-kept : (s : Settings) → rangeRows (keptOf s) ≡ rangeRows s
-unfolding rangeRows
+unfolding rangeRows binsOf
 range-kept s = kept-law rangeRows (λ x. refl) s
 
 -- 3 to 6 do not speak of bins
@@ -48,12 +48,12 @@ pub room-kept : (s : Settings) (room : ℕ) → roomRows (keptOf s) room ≡ roo
 unfolding roomRows
 room-kept s room = rw (bins-kept s) refl
 
--- so the rows 1 to 10 are the same
+-- so the rows up to 10 are the same
 pub setting-kept : (w h size : ℕ) (s : Settings) → settingRows w h size (keptOf s) ≡ settingRows w h size s
 unfolding settingRows greyRows
 setting-kept w h size s = rw (grid-kept w h s, range-kept s, clip-kept s) refl
 
--- and 1 to 11
+-- and those up to 11
 pub shared-kept : (w h size : ℕ) (s : Settings) (room : ℕ) → sharedRows w h size (keptOf s) room ≡ sharedRows w h size s room
 unfolding sharedRows
 shared-kept w h size s room = ap₂ (λ a b. a ++ b) (setting-kept w h size s) (room-kept s room)

@@ -1,4 +1,4 @@
--- The rows 1 to 11: their numbers, and what they tell where none of them applies.
+-- The rows 1 to 9, 31, 10 and 11: their numbers, and what they tell where none of them applies.
 -- Assumes nothing.
 use Prim.Native.Nat.{ℕ, zero, suc, _+_, _*_, _/_, _%_, _≤_, _<_}
 use mathlib.Core.Bool.{Bool, true, false, cond}
@@ -25,13 +25,13 @@ pub grid-numbers : (w h : ℕ) (s : Settings) → numbersOf (gridRows w h s) ≡
 unfolding numbersOf gridRows
 grid-numbers w h s = refl
 
-pub range-numbers : (s : Settings) → numbersOf (rangeRows s) ≡ 7 ∷ 8 ∷ 9 ∷ 9 ∷ []
+pub range-numbers : (s : Settings) → numbersOf (rangeRows s) ≡ 7 ∷ 8 ∷ 9 ∷ 9 ∷ 31 ∷ []
 unfolding numbersOf rangeRows
 range-numbers s = refl
 
--- of 1 to 10
+-- of 1 to 9, 31 and 10
 pub setting-numbers : (w h size : ℕ) (s : Settings)
-    → numbersOf (settingRows w h size s) ≡ 1 ∷ 1 ∷ 1 ∷ 1 ∷ 2 ∷ 3 ∷ 3 ∷ 4 ∷ 4 ∷ 5 ∷ 6 ∷ 7 ∷ 8 ∷ 9 ∷ 9 ∷ 10 ∷ []
+    → numbersOf (settingRows w h size s) ≡ 1 ∷ 1 ∷ 1 ∷ 1 ∷ 2 ∷ 3 ∷ 3 ∷ 4 ∷ 4 ∷ 5 ∷ 6 ∷ 7 ∷ 8 ∷ 9 ∷ 9 ∷ 31 ∷ 10 ∷ []
 unfolding numbersOf settingRows sizeRows sideRows lengthRows gridRows greyRows rangeRows clipRows
 setting-numbers w h size s = refl
 
@@ -40,9 +40,9 @@ pub room-numbers : (s : Settings) (room : ℕ) → numbersOf (roomRows s room) �
 unfolding numbersOf roomRows
 room-numbers s room = refl
 
--- of 1 to 11
+-- of 1 to 9, 31, 10 and 11
 pub shared-numbers : (w h size : ℕ) (s : Settings) (room : ℕ)
-    → numbersOf (sharedRows w h size s room) ≡ 1 ∷ 1 ∷ 1 ∷ 1 ∷ 2 ∷ 3 ∷ 3 ∷ 4 ∷ 4 ∷ 5 ∷ 6 ∷ 7 ∷ 8 ∷ 9 ∷ 9 ∷ 10 ∷ 11 ∷ []
+    → numbersOf (sharedRows w h size s room) ≡ 1 ∷ 1 ∷ 1 ∷ 1 ∷ 2 ∷ 3 ∷ 3 ∷ 4 ∷ 4 ∷ 5 ∷ 6 ∷ 7 ∷ 8 ∷ 9 ∷ 9 ∷ 31 ∷ 10 ∷ 11 ∷ []
 unfolding numbersOf sharedRows settingRows sizeRows sideRows lengthRows gridRows greyRows rangeRows clipRows roomRows
 shared-numbers w h size s room = refl
 
@@ -116,6 +116,7 @@ tiled w h s sides grid range =
       min = leb-false _ _ (v .1 .0);
       bins = bins-low (s .bins) (v .1 .1 .0);
       binsmost = bins-high (s .bins) (ltb-false _ _ (v .1 .1 .1 .0));
+      reach = ltb-false _ _ (v .1 .1 .1 .1 .0);
     }
 
 -- 2: the pixels are the film's
@@ -138,7 +139,7 @@ pub fits-room : (s : Settings) (room : ℕ) → entriesOf s ≤ room → first (
 unfolding first roomRows
 fits-room s room l = rw (le-ltb room (entriesOf s) l) refl
 
--- none of the rows 1 to 10 applies: what stands before 11
+-- none of the rows 1 to 9, 31 and 10 applies: what stands before 11
 pub setting-tiled : (w h size : ℕ) (s : Settings) → first (settingRows w h size s) ≡ 0 → Tiled w h s × (size ≡ w * h) × (clipBad (s .clip) ≡ false)
 unfolding settingRows sizeRows greyRows
 setting-tiled w h size s e =
@@ -148,12 +149,12 @@ setting-tiled w h size s e =
     let d = first-both (rangeRows s) _ (range-numbered s) (b .1) in
     (tiled w h s (c .0) (b .0) (d .0), whole-length w h size (c .1), clip-fair s (d .1))
 
--- the rows 1 to 11 are 1 to 10 and 11
+-- the rows that all calls share are those up to 10, and 11
 pub shared-parts : (w h size : ℕ) (s : Settings) (room : ℕ) → sharedRows w h size s room ≡ settingRows w h size s ++ roomRows s room
 unfolding sharedRows
 shared-parts w h size s room = refl
 
--- none of the rows 1 to 11 applies: none of 1 to 10, and not 11
+-- none of them applies: none of those up to 10, and not 11
 pub shared-both : (w h size : ℕ) (s : Settings) (room : ℕ) → first (sharedRows w h size s room) ≡ 0 → (first (settingRows w h size s) ≡ 0) × (first (roomRows s room) ≡ 0)
 unfolding sharedRows
 shared-both w h size s room e = first-both (settingRows w h size s) (roomRows s room) (setting-numbered w h size s) e

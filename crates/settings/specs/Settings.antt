@@ -1,6 +1,6 @@
 -- Document 01, "Settings and sizes", and the rows of the refusal table that prepare, enhance and draw share.
 -- Assumes nothing.
-use Prim.Native.Nat.{ℕ, _*_, _%_, _≤_, _<_}
+use Prim.Native.Nat.{ℕ, _+_, _-_, _*_, _%_, _≤_, _<_}
 use mathlib.Core.Bool.{Bool, true, false, not, cond}
 use mathlib.Core.List.{List, [], _∷_, _++_}
 use mathlib.Core.Path.{_≡_}
@@ -69,15 +69,21 @@ gridRows w h s =
     ∷ row 6 (not (eqb (h % s .down) 0))
     ∷ []
 
--- 7 to 9: "Max above 4095 / Min not below Max", "bins 1 or above 4096"
+-- 7 to 9: "Max above 4095 / Min not below Max", "bins 1 or above 4096"; 31: "bins (after 0 is read as 128) above R + 1, after 9", with R = Max - Min
 unfoldable pub rangeRows : Settings → List Row
-rangeRows s = row 7 (ltb 4095 (s .max)) ∷ row 8 (leb (s .max) (s .min)) ∷ row 9 (eqb (s .bins) 1) ∷ row 9 (ltb 4096 (s .bins)) ∷ []
+rangeRows s =
+    row 7 (ltb 4095 (s .max))
+    ∷ row 8 (leb (s .max) (s .min))
+    ∷ row 9 (eqb (s .bins) 1)
+    ∷ row 9 (ltb 4096 (s .bins))
+    ∷ row 31 (ltb (s .max - s .min + 1) (binsOf s))
+    ∷ []
 
 -- 10: "factor NaN, infinite, below 1.0 or above 1024.0"
 unfoldable pub clipRows : Settings → List Row
 clipRows s = row 10 (clipBad (s .clip)) ∷ []
 
--- 7 to 10
+-- 7 to 9, 31 and 10
 unfoldable pub greyRows : Settings → List Row
 greyRows s = rangeRows s ++ clipRows s
 
@@ -85,11 +91,11 @@ greyRows s = rangeRows s ++ clipRows s
 unfoldable pub roomRows : Settings → ℕ → List Row
 roomRows s room = row 11 (ltb room (entriesOf s)) ∷ []
 
--- the rows 1 to 10
+-- the rows 1 to 9, 31 and 10
 unfoldable pub settingRows : ℕ → ℕ → ℕ → Settings → List Row
 settingRows w h size s = sizeRows w h size ++ (gridRows w h s ++ greyRows s)
 
--- the rows 1 to 11
+-- the rows 1 to 9, 31, 10 and 11
 unfoldable pub sharedRows : ℕ → ℕ → ℕ → Settings → ℕ → List Row
 sharedRows w h size s room = settingRows w h size s ++ roomRows s room
 
@@ -109,8 +115,9 @@ pub record Tiled (w h : ℕ) (s : Settings) : Type 0 where
   pub min : s .min < s .max
   pub bins : 2 ≤ binsOf s
   pub binsmost : binsOf s ≤ 4096
+  pub reach : binsOf s ≤ s .max - s .min + 1
 
--- what a call knows once none of the rows 1 to 11 applies
+-- what a call knows once none of the rows 1 to 9, 31, 10 and 11 applies
 pub record Ready (w h size : ℕ) (s : Settings) (room : ℕ) : Type 0 where
   pub tiled : Tiled w h s
   pub whole : size ≡ w * h

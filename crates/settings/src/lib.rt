@@ -172,7 +172,7 @@ pub fn grid_refusal(width: u32, height: u32, s: Settings) -> u32
     0
 }
 
-// The first of the refusals 7 to 9 that applies, else 0.
+// The first of the refusals 7 to 9 and 31 that applies, else 0. 31 stands behind 8, so Max is above Min there.
 pub fn range_refusal(s: Settings) -> u32
     ensures { λ r. ⌜ r ≡ first (rangeRows s) ⌝ }
 {
@@ -188,6 +188,11 @@ pub fn range_refusal(s: Settings) -> u32
     if 4096 < s.bins {
         return 9;
     }
+    let greys = s.max - s.min + 1;
+    let each = bins(s);
+    if greys < each {
+        return 31;
+    }
     0
 }
 
@@ -202,7 +207,7 @@ pub fn clip_refusal(s: Settings) -> u32
     0
 }
 
-// The first of the refusals 7 to 10 that applies, else 0.
+// The first of the refusals 7 to 9, 31 and 10 that applies, else 0.
 pub fn grey_refusal(s: Settings) -> u32
     ensures { λ r. ⌜ r ≡ first (greyRows s) ⌝ }
 {
@@ -213,7 +218,7 @@ pub fn grey_refusal(s: Settings) -> u32
     clip_refusal(s)
 }
 
-// The first of the refusals 1 to 10 that applies, else 0.
+// The first of the refusals 1 to 9, 31 and 10 that applies, else 0.
 pub fn setting_refusal(width: u32, height: u32, size: usize, s: Settings) -> u32
     ensures { λ r. ⌜ r ≡ first (settingRows width height size s) ⌝ }
 {
@@ -242,7 +247,7 @@ pub fn room_refusal(s: Settings, room: usize) -> u32
     0
 }
 
-// The first of the refusals 1 to 11 that applies, else 0.
+// The first of the refusals 1 to 9, 31, 10 and 11 that applies, else 0.
 pub fn shared(width: u32, height: u32, size: usize, s: Settings, room: usize) -> u32
     ensures { λ r. ⌜ r ≡ first (sharedRows width height size s room) ⌝ }
 {

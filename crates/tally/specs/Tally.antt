@@ -25,12 +25,13 @@ addedOf lo hi b cs vs = filled (λ k. getD cs k 0 + times k (map (binOf lo hi b)
 
 -- ---- what the functions ask
 
--- what is asked of Min, Max and the bins; document 01's refusals 7 to 9 leave no more than this
+-- what is asked of Min, Max and the bins; document 01's refusals 7 to 9 and 31 leave no more than this
 pub record Scale (lo hi b : ℕ) : Type 0 where
   pub order : lo ≤ hi
   pub most : hi ≤ 4095
   pub some : 2 ≤ b
   pub few : b ≤ 4096
+  pub reach : b ≤ hi - lo + 1
 
 -- a rectangle inside a picture of `size` pixels, `stride` wide, of at most 2048 x 2048 pixels and at least one
 pub record Inside (size stride : ℕ) (r : Rect) : Type 0 where
@@ -39,7 +40,7 @@ pub record Inside (size stride : ℕ) (r : Rect) : Type 0 where
   pub some : 0 < r .width * r .height
   pub few : r .width * r .height ≤ 4194304
 
--- what `count_row` asks: the factor of the bin width, room for the bins, greys from Min to Max, and counts to which a row can be added
+-- what `count_row` asks: the factor of the range and the bins, room for the bins, greys from Min to Max, and counts to which a row can be added
 pub record RowAsks (row : List ℕ) (lo hi b factor : ℕ) (counts : List ℕ) : Type 0 where
   pub by : factor ≡ factorOf lo hi b
   pub most : hi ≤ 4095
@@ -91,7 +92,7 @@ pub record CountAsks (pic : List ℕ) (stride : ℕ) (r : Rect) (lo hi b room : 
   pub enough : b ≤ room
   pub greys : all (within lo hi) (greysOf pic stride r) ≡ true
 
--- what adding the greys of a rectangle to counts asks: what `count` asks, the factor of the bin width, and counts to which they can be added
+-- what adding the greys of a rectangle to counts asks: what `count` asks, the factor of the range and the bins, and counts to which they can be added
 pub record AddAsks (pic : List ℕ) (stride : ℕ) (r : Rect) (lo hi b factor : ℕ) (counts : List ℕ) : Type 0 where
   pub asks : CountAsks pic stride r lo hi b (length counts)
   pub by : factor ≡ factorOf lo hi b

@@ -1,4 +1,4 @@
--- `byte_draw::refusal` gives the byte draw's first row that applies: 1 to 10, 30, 11, 15, 16 and 17; 13 and 18 never apply to bytes.
+-- `byte_draw::refusal` gives the byte draw's first row that applies: 1 to 9, 31, 10, 30, 11, 15, 16 and 17; 13 and 18 never apply to bytes.
 -- Assumes nothing.
 use native.Mathlib.Omega.{arith}
 use borrow.Author.Needs.{needs}

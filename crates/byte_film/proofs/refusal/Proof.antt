@@ -1,4 +1,4 @@
--- `refusal` gives the first of 1 to 10, 30 and 11 to 13 that applies; 13 is never given, since the picture is of bytes.
+-- `refusal` gives the first of 1 to 9, 31, 10, 30 and 11 to 13 that applies; 13 is never given, since the picture is of bytes.
 -- Assumes nothing.
 use mathlib.Core.Bool.{true}
 use mathlib.Core.Path.{sym, _∙_}

@@ -1,4 +1,4 @@
--- `refusal` gives draw's first row that applies: 1 to 11, 15, 16 and 17, 13 and 18.
+-- `refusal` gives draw's first row that applies: 1 to 9, 31, 10 and 11, 15, 16 and 17, 13 and 18.
 -- Assumes nothing.
 use mathlib.Core.Path.{sym, _∙_}
 use Rattle.draw.proofs.Tables.{look-asks, draw-shared, draw-record, draw-window, draw-pixel}

@@ -28,7 +28,7 @@ render-requires : tie.Need-render-requires
 unfolding binsOf all within
 render-requires c κs = (
   record {
-    maps = record { across = search needs; down = search needs; scale = record { order = search needs; most = search needs; some = search needs; few = search needs }; room = search needs; greys = search needs };
+    maps = record { across = search needs; down = search needs; scale = record { order = search needs; most = search needs; some = search needs; few = search needs; reach = search needs }; room = search needs; greys = search needs };
     columns = record { few = search needs; some = search needs; most = search needs; whole = search needs };
     rows = record { few = search needs; some = search needs; most = search needs; whole = search needs };
   },

@@ -1,4 +1,4 @@
--- `refusal` gives the first of 1 to 13 that applies.
+-- `refusal` gives the first of 1 to 13 and 31 that applies.
 -- Assumes nothing.
 use Rattle.prepare.proofs.Table.{table-shared, table-work}
 use borrow.Author.Needs.{needs}

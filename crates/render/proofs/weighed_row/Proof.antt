@@ -23,7 +23,12 @@ bins-requires : tie.Need-bins-requires Inv-loop μ-loop
 bins-requires c κs = omega arith
 
 bin-factor-requires : tie.Need-bin-factor-requires Inv-loop μ-loop
-bin-factor-requires c κs = (c .before .before .before .pre .maps .scale .order, c .before .before .before .pre .maps .scale .most, omega (arith, c .bins .ensures, c .before .before .before .pre .maps .scale .some))
+bin-factor-requires c κs = (
+  c .before .before .before .pre .maps .scale .order,
+  c .before .before .before .pre .maps .scale .most,
+  omega (arith, c .bins .ensures, c .before .before .before .pre .maps .scale .some),
+  omega (arith, c .bins .ensures, c .before .before .before .pre .maps .scale .reach),
+)
 
 loop-holds : tie.Need-loop-holds Inv-loop μ-loop
 loop-holds c = (omega arith, refl, filled-none _ _)

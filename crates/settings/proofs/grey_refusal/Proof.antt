@@ -1,4 +1,4 @@
--- `grey_refusal` gives the first of 7 to 10 that applies.
+-- `grey_refusal` gives the first of 7 to 9, 31 and 10 that applies.
 -- Assumes nothing.
 use mathlib.Core.Path.{sym, _∙_}
 use borrow.Author.Needs.{needs}

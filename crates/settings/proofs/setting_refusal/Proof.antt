@@ -1,4 +1,4 @@
--- `setting_refusal` gives the first of 1 to 10 that applies.
+-- `setting_refusal` gives the first of 1 to 9, 31 and 10 that applies.
 -- Assumes nothing.
 use mathlib.Core.Path.{refl, sym, _∙_}
 use borrow.Author.Needs.{needs}
