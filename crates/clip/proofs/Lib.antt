@@ -1,5 +1,7 @@
+pub mod Passes
 pub mod Walks
 pub mod Rounds
 pub mod Ends
+pub mod Whole
 pub mod Shares
 pub mod Laws

@@ -136,6 +136,11 @@ due-many : (l s : ℕ) (cs : List ℕ) (r : ℕ) → 0 < r → due l s cs r < 0 
 unfolding due
 due-many l s cs r p h = let m : 1 * length cs ≤ r * length cs = mul-le-mul-right (length cs) p in omega (arith, one-mul (length cs))
 
+-- from any start r times B starts are enough
+due-most : (l s : ℕ) (cs : List ℕ) (r : ℕ) → total cs + r ≤ l * length cs → 0 < r → due l s cs r < r * length cs + length cs
+unfolding due
+due-most l s cs r room p = omega (arith, ahead-room l s cs (omega arith))
+
 -- ---- starts
 
 -- where nothing is left no start changes anything
@@ -207,19 +212,40 @@ total-starts (suc k) l s cs (suc r) h room enough =
 -- r times B starts are enough
 pub total-all-starts : (l : ℕ) (cs : List ℕ) (r : ℕ) → 0 < length cs → total cs + r ≤ l * length cs
     → total (starts (r * length cs) l 0 cs r) ≡ total cs + r
-unfolding due
-total-all-starts l cs r h room = total-starts (r * length cs) l 0 cs r h room (λ p. omega (arith, ahead-room l 0 cs (omega arith)))
+total-all-starts l cs r h room = total-starts (r * length cs) l 0 cs r h room (due-most l 0 cs r room)
+
+-- how many starts may still come is all one where they are enough
+starts-alike : (k j l s : ℕ) (cs : List ℕ) (r : ℕ) → s < length cs → total cs + r ≤ l * length cs → (0 < r → due l s cs r < k + length cs)
+    → (0 < r → due l s cs r < j + length cs) → starts k l s cs r ≡ starts j l s cs r
+unfolding starts
+starts-alike zero j l s cs r h room e f = go (lt-or-ge 0 r)
+  where
+    go : (0 < r) ⊎ (r ≤ 0) → cs ≡ starts j l s cs r
+    go (inl p) = absurd (due-many l s cs r p (e p))
+    go (inr z) = let q : r ≡ 0 = omega arith in sym (ap (starts j l s cs) q ∙ starts-none j l s cs)
+starts-alike (suc k) zero l s cs zero h room e f = refl
+starts-alike (suc k) zero l s cs (suc r) h room e f = absurd (due-many l s cs (suc r) (omega arith) (f (omega arith)))
+starts-alike (suc k) (suc j) l s cs zero h room e f = refl
+starts-alike (suc k) (suc j) l s cs (suc r) h room e f =
+    let m = max 1 (length cs / suc r) in
+    let w = walk l m s cs (suc r) in
+    let n : length (w .counts) ≡ length cs = length-walk l m s cs (suc r) in
+    let t : total (w .counts) + w .rest ≡ total cs + suc r = total-walk l m s cs (suc r) in
+    let d : 0 < w .rest → due l (nextStart (length cs) s) (w .counts) (w .rest) < due l s cs (suc r) =
+    due-less l s m cs (suc r) (w .counts) (w .rest) (omega arith) h room refl in
+    starts-alike k j l (nextStart (length cs) s) (w .counts) (w .rest) (rw n (next-in (length cs) s h)) (rw n (omega arith))
+    (λ q. omega (arith, d q, e (omega arith)))
+    (λ q. omega (arith, d q, f (omega arith)))
 
 -- ---- what the loop of starts keeps
 
--- what is still to be done from the start s on is what was to be done at first, and starts enough may still come
-pub record Starting (l left : ℕ) (first : List ℕ) (s : ℕ) (cs : List ℕ) (r : ℕ) : Type 0 where
+-- what is still to be done from the start s on is all that is to be done, and starts enough may still come
+pub record Starting (l : ℕ) (all : List ℕ) (s : ℕ) (cs : List ℕ) (r : ℕ) : Type 0 where
   pub fuel : ℕ
-  pub same : starts fuel l s cs r ≡ starts (left * length first) l 0 first left
+  pub same : starts fuel l s cs r ≡ all
   pub enough : 0 < r → due l s cs r < fuel + length cs
   pub room : total cs + r ≤ l * length cs
   pub bin : s < length cs
-  pub long : length cs ≡ length first
 
 -- what the walk of a start keeps: what is still to be done from the place `at` on is what was to be done at the start
 pub record Walking (l step s : ℕ) (first : List ℕ) (before at : ℕ) (cs : List ℕ) (r : ℕ) : Type 0 where
@@ -228,37 +254,34 @@ pub record Walking (l step s : ℕ) (first : List ℕ) (before at : ℕ) (cs : L
   pub long : length cs ≡ length first
 
 -- before the first start
-pub starting-first : (l left : ℕ) (cs : List ℕ) → 0 < length cs → total cs + left ≤ l * length cs → Starting l left cs 0 cs left
-unfolding due
-starting-first l left cs n room =
-    record {
-      fuel = left * length cs;
-      same = refl;
-      enough = λ p. omega (arith, ahead-room l 0 cs (omega arith));
-      room = room;
-      bin = n;
-      long = refl;
-    }
+pub starting-first : (l s : ℕ) (cs : List ℕ) (r : ℕ) → s < length cs → total cs + r ≤ l * length cs
+    → Starting l (starts (r * length cs) l s cs r) s cs r
+starting-first l s cs r h room =
+    record { fuel = r * length cs; same = refl; enough = due-most l s cs r room; room = room; bin = h }
+
+-- wherever the starts stand, r times B more do what is to be done
+pub starting-here : {l : ℕ} {all : List ℕ} {s : ℕ} {cs : List ℕ} {r : ℕ} → Starting l all s cs r → starts (r * length cs) l s cs r ≡ all
+starting-here {l} {all} {s} {cs} {r} i =
+    starts-alike (r * length cs) (i .fuel) l s cs r (i .bin) (i .room) (due-most l s cs r (i .room)) (i .enough) ∙ i .same
 
 -- where nothing is left the starts are over
-pub starting-end : (l left : ℕ) (first : List ℕ) (s : ℕ) (cs : List ℕ) (r : ℕ) → Starting l left first s cs r → r ≤ 0
-    → cs ≡ starts (left * length first) l 0 first left
-starting-end l left first s cs r i z =
+pub starting-end : {l : ℕ} {all : List ℕ} {s : ℕ} {cs : List ℕ} {r : ℕ} → Starting l all s cs r → r ≤ 0 → cs ≡ all
+starting-end {l} {all} {s} {cs} {r} i z =
     let e : r ≡ 0 = omega arith in
     sym (ap (starts (i .fuel) l s cs) e ∙ starts-none (i .fuel) l s cs) ∙ i .same
 
 -- where something is left a start may still come
-some-fuel : {l left : ℕ} {first : List ℕ} {s : ℕ} {cs : List ℕ} {r : ℕ} (i : Starting l left first s cs r) → 0 < r → i .fuel ≡ suc (i .fuel - 1)
+some-fuel : {l : ℕ} {all : List ℕ} {s : ℕ} {cs : List ℕ} {r : ℕ} (i : Starting l all s cs r) → 0 < r → i .fuel ≡ suc (i .fuel - 1)
 unfolding due
-some-fuel {l} {left} {first} {s} {cs} {r} i p =
+some-fuel {l} {all} {s} {cs} {r} i p =
     let m : 1 * length cs ≤ r * length cs = mul-le-mul-right (length cs) p in
     omega (arith, i .enough p, one-mul (length cs))
 
 -- a start whose walk ends with something left
-pub starting-next : {l left : ℕ} {first : List ℕ} {s : ℕ} {cs : List ℕ} {r : ℕ} (step : ℕ) {ds : List ℕ} {t : ℕ} → Starting l left first s cs r
+pub starting-next : {l : ℕ} {all : List ℕ} {s : ℕ} {cs : List ℕ} {r : ℕ} (step : ℕ) {ds : List ℕ} {t : ℕ} → Starting l all s cs r
     → 0 < r → 0 < step → step ≡ max 1 (length cs / r) → walk l step s cs r ≡ record { counts = ds; rest = t } → 0 < t
-    → Starting l left first (nextStart (length cs) s) ds t
-starting-next {l} {left} {first} {s} {cs} {r} step {ds} {t} i p o q e z =
+    → Starting l all (nextStart (length cs) s) ds t
+starting-next {l} {all} {s} {cs} {r} step {ds} {t} i p o q e z =
     record {
       fuel = i .fuel - 1;
       same =
@@ -266,7 +289,6 @@ starting-next {l} {left} {first} {s} {cs} {r} step {ds} {t} i p o q e z =
       enough = λ y. omega (arith, i .enough p, some-fuel i p, due-less l s step cs r ds t o (i .bin) (i .room) e z, n);
       room = rw n (omega (arith, sum, i .room));
       bin = rw n (next-in (length cs) s (i .bin));
-      long = n ∙ i .long;
     }
   where
     n : length ds ≡ length cs
@@ -276,16 +298,16 @@ starting-next {l} {left} {first} {s} {cs} {r} step {ds} {t} i p o q e z =
     sum = ap (λ w. total (w .counts) + w .rest) (sym e) ∙ total-walk l step s cs r
 
 -- a start whose walk ends with nothing left
-starting-stop : {l left : ℕ} {first : List ℕ} {s : ℕ} {cs : List ℕ} {r : ℕ} (step : ℕ) {ds : List ℕ} → Starting l left first s cs r → 0 < r
-    → step ≡ max 1 (length cs / r) → walk l step s cs r ≡ record { counts = ds; rest = 0 } → ds ≡ starts (left * length first) l 0 first left
-starting-stop {l} {left} {first} {s} {cs} {r} step {ds} i p q e =
+starting-stop : {l : ℕ} {all : List ℕ} {s : ℕ} {cs : List ℕ} {r : ℕ} (step : ℕ) {ds : List ℕ} → Starting l all s cs r → 0 < r
+    → step ≡ max 1 (length cs / r) → walk l step s cs r ≡ record { counts = ds; rest = 0 } → ds ≡ all
+starting-stop {l} {all} {s} {cs} {r} step {ds} i p q e =
     sym (starts-one (i .fuel - 1) l s cs r step ds 0 p q e ∙ starts-none (i .fuel - 1) l (nextStart (length cs) s) ds)
     ∙ (ap (λ k. starts k l s cs r) (sym (some-fuel i p)) ∙ i .same)
 
 -- the walk of a start hands out the last one, as the code has it
-pub turn-stop : {l left : ℕ} {first : List ℕ} {s : ℕ} {cs : List ℕ} {r : ℕ} {step : ℕ} {ds : List ℕ} (b : ℕ) → Starting l left first s cs r
+pub turn-stop : {l : ℕ} {all : List ℕ} {s : ℕ} {cs : List ℕ} {r : ℕ} {step : ℕ} {ds : List ℕ} (b : ℕ) → Starting l all s cs r
     → b ≡ length cs → 0 < r → step ≡ max 1 (b / r) → walk l step s cs r ≡ record { counts = ds; rest = 0 }
-    → ds ≡ starts (left * length first) l 0 first left
+    → ds ≡ all
 turn-stop {r = r} {step = step} b i n p q e = starting-stop step i p (q ∙ ap (λ k. max 1 (k / r)) n) e
 
 -- ---- what the walk of a start keeps

@@ -1,18 +1,17 @@
 -- Laws of the excess and of the even share.
 -- Assumes nothing.
 use Prim.Native.Nat.{ℕ, zero, suc, _+_, _-_, _*_, _/_, _≤_, _<_}
-use mathlib.Core.List.{List, [], _∷_, _++_, map}
+use mathlib.Core.List.{List, [], _∷_, map}
 use mathlib.Core.Logic.{_⊎_, inl, inr, ⊎-elim}
-use mathlib.Core.Path.{_≡_, refl, sym, ap, ap₂, _∙_}
-use lib.ListN.{length, length-set, length-map, getD, set, take, drop}
-use lib.Seq.{drop-cons, drop-length, drop-set-lt}
+use mathlib.Core.Path.{_≡_, refl, ap, ap₂, _∙_}
+use lib.ListN.{length, length-map, getD, drop}
+use lib.Seq.{drop-cons}
 use native.Mathlib.Nat.{le-of-suc-le-suc, not-suc-le-zero, le-refl, mul-suc, mul-comm, div-mul-le-self, div-le-of-le-mul}
 use native.Mathlib.Numerals.{add-one}
 use native.Mathlib.Omega.{arith}
 use borrow.Author.Tests.{lt-ltb, le-ltb}
 use Rattle.lists.specs.Lists.{total}
 use Rattle.lists.proofs.Orders.{lt-or-ge}
-use Rattle.lists.proofs.Totals.{map-next, map-end}
 use Rattle.clip.specs.Clip.{excess, share, shared, taken, left, starts, clipped}
 use Rattle.clip.specs.Asks.{ClipAsks, PassAsks, Passed, WalkAsks}
 
@@ -124,51 +123,6 @@ taken-within l cs = omega (arith, taken-all l (excess l cs / length cs) cs, div-
 pub total-first : (l : ℕ) (cs : List ℕ) → total (map (shared l (share l cs)) cs) + left l cs ≡ total cs
 unfolding left
 total-first l cs = omega (arith, all-kept l (share l cs) cs, taken-within l cs)
-
--- ---- what the first pass keeps
-
--- what is still to be done from the place i on is what was to be done at first
-pub record Passing (l q over : ℕ) (first : List ℕ) (i : ℕ) (cs : List ℕ) (rest : ℕ) : Type 0 where
-  pub bins : take i cs ++ map (shared l q) (drop i cs) ≡ map (shared l q) first
-  pub still : rest + total (map (taken l q) first) ≡ over + total (map (taken l q) (drop i cs))
-  pub within : i ≤ length cs
-  pub long : length cs ≡ length first
-
--- before the first bin
-pub passing-first : (l q over : ℕ) (cs : List ℕ) → Passing l q over cs 0 cs over
-passing-first l q over cs = record { bins = refl; still = refl; within = omega arith; long = refl }
-
--- what is taken from a place on: by its bin, and by the bins behind it
-taken-next : (l q : ℕ) (cs : List ℕ) (i : ℕ) → i < length cs
-    → total (map (taken l q) (drop i cs)) ≡ taken l q (getD cs i 0) + total (map (taken l q) (drop (i + 1) cs))
-unfolding total
-taken-next l q cs i h = rw (add-one i, drop-cons cs i 0 h) refl
-
--- the bin at the place takes no more than there is
-pub passing-takes : {l q over : ℕ} {first : List ℕ} {i : ℕ} {cs : List ℕ} {rest : ℕ} → Passing l q over first i cs rest
-    → total (map (taken l q) first) ≤ over → i < length cs → taken l q (getD cs i 0) ≤ rest
-passing-takes {l} {q} {i = i} {cs = cs} p a h = omega (arith, p .still, taken-next l q cs i h)
-
--- one bin more has its share
-pub passing-next : {l q over : ℕ} {first : List ℕ} {i : ℕ} {cs : List ℕ} {rest v t : ℕ} → Passing l q over first i cs rest
-    → total (map (taken l q) first) ≤ over → i < length cs → t ≡ taken l q (getD cs i 0) → v ≡ shared l q (getD cs i 0)
-    → Passing l q over first (i + 1) (set cs i v) (rest - t)
-passing-next {l} {q} {over} {first} {i} {cs} {rest} {v} {t} p a h et ev =
-    record {
-      bins = ap (λ x. take (i + 1) (set cs i x) ++ map (shared l q) (drop (i + 1) (set cs i x))) ev ∙ (map-next (shared l q) cs i h ∙ p .bins);
-      still = rw (drop-set-lt (i + 1) cs i v (omega arith)) (omega (arith, p .still, taken-next l q cs i h));
-      within = rw length-set (omega arith);
-      long = length-set cs i v ∙ p .long;
-    }
-
--- all bins have their share
-pub passing-end : {l q over : ℕ} {first : List ℕ} {i : ℕ} {cs : List ℕ} {rest : ℕ} → Passing l q over first i cs rest → length cs ≤ i
-    → Passed l q over first cs rest
-unfolding total
-passing-end {l} {q} {over} {first} {i} {cs} {rest} p h =
-    let e : i ≡ length cs = omega (arith, p .within) in
-    let z : total (map (taken l q) (drop i cs)) ≡ 0 = rw (e, drop-length cs) refl in
-    record { bins = sym (map-end (shared l q) cs i h (p .within)) ∙ p .bins; rest = omega (arith, p .still) }
 
 -- ---- the call that joins them: e is the excess that the code worked out
 

@@ -22,7 +22,7 @@ walk-done l step gap [] = refl
 walk-done l step gap (c ∷ cs) = refl
 
 -- a bin is passed over
-walk-pass : (l step gap c : ℕ) (cs : List ℕ) (r : ℕ) → 0 < gap → walk l step gap (c ∷ cs) r ≡ behind c (walk l step (gap - 1) cs r)
+pub walk-pass : (l step gap c : ℕ) (cs : List ℕ) (r : ℕ) → 0 < gap → walk l step gap (c ∷ cs) r ≡ behind c (walk l step (gap - 1) cs r)
 unfolding walk
 walk-pass l step zero c cs r p = absurd (not-suc-le-zero p)
 walk-pass l step (suc gap) c cs zero p = ap (behind c) (sym (walk-done l step (suc gap - 1) cs))
@@ -33,12 +33,12 @@ abbrev chosen : Spread → Spread → Bool → Spread
 chosen x y t = elim t [ true ↦ x | false ↦ y ]
 
 -- "a bin under L gains one and r loses one"
-walk-under : (l step c : ℕ) (cs : List ℕ) (r : ℕ) → c < l → walk l step 0 (c ∷ cs) (suc r) ≡ behind (c + 1) (walk l step (step - 1) cs r)
+pub walk-under : (l step c : ℕ) (cs : List ℕ) (r : ℕ) → c < l → walk l step 0 (c ∷ cs) (suc r) ≡ behind (c + 1) (walk l step (step - 1) cs r)
 unfolding walk
 walk-under l step c cs r u = ap (chosen (behind (c + 1) (walk l step (step - 1) cs r)) (behind c (walk l step (step - 1) cs (suc r)))) (lt-ltb c l u)
 
 -- a bin that is not under the limit stays
-walk-over : (l step c : ℕ) (cs : List ℕ) (r : ℕ) → l ≤ c → walk l step 0 (c ∷ cs) (suc r) ≡ behind c (walk l step (step - 1) cs (suc r))
+pub walk-over : (l step c : ℕ) (cs : List ℕ) (r : ℕ) → l ≤ c → walk l step 0 (c ∷ cs) (suc r) ≡ behind c (walk l step (step - 1) cs (suc r))
 unfolding walk
 walk-over l step c cs r u = ap (chosen (behind (c + 1) (walk l step (step - 1) cs r)) (behind c (walk l step (step - 1) cs (suc r)))) (le-ltb c l u)
 

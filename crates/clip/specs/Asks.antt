@@ -1,11 +1,14 @@
--- What the functions of this crate ask of their callers, and what the first pass leaves.
+-- What the functions of this crate ask of their callers, and what they leave.
 -- Assumes nothing.
 use Prim.Native.Nat.{ℕ, _+_, _-_, _*_, _≤_, _<_}
+use mathlib.Core.Bool.{cond}
 use mathlib.Core.List.{List, map}
 use mathlib.Core.Path.{_≡_}
+use lib.Dec.{ltb}
 use lib.ListN.{length, getD}
 use Rattle.lists.specs.Lists.{total}
-use Rattle.clip.specs.Clip.{shared, taken}
+use Rattle.clip.specs.Clip.{shared, taken, starts}
+use Rattle.clip.specs.declared.Standing.{Standing}
 
 -- bins within "2 to 4096", one at least, a tile's counts, and a limit under which the bins hold them, as L always is (`limit: limit-holds`)
 pub record ClipAsks (limit : ℕ) (counts : List ℕ) : Type 0 where
@@ -34,3 +37,23 @@ pub record WalkAsks (limit left : ℕ) (counts : List ℕ) : Type 0 where
 pub record Shut (limit end : ℕ) (counts : List ℕ) : Type 0 where
   pub full : (i : ℕ) → end ≤ i → i < length counts → limit ≤ getD counts i 0
   pub within : end ≤ length counts
+
+-- "a bin under L gains one"
+abbrev pub gain : ℕ → ℕ → ℕ
+gain l c = cond (ltb c l) 1 0
+
+-- what it becomes
+abbrev pub gained : ℕ → ℕ → ℕ
+gained l c = c + gain l c
+
+-- a pass in which every bin under the limit gained one: what each bin became, and how many gained
+pub record Raised (limit : ℕ) (before after : List ℕ) (sum : ℕ) : Type 0 where
+  pub bins : after ≡ map (gained limit) before
+  pub gains : sum ≡ total (map (gain limit) before)
+
+-- starts, done: what is still to be done from here on is what was to be done before them
+pub record Stands (limit left : ℕ) (before after : List ℕ) (s : Standing) : Type 0 where
+  pub same : starts (s .left * length after) limit (s .start) after (s .left) ≡ starts (left * length before) limit 0 before left
+  pub asks : WalkAsks limit (s .left) after
+  pub bin : s .start < length after
+  pub shut : Shut limit (s .end) after

@@ -4,7 +4,7 @@ ghost use Prim.Native.Nat.{_-_, _*_, _/_, _≤_, _<_, max};
 ghost use lib.ListN.{length};
 ghost use Rattle.lists.specs.Lists.{total};
 ghost use Rattle.clip.specs.Clip.{excess, shared, taken, starts, nextStart, clipped};
-ghost use Rattle.clip.specs.Asks.{ClipAsks, PassAsks, Passed, WalkAsks, Shut};
+ghost use Rattle.clip.specs.Asks.{ClipAsks, PassAsks, Passed, WalkAsks, Shut, gain, Raised, Stands};
 
 // What of a count stands above the limit.
 fn above(count: u32, limit: u32) -> u32
@@ -107,15 +107,68 @@ fn open_end(counts: &[u32], limit: u32, end: usize) -> usize
     e
 }
 
-// The leftover, one by one to the bins under the limit, from every start in turn, until nothing is left.
-fn hand_out(counts: &mut [u32], limit: u32, left: u64)
+// What a bin gains where it is looked at: one, if it is under the limit.
+fn gains(count: u32, limit: u32) -> u32
+    ensures { λ r. ⌜ r ≡ gain limit count ⌝ }
+{
+    if count < limit { 1 } else { 0 }
+}
+
+// One to every bin under the limit; how many gained is the answer. No bin's step hangs on another's, so that many bins go at once.
+fn pass(counts: &mut [u32], limit: u32) -> u64
+    requires { ⌜ length (now counts) ≤ 4096 ⌝ }
+    ensures { λ r. ⌜ Raised limit (now (counts .entry)) (now (counts .exit)) r ⌝ }
+{
+    let mut sum: u32 = 0;
+    let mut i = 0;
+    while i < counts.len() {
+        let count = counts[i];
+        let more = gains(count, limit);
+        counts[i] = count + more;
+        sum += more;
+        i += 1;
+    }
+    sum as u64
+}
+
+// Where the starts stand: what is left, the next start, and where the bins under the limit end.
+struct Standing {
+    left: u64,
+    start: usize,
+    end: usize,
+}
+
+// The starts that find more left than there are bins: their step is 1 and nothing runs out on the way, so the walk of each is one pass.
+fn whole_starts(counts: &mut [u32], limit: u32, left: u64) -> Standing
     requires { ⌜ WalkAsks limit left (now counts) ⌝ }
-    ensures { λ _. ⌜ now (counts .exit) ≡ starts (left * length (now (counts .entry))) limit 0 (now (counts .entry)) left ⌝ }
+    ensures { λ s. ⌜ Stands limit left (now (counts .entry)) (now (counts .exit)) s ⌝ }
 {
     let bins = counts.len();
     let mut r = left;
     let mut start = 0;
     let mut end = bins;
+    while (bins as u64) < r {
+        r -= pass(&mut counts[start..end], limit);
+        end = open_end(counts, limit, end);
+        start = next_start(end, start);
+    }
+    Standing {
+        left: r,
+        start,
+        end,
+    }
+}
+
+// The leftover, one by one to the bins under the limit, from every start in turn, until nothing is left.
+fn hand_out(counts: &mut [u32], limit: u32, left: u64)
+    requires { ⌜ WalkAsks limit left (now counts) ⌝ }
+    ensures { λ _. ⌜ now (counts .exit) ≡ starts (left * length (now (counts .entry))) limit 0 (now (counts .entry)) left ⌝ }
+{
+    let standing = whole_starts(counts, limit, left);
+    let bins = counts.len();
+    let mut r = standing.left;
+    let mut start = standing.start;
+    let mut end = standing.end;
     'starts: while 0 < r {
         let step = step_of(bins, r);
         let mut at = start;
