@@ -167,6 +167,10 @@ factor-divides n d f h l k i =
 pub pair-most : {grid most : ℕ} {p : Place} {a b hi : ℕ} → Sound grid most p → a ≤ hi → b ≤ hi → pairOf p a b ≤ p .span * hi
 pair-most {p = p} {a = a} {b = b} {hi = hi} i h k = mean-most (p .lowerweight) (p .upperweight) (p .span) a b hi (i .weights) h k
 
+-- so a row's pair is small
+pub side-small : {grid : ℕ} {row : Place} {v : ℕ} → Sound grid 2048 row → v ≤ row .span * 4095 → v ≤ 2048 * 4095
+side-small j h = omega (arith, mul-le-mul-right 4095 (j .bound))
+
 module _ {grid most grid′ most′ : ℕ} {column row : Place} (i : Sound grid most column) (j : Sound grid′ most′ row) {l r : ℕ} (h : l ≤ row .span * 4095) (k : r ≤ row .span * 4095) where
   -- what is divided, against what it is divided by
   pub sides-weighed : pairOf column l r ≤ column .span * row .span * 4095
@@ -177,24 +181,25 @@ module _ {grid most grid′ most′ : ℕ} {column row : Place} (i : Sound grid 
   unfolding sidesOf
   sides-most = div-le-of-le-mul (column .span * row .span) sides-weighed
 
--- the four mapped values by columns first: the grey is the same
+-- the four mapped values by columns first: the weighed sum is the same
+pub weighed-sides : (column row : Place) (a b c d : ℕ) → pairOf column (pairOf row a c) (pairOf row b d) ≡ weighedOf column row a b c d
+weighed-sides p row a b c d =
+    omega (
+      arith,
+      mul-add (row .lowerweight) (p .lowerweight * a) (p .upperweight * b),
+      mul-add (row .upperweight) (p .lowerweight * c) (p .upperweight * d),
+      mul-add (p .lowerweight) (row .lowerweight * a) (row .upperweight * c),
+      mul-add (p .upperweight) (row .lowerweight * b) (row .upperweight * d),
+      mul-left-comm (row .lowerweight) (p .lowerweight) a,
+      mul-left-comm (row .lowerweight) (p .upperweight) b,
+      mul-left-comm (row .upperweight) (p .lowerweight) c,
+      mul-left-comm (row .upperweight) (p .upperweight) d,
+    )
+
+-- and so is the grey
 pub sides-grey : (column row : Place) (a b c d : ℕ) → sidesOf column row (pairOf row a c) (pairOf row b d) ≡ greyOf column row a b c d
 unfolding sidesOf greyOf
-sides-grey p row a b c d = ap (λ n. n / (p .span * row .span)) same
-  where
-    same : pairOf p (pairOf row a c) (pairOf row b d) ≡ weighedOf p row a b c d
-    same =
-        omega (
-          arith,
-          mul-add (row .lowerweight) (p .lowerweight * a) (p .upperweight * b),
-          mul-add (row .upperweight) (p .lowerweight * c) (p .upperweight * d),
-          mul-add (p .lowerweight) (row .lowerweight * a) (row .upperweight * c),
-          mul-add (p .upperweight) (row .lowerweight * b) (row .upperweight * d),
-          mul-left-comm (row .lowerweight) (p .lowerweight) a,
-          mul-left-comm (row .lowerweight) (p .upperweight) b,
-          mul-left-comm (row .upperweight) (p .lowerweight) c,
-          mul-left-comm (row .upperweight) (p .upperweight) d,
-        )
+sides-grey column row a b c d = ap (λ n. n / (column .span * row .span)) (weighed-sides column row a b c d)
 
 -- ---- columns between the same tiles
 

@@ -1,6 +1,6 @@
 // Where a column or a row stands between two tile centres, and the grey of a pixel from four mapped values.
 ghost use mathlib.Core.Path.{_≡_};
-ghost use Prim.Native.Nat.{_*_, _≤_, _<_};
+ghost use Prim.Native.Nat.{_*_, _/_, _≤_, _<_};
 ghost use Rattle.blend.specs.Blend.{placeOf, weighedOf, greyOf, pairOf, sidesOf, Sound, inverseOf, Inverse, Run, lengthOf};
 
 // A column's or a row's place: the tiles below and above it, the weight of each, and the span that the weights add up to.
@@ -91,16 +91,23 @@ pub fn factor(spans: u64) -> u64
     4503599627370496 / spans + 1
 }
 
-// The grey of a pixel, by the factor of its spans: a product and a shift in place of the division.
+// The grey of a weighted sum, by the factor of the spans: a product and a shift in place of the division.
+pub fn quotient(sum: u64, column: Place, row: Place, factor: u64) -> u32
+    requires { ⌜ Sound 16 2048 column × Sound 16 2048 row × Inverse (column .span * row .span) factor × (sum ≤ column .span * row .span * 4095) ⌝ }
+    ensures { λ r. ⌜ r ≡ sum / (column .span * row .span) ⌝ }
+{
+    if factor == 0 {
+        return (sum / ((column.span as u64) * (row.span as u64))) as u32;
+    }
+    (sum * factor / 4503599627370496) as u32
+}
+
+// The grey of a pixel, by the factor of its spans.
 pub fn grey_by(column: Place, row: Place, factor: u64, a: u32, b: u32, c: u32, d: u32) -> u32
     requires { ⌜ Sound 16 2048 column × Sound 16 2048 row × Inverse (column .span * row .span) factor × (a ≤ 4095) × (b ≤ 4095) × (c ≤ 4095) × (d ≤ 4095) ⌝ }
     ensures { λ r. ⌜ r ≡ greyOf column row a b c d ⌝ }
 {
-    if factor == 0 {
-        return grey(column, row, a, b, c, d);
-    }
-    let weighed = weigh(column, row, a, b, c, d);
-    (weighed * factor / 4503599627370496) as u32
+    quotient(weigh(column, row, a, b, c, d), column, row, factor)
 }
 
 // Two mapped values, each by its weight.
@@ -111,15 +118,18 @@ pub fn pair(place: Place, a: u32, b: u32) -> u32
     place.lowerweight * a + place.upperweight * b
 }
 
-// The grey of a pixel from the row's pairs of the tiles on its left and on its right: two products, and the factor in place of the division.
+// The weighted sum of a pixel from the row's pairs of the tiles on its left and on its right. One column on it is this sum, and the right pair more, and the left pair less.
+pub fn sides(column: Place, left: u32, right: u32) -> u64
+    requires { ⌜ Sound 16 2048 column × (left ≤ 2048 * 4095) × (right ≤ 2048 * 4095) ⌝ }
+    ensures { λ r. ⌜ r ≡ pairOf column left right ⌝ }
+{
+    (column.lowerweight as u64) * (left as u64) + (column.upperweight as u64) * (right as u64)
+}
+
+// The grey of a pixel from those pairs: two products, and the factor in place of the division.
 pub fn grey_sides(column: Place, row: Place, factor: u64, left: u32, right: u32) -> u32
     requires { ⌜ Sound 16 2048 column × Sound 16 2048 row × Inverse (column .span * row .span) factor × (left ≤ row .span * 4095) × (right ≤ row .span * 4095) ⌝ }
     ensures { λ r. ⌜ r ≡ sidesOf column row left right ⌝ }
 {
-    let sum = (column.lowerweight as u64) * (left as u64)
-        + (column.upperweight as u64) * (right as u64);
-    if factor == 0 {
-        return (sum / ((column.span as u64) * (row.span as u64))) as u32;
-    }
-    (sum * factor / 4503599627370496) as u32
+    quotient(sides(column, left, right), column, row, factor)
 }

@@ -1,4 +1,4 @@
--- The turns of `bins_few` and `bins_many`: bins in the places of pixels.
+-- The turns of `bins_few` and `bins_many`: bins in the places of pixels, and what callers know of them.
 -- Assumes nothing.
 use Prim.Native.Nat.{ℕ, _+_, _-_, _*_, _≤_, _<_}
 use mathlib.Core.Bool.{true}
@@ -6,7 +6,8 @@ use mathlib.Core.List.{List}
 use mathlib.Core.Path.{_≡_, ap, ap₂, _∙_}
 use lib.ListN.{length, getD, set}
 use native.Mathlib.Omega.{arith}
-use Rattle.lists.specs.Lists.{filled}
+use Rattle.lists.specs.Lists.{all, filled}
+use Rattle.lists.proofs.Tabs.{length-tab, getD-tab}
 use Rattle.lists.proofs.Fills.{filled-step, filled-end}
 use Rattle.lists.proofs.Windows.{getD-behind, filled-whole}
 use Rattle.lists.proofs.Alls.{all-at}
@@ -14,6 +15,7 @@ use Rattle.scan.specs.Scan.{within}
 use Rattle.scan.proofs.Spans.{within-low, within-high}
 use Rattle.binning.specs.Binning.{binOf, binBy}
 use Rattle.binning.proofs.Bins.{bin-below, bin-by, few-room}
+use Rattle.tally.specs.Tally.{Scale}
 use Rattle.settings.specs.declared.Settings.{Settings}
 use Rattle.settings.specs.Settings.{binsOf}
 use Rattle.render.specs.Render.{binnedOf, BinsAsks}
@@ -57,3 +59,21 @@ module _ {s : Settings} {vs : List ℕ} {f : ℕ} (asks : BinsAsks s vs f) {px :
 pub bins-end : (s : Settings) (vs : List ℕ) {px : List ℕ} {i : ℕ} → px ≡ filled (binned s vs) vs i → i ≤ length vs → length vs ≤ i → px ≡ binnedOf s vs
 unfolding binnedOf
 bins-end s vs e l k = filled-end _ _ e l k ∙ filled-whole (binned s vs) vs
+
+-- ---- bins that stand in the places of pixels
+
+module _ (s : Settings) (vs : List ℕ) {ks : List ℕ} (held : ks ≡ binnedOf s vs) where
+  -- one for each pixel
+  pub bins-length : length ks ≡ length vs
+  unfolding binnedOf
+  bins-length = ap length held ∙ length-tab (length vs) (binned s vs)
+
+  module _ {i : ℕ} (l : i < length vs) where
+    -- each is the pixel's bin
+    pub held-is : getD ks i 0 ≡ binned s vs i
+    unfolding binnedOf
+    held-is = ap (λ t. getD t i 0) held ∙ getD-tab (length vs) (binned s vs) i 0 l
+
+    -- and one of the bins
+    pub held-in : Scale (s .min) (s .max) (binsOf s) → all (within (s .min) (s .max)) vs ≡ true → getD ks i 0 < binsOf s
+    held-in scale greys = rw held-is (bin-below (s .min) (s .max) (binsOf s) (getD vs i 0) (all-at (within (s .min) (s .max)) vs greys i 0 l) (omega (arith, scale .some)))

@@ -3,7 +3,7 @@
 use Prim.Native.Nat.{ℕ, _+_, _*_, _≤_, _<_}
 use mathlib.Core.Bool.{true}
 use mathlib.Core.List.{List}
-use mathlib.Core.Path.{_≡_, refl, sym, ap, _∙_}
+use mathlib.Core.Path.{_≡_, refl, sym, ap, ap₂, _∙_}
 use lib.Arith.{digits-lt}
 use lib.ListN.{getD, take}
 use lib.Seq.{getD-take, length-take-le}
@@ -12,15 +12,15 @@ use native.Mathlib.Omega.{arith}
 use Rattle.lists.proofs.Alls.{all-at}
 use Rattle.scan.specs.Scan.{within}
 use Rattle.scan.proofs.Spans.{within-low, within-high, within-both}
-use Rattle.binning.specs.Binning.{binOf, factorOf, binBy}
-use Rattle.binning.proofs.Bins.{bin-below, bin-by}
+use Rattle.binning.specs.Binning.{binOf}
+use Rattle.binning.proofs.Bins.{bin-below}
 use Rattle.blend.specs.declared.Place.{Place}
-use Rattle.blend.specs.Blend.{greyOf}
-use Rattle.blend.proofs.Laws.{grey-least, grey-most}
+use Rattle.blend.specs.Blend.{greyOf, pairOf, sidesOf, Sound}
+use Rattle.blend.proofs.Laws.{grey-least, grey-most, pair-most, sides-grey}
 use Rattle.settings.specs.declared.Settings.{Settings}
 use Rattle.settings.specs.Settings.{binsOf, entriesOf}
 use Rattle.settings.proofs.Ready.{entries-small}
-use Rattle.render.specs.Render.{mappedAt, pixelOf, Maps, PixelAsks}
+use Rattle.render.specs.Render.{mappedAt, pixelOf, cornersOf, sideOf, Maps, PixelAsks, CornerAsks}
 
 -- ---- where mapped values lie
 
@@ -69,23 +69,19 @@ module _ {s : Settings} {m : List ℕ} (maps : Maps s m) where
 
 -- ---- pixels
 
--- a pixel's bin is one of the bins
-pub pixel-bin : {s : Settings} {m : List ℕ} {column row : Place} {v : ℕ} → PixelAsks s m column row v → binOf (s .min) (s .max) (binsOf s) v < binsOf s
-pixel-bin {s} {m} {column} {row} {v} asks = bin-below (s .min) (s .max) (binsOf s) v (asks .grey) (omega (arith, asks .maps .scale .some))
-
--- a rendered pixel lies in Min to Max
-pub pixel-within : {s : Settings} {m : List ℕ} {column row : Place} {v : ℕ} → PixelAsks s m column row v → within (s .min) (s .max) (pixelOf s m column row v) ≡ true
-unfolding pixelOf
-pixel-within {s} {m} {column} {row} {v} asks =
+-- a pixel of a bin lies in Min to Max
+pub corners-within : {s : Settings} {m : List ℕ} {column row : Place} {k : ℕ} → CornerAsks s m column row k → within (s .min) (s .max) (cornersOf s m column row k) ≡ true
+unfolding cornersOf
+corners-within {s} {m} {column} {row} {k} asks =
     within-both _ _ _
     (grey-least (asks .column) (asks .row) (low r c) (low r c′) (low r′ c) (low r′ c′))
     (grey-most (asks .column) (asks .row) (high r c) (high r c′) (high r′ c) (high r′ c′))
   where
-    low : {j i : ℕ} → j < s .down → i < s .across → s .min ≤ mappedAt s m j i (binOf (s .min) (s .max) (binsOf s) v)
-    low h l = mapped-low (asks .maps) h l (pixel-bin asks)
+    low : {j i : ℕ} → j < s .down → i < s .across → s .min ≤ mappedAt s m j i k
+    low h l = mapped-low (asks .maps) h l (asks .bin)
 
-    high : {j i : ℕ} → j < s .down → i < s .across → mappedAt s m j i (binOf (s .min) (s .max) (binsOf s) v) ≤ s .max
-    high h l = mapped-high (asks .maps) h l (pixel-bin asks)
+    high : {j i : ℕ} → j < s .down → i < s .across → mappedAt s m j i k ≤ s .max
+    high h l = mapped-high (asks .maps) h l (asks .bin)
 
     r : row .lower < s .down
     r = asks .row .lower
@@ -99,23 +95,56 @@ pixel-within {s} {m} {column} {row} {v} asks =
     c′ : column .upper < s .across
     c′ = asks .column .upper
 
-module _ {s : Settings} {m : List ℕ} {column row : Place} {v f k : ℕ} (asks : PixelAsks s m column row v) (e : f ≡ factorOf (s .min) (s .max) (binsOf s)) (q : k ≡ binBy (s .min) f v) where
-  -- the pixel's bin by the factor of the range and the bins
-  bin-is : k ≡ binOf (s .min) (s .max) (binsOf s) v
-  bin-is = q ∙ ap (λ n. binBy (s .min) n v) e ∙ bin-by (s .min) (s .max) (binsOf s) v (asks .grey) (asks .maps .scale .most) (omega (arith, asks .maps .scale .some))
+-- so it is small
+pub corners-small : {s : Settings} {m : List ℕ} {column row : Place} {k : ℕ} → CornerAsks s m column row k → cornersOf s m column row k ≤ 4095
+corners-small asks = omega (arith, within-high _ _ _ (corners-within asks), asks .maps .scale .most)
 
-  -- what its mapped value in tile row j and tile column i asks
-  pub corner-asks : {j i : ℕ} → j < s .down → i < s .across → Maps s m × (j < s .down) × (i < s .across) × (k < binsOf s)
-  corner-asks h l = (asks .maps, h, l, rw bin-is (pixel-bin asks))
-
-  -- it is at most 4095
+module _ {s : Settings} {m : List ℕ} {column row : Place} {k : ℕ} (asks : CornerAsks s m column row k) where
+  -- a mapped value of its bin is at most 4095
   pub corner-most : {j i a : ℕ} → j < s .down → i < s .across → a ≡ mappedAt s m j i k → a ≤ 4095
-  corner-most h l r = omega (arith, mapped-high (asks .maps) h l (corner-asks h l .3), asks .maps .scale .most)
+  corner-most h l e = omega (arith, e, mapped-high (asks .maps) h l (asks .bin), asks .maps .scale .most)
 
-  -- the pixel from its four mapped values
-  pub pixel-is : {a b c d r : ℕ}
-      → a ≡ mappedAt s m (row .lower) (column .lower) k → b ≡ mappedAt s m (row .lower) (column .upper) k
-      → c ≡ mappedAt s m (row .upper) (column .lower) k → d ≡ mappedAt s m (row .upper) (column .upper) k
-      → r ≡ greyOf column row a b c d → r ≡ pixelOf s m column row v
-  unfolding pixelOf
-  pixel-is ha hb hc hd h = h ∙ rw (ha, hb, hc, hd, bin-is) refl
+-- the pixel from its four mapped values
+pub corners-are : (s : Settings) (m : List ℕ) (column row : Place) (k : ℕ) {a b c d r : ℕ}
+    → a ≡ mappedAt s m (row .lower) (column .lower) k → b ≡ mappedAt s m (row .lower) (column .upper) k
+    → c ≡ mappedAt s m (row .upper) (column .lower) k → d ≡ mappedAt s m (row .upper) (column .upper) k
+    → r ≡ greyOf column row a b c d → r ≡ cornersOf s m column row k
+unfolding cornersOf
+corners-are s m column row k ha hb hc hd h = h ∙ rw (ha, hb, hc, hd) refl
+
+-- ---- pixels by their greys
+
+-- a pixel is one of its bin
+pub pixel-corners : (s : Settings) (m : List ℕ) (column row : Place) (v : ℕ) → pixelOf s m column row v ≡ cornersOf s m column row (binOf (s .min) (s .max) (binsOf s) v)
+unfolding pixelOf cornersOf
+pixel-corners s m column row v = refl
+
+-- which is one of the bins
+pub pixel-bin : {s : Settings} {m : List ℕ} {column row : Place} {v : ℕ} → PixelAsks s m column row v → binOf (s .min) (s .max) (binsOf s) v < binsOf s
+pixel-bin {s} {m} {column} {row} {v} asks = bin-below (s .min) (s .max) (binsOf s) v (asks .grey) (omega (arith, asks .maps .scale .some))
+
+-- a rendered pixel lies in Min to Max
+pub pixel-within : {s : Settings} {m : List ℕ} {column row : Place} {v : ℕ} → PixelAsks s m column row v → within (s .min) (s .max) (pixelOf s m column row v) ≡ true
+pixel-within {s} {m} {column} {row} {v} asks =
+    ap (within (s .min) (s .max)) (pixel-corners s m column row v)
+    ∙ corners-within record { maps = asks .maps; column = asks .column; row = asks .row; bin = pixel-bin asks }
+
+-- ---- sides
+
+-- the pair of a bin of a tile column, from its mapped values
+pub side-is : (s : Settings) (m : List ℕ) (row : Place) (i k : ℕ) {a c r : ℕ} → a ≡ mappedAt s m (row .lower) i k → c ≡ mappedAt s m (row .upper) i k → r ≡ pairOf row a c → r ≡ sideOf s m row i k
+unfolding sideOf
+side-is s m row i k ha hc h = h ∙ ap₂ (pairOf row) ha hc
+
+-- it is no larger than pairs are
+pub side-fits : {s : Settings} {m : List ℕ} {row : Place} {i k : ℕ} → Maps s m → Sound (s .down) 2048 row → i < s .across → k < binsOf s → sideOf s m row i k ≤ row .span * 4095
+unfolding sideOf
+side-fits {s} {m} {row} {i} {k} maps sound l q = pair-most sound (value (sound .lower)) (value (sound .upper))
+  where
+    value : {j : ℕ} → j < s .down → mappedAt s m j i k ≤ 4095
+    value h = omega (arith, mapped-high maps h l q, maps .scale .most)
+
+-- the pixel from the pairs of both tile columns
+pub corners-sides : (s : Settings) (m : List ℕ) (column row : Place) (k : ℕ) → cornersOf s m column row k ≡ sidesOf column row (sideOf s m row (column .lower) k) (sideOf s m row (column .upper) k)
+unfolding cornersOf sideOf
+corners-sides s m column row k = sym (sides-grey column row _ _ _ _)

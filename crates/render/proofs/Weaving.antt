@@ -1,7 +1,8 @@
--- The turns of `weave` and `weave_row`, and that a row by pairs is the row.
+-- The turns of `weave_part`, `weave` and `weave_row`, and that a row by pairs is the row.
 -- Assumes nothing.
 use Prim.Native.Nat.{ℕ, _+_, _-_, _*_, _≤_, _<_}
 use mathlib.Core.List.{List}
+use mathlib.Core.Bool.{true}
 use mathlib.Core.Path.{_≡_, sym, ap, ap₂, _∙_}
 use lib.Arith.{digits-lt}
 use lib.ListN.{length, take, drop, getD, set}
@@ -9,24 +10,23 @@ use borrow.Rule.Slice.PartMut.{putMid}
 use native.Mathlib.Nat.{mul-assoc, add-mul, mul-le-mul}
 use native.Mathlib.Omega.{arith}
 use Rattle.lists.specs.Lists.{tab, filled}
-use Rattle.lists.proofs.Tabs.{length-tab, getD-tab, tab-cong}
-use Rattle.lists.proofs.Fills.{filled-step, filled-end, length-filled}
+use Rattle.lists.proofs.Tabs.{tab-cong}
+use Rattle.lists.proofs.Fills.{filled-end, length-filled}
 use Rattle.lists.proofs.Windows.{getD-part, block, getD-block, length-block, getD-behind, filled-whole}
 use Rattle.lists.proofs.Blocks.{block-fits}
 use Rattle.lists.proofs.Tallies.{getD-filled}
-use Rattle.lists.proofs.Alls.{all-at}
-use Rattle.scan.specs.Scan.{within}
-use Rattle.binning.proofs.Bins.{bin-below}
 use Rattle.blend.specs.declared.Place.{Place}
-use Rattle.blend.specs.Blend.{pairOf, sidesOf, moved, Sound}
-use Rattle.blend.proofs.Laws.{moved-sound, sides-most, sides-grey, sides-moved, sound-wider}
+use Rattle.blend.specs.Blend.{pairOf, sidesOf, moved, Sound, Inverse}
+use Rattle.blend.proofs.Laws.{sides-most, sides-grey, sides-moved, sound-wider}
 use Rattle.settings.specs.declared.Settings.{Settings}
 use Rattle.settings.specs.Settings.{binsOf}
 use Rattle.render.specs.declared.Section.{Section}
-use Rattle.render.specs.Render.{mappedAt, pixelOf, rowOf, rowEntries, pairAt, binnedOf, wovenOf, wovenAt, wovenRun, wovenRow, RowAsks, Sectioned, WeaveAsks, WeaveRunAsks, WeaveRowAsks}
-use Rattle.render.proofs.Bins.{binned}
+use Rattle.render.specs.Render.{mappedAt, pixelOf, rowOf, rowEntries, pairAt, binnedOf, patchOf, oneBin, steadyAt, strandAt, wovenOf, wovenAt, wovenRun, wovenRow, RowAsks, Sectioned, Stretch, WeavePartAsks, WeaveAsks, WeaveRunAsks, WeaveRowAsks}
+use Rattle.render.proofs.Bins.{binned, bins-length, held-is, held-in}
 use Rattle.render.proofs.Pairs.{pair-at-most}
+use Rattle.render.proofs.Patches.{patch-read, patch-next, patch-same, patch-fills}
 use Rattle.render.proofs.Sections.{place-among, placed, ahead-is, ahead-length, section-next}
+use Rattle.render.proofs.Stretches.{one-bin-same, stretch-sound}
 
 -- ---- pixels from bins and pairs
 
@@ -34,39 +34,65 @@ use Rattle.render.proofs.Sections.{place-among, placed, ahead-is, ahead
 abbrev pub woven : Place → Place → List ℕ → List ℕ → List ℕ → ℕ → ℕ
 woven column row l r ks i = sidesOf (moved column i) row (getD l (getD ks i 0) 0) (getD r (getD ks i 0) 0)
 
-module _ {column row : Place} {l r ks : List ℕ} (asks : WeaveAsks column row l r ks) {i : ℕ} (h : i < length ks) where
-  -- the place of pixel i is sound
-  pub weave-sound : Sound 16 2048 (moved column i)
-  weave-sound = moved-sound i (asks .column) (omega (arith, asks .room))
+module _ {column row : Place} {by at end n : ℕ} {l r ks : List ℕ} (lies : Stretch column row by at end n) (asks : WeavePartAsks row l r at end ks) {i : ℕ} (m : at ≤ i) (h : i < end)
+    {px : List ℕ} (e : px ≡ patchOf (strandAt column row l r) ks at i) where
+  -- the bin as it was read
+  weave-read : getD px i 0 ≡ getD ks i 0
+  weave-read = patch-read (strandAt column row l r) ks at i e
 
-  module _ {px : List ℕ} (e : px ≡ filled (woven column row l r ks) ks i) where
-    -- the bin as it was read
-    weave-read : getD px i 0 ≡ getD ks i 0
-    weave-read = ap (λ t. getD t i 0) e ∙ getD-behind (woven column row l r ks) ks i i (omega arith)
+  -- its pairs are there
+  pub left-there : getD px i 0 < length l
+  left-there = rw weave-read (asks .onleft i m h)
 
-    -- its pairs are there
-    pub left-there : getD px i 0 < length l
-    left-there = rw weave-read (asks .onleft i h)
+  pub right-there : getD px i 0 < length r
+  right-there = rw weave-read (asks .onright i m h)
 
-    pub right-there : getD px i 0 < length r
-    right-there = rw weave-read (asks .onright i h)
+  module _ {p : Place} {v : ℕ} (place : p ≡ moved column i) (k : v ≡ sidesOf p row (getD l (getD px i 0) 0) (getD r (getD px i 0) 0)) where
+    weave-is : v ≡ strandAt column row l r i (getD px i 0)
+    weave-is = k ∙ ap (λ p. sidesOf p row (getD l (getD px i 0) 0) (getD r (getD px i 0) 0)) place
 
-    module _ {p : Place} {v : ℕ} (at : p ≡ moved column i) (k : v ≡ sidesOf p row (getD l (getD px i 0) 0) (getD r (getD px i 0) 0)) where
-      weave-is : v ≡ sidesOf (moved column i) row (getD l (getD px i 0) 0) (getD r (getD px i 0) 0)
-      weave-is = k ∙ ap (λ p. sidesOf p row (getD l (getD px i 0) 0) (getD r (getD px i 0) 0)) at
+    -- the grey is small
+    pub weave-small : v ≤ 4095
+    weave-small = omega (arith, weave-is, sides-most (stretch-sound lies h) (lies .row) (asks .left (getD px i 0) left-there) (asks .right (getD px i 0) right-there))
 
-      -- the grey is small
-      pub weave-small : v ≤ 4095
-      weave-small = omega (arith, weave-is, sides-most weave-sound (asks .row) (asks .left (getD px i 0) left-there) (asks .right (getD px i 0) right-there))
+    -- one pixel more
+    pub weave-next : i < length ks → set px i v ≡ patchOf (strandAt column row l r) ks at (i + 1)
+    weave-next q = patch-next (strandAt column row l r) ks at i e m q weave-is
 
-      -- one pixel more
-      pub weave-next : set px i v ≡ filled (woven column row l r ks) ks (i + 1)
-      weave-next = filled-step _ _ e h (weave-is ∙ ap (λ x. sidesOf (moved column i) row (getD l x 0) (getD r x 0)) weave-read)
+-- eight pixels of one bin, by its pairs
+pub strand-steady : (column row : Place) (l r ks : List ℕ) (at : ℕ) {ys : List ℕ} → oneBin ks at 8 ≡ true
+    → ys ≡ patchOf (steadyAt column row (getD l (getD ks at 0) 0) (getD r (getD ks at 0) 0)) ks at (at + 8) → ys ≡ patchOf (strandAt column row l r) ks at (at + 8)
+strand-steady column row l r ks at q e =
+    e ∙ patch-same (steadyAt column row (getD l (getD ks at 0) 0) (getD r (getD ks at 0) 0)) (strandAt column row l r) ks
+    (λ i m h. ap (λ k. sidesOf (moved column i) row (getD l k 0) (getD r k 0)) (sym (one-bin-same ks at q i m h)))
+
+module _ {column row : Place} {l r ks : List ℕ} (asks : WeaveAsks column row l r ks) {by : ℕ} (f : Inverse (column .span * row .span) by)
+    {px : List ℕ} {at : ℕ} (e : px ≡ filled (woven column row l r ks) ks at) {end : ℕ} (m : at ≤ end) (h : end ≤ length ks) where
+  -- where a stretch lies
+  pub weave-lies : {n : ℕ} → n ≡ length ks → Stretch column row by at end n
+  weave-lies q = record { column = asks .column; row = asks .row; factor = f; order = m; room = omega (arith, asks .room); inside = omega arith }
+
+  -- and what it asks
+  pub weave-asks : WeavePartAsks row l r at end px
+  weave-asks =
+      record {
+        onleft = λ i p q. rw (ahead i p) (asks .onleft i (omega arith));
+        onright = λ i p q. rw (ahead i p) (asks .onright i (omega arith));
+        left = asks .left;
+        right = asks .right;
+      }
+    where
+      ahead : (i : ℕ) → at ≤ i → getD px i 0 ≡ getD ks i 0
+      ahead i p = ap (λ t. getD t i 0) e ∙ getD-behind (woven column row l r ks) ks at i p
+
+  -- one stretch more
+  pub weave-stretch : {ys : List ℕ} → ys ≡ patchOf (strandAt column row l r) px at end → ys ≡ filled (woven column row l r ks) ks end
+  weave-stretch q = patch-fills (strandAt column row l r) ks e m q
 
 -- the whole run
-pub weave-end : (column row : Place) (l r ks : List ℕ) {px : List ℕ} {i : ℕ} → px ≡ filled (woven column row l r ks) ks i → i ≤ length ks → length ks ≤ i → px ≡ wovenOf column row l r ks
+pub weave-end : (column row : Place) (l r ks : List ℕ) {px : List ℕ} → px ≡ filled (woven column row l r ks) ks (length ks) → px ≡ wovenOf column row l r ks
 unfolding wovenOf
-weave-end column row l r ks e h k = filled-end _ _ e h k ∙ filled-whole (woven column row l r ks) ks
+weave-end column row l r ks e = e ∙ filled-whole (woven column row l r ks) ks
 
 -- ---- pixels from bins and the pairs of the row
 
@@ -176,21 +202,10 @@ strands-end w s ps left row ks e l k = filled-end _ _ e l k ∙ filled-whole (wo
 
 module _ {w : ℕ} {s : Settings} {m : List ℕ} {left : ℕ} {row : Place} {vs : List ℕ} (asks : RowAsks w s m left row vs) {ps ks : List ℕ} (d : List ℕ)
     (hp : ps ≡ filled (pairAt s m row) d (rowEntries s)) (room : rowEntries s ≤ length d) (hk : ks ≡ binnedOf s vs) where
-  bins-length : length ks ≡ length vs
-  unfolding binnedOf
-  bins-length = ap length hk ∙ length-tab (length vs) (binned s vs)
-
   pairs-at : {n : ℕ} → n < rowEntries s → getD ps n 0 ≡ pairAt s m row n
   pairs-at {n} l = ap (λ t. getD t n 0) hp ∙ getD-filled (pairAt s m row) d (rowEntries s) n l
 
   module _ {i : ℕ} (l : i < length vs) where
-    held-is : getD ks i 0 ≡ binned s vs i
-    unfolding binnedOf
-    held-is = ap (λ t. getD t i 0) hk ∙ getD-tab (length vs) (binned s vs) i 0 l
-
-    held-in : getD ks i 0 < binsOf s
-    held-in = rw held-is (bin-below (s .min) (s .max) (binsOf s) (getD vs i 0) (all-at (within (s .min) (s .max)) vs (asks .greys) i 0 l) (omega (arith, asks .maps .scale .some)))
-
     -- the mapped value of a bin, from the start of its row of tiles
     mapped-at : (j t k : ℕ) → getD m (j * rowEntries s + (t * binsOf s + k)) 0 ≡ mappedAt s m j t k
     unfolding mappedAt
@@ -203,9 +218,9 @@ module _ {w : ℕ} {s : Settings} {m : List ℕ} {left : ℕ} {row : Place} {vs 
     column-pair : {t : ℕ} → t < s .across → getD ps (t * binsOf s + getD ks i 0) 0 ≡ pairOf row (mappedAt s m (row .lower) t (binned s vs i)) (mappedAt s m (row .upper) t (binned s vs i))
     unfolding pairAt
     column-pair {t} h =
-        pairs-at (digits-lt h held-in)
+        pairs-at (digits-lt h (held-in s vs hk l (asks .maps .scale) (asks .greys)))
         ∙ ap₂ (pairOf row) (mapped-at (row .lower) t (getD ks i 0)) (mapped-at (row .upper) t (getD ks i 0))
-        ∙ ap (λ k. pairOf row (mappedAt s m (row .lower) t k) (mappedAt s m (row .upper) t k)) held-is
+        ∙ ap (λ k. pairOf row (mappedAt s m (row .lower) t k) (mappedAt s m (row .upper) t k)) (held-is s vs hk l)
 
     -- a pixel by its pairs is the pixel
     pixel-woven : {column : Place} → Sound (s .across) 2048 column → wovenAt s ps column row (getD ks i 0) ≡ pixelOf s m column row (getD vs i 0)
@@ -225,13 +240,13 @@ module _ {w : ℕ} {s : Settings} {m : List ℕ} {left : ℕ} {row : Place} {vs 
               small = λ n l. rw (pairs-at l) (pair-at-most (asks .maps) (asks .row) l);
             };
         columns = asks .columns;
-        across = omega (arith, bins-length, asks .across);
-        bins = λ i l. held-in (omega (arith, bins-length));
+        across = omega (arith, bins-length s vs hk, asks .across);
+        bins = λ i l. held-in s vs hk (omega (arith, bins-length s vs hk)) (asks .maps .scale) (asks .greys);
       }
 
   -- and what it comes to
   pub row-woven : {px : List ℕ} → px ≡ wovenRow w s ps left row ks → px ≡ rowOf w s m left row vs
   unfolding wovenRow rowOf
   row-woven e =
-      e ∙ ap (λ n. tab n (wove w s ps left row ks)) bins-length
+      e ∙ ap (λ n. tab n (wove w s ps left row ks)) (bins-length s vs hk)
       ∙ tab-cong (length vs) (λ i l. pixel-woven l (place-among (asks .columns) (omega (arith, asks .across))))

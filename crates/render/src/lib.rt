@@ -9,7 +9,7 @@ ghost use Rattle.binning.specs.Binning.{factorOf};
 ghost use Rattle.tally.specs.Tally.{Scale};
 ghost use Rattle.blend.specs.Blend.{Sound, Inverse, moved};
 ghost use Rattle.settings.specs.Settings.{binsOf};
-ghost use Rattle.render.specs.Render.{mappedAt, pixelOf, rowPlace, rowOf, runOf, rowEntries, pairAt, pairsOf, binnedOf, wovenOf, wovenRun, wovenRow, renderOf, Fits, Maps, Mapped, Shown, PixelAsks, RunAsks, RowAsks, Sectioned, PairAsks, BinsAsks, WeaveAsks, WeaveRunAsks, WeaveRowAsks};
+ghost use Rattle.render.specs.Render.{mappedAt, cornersOf, sideOf, rowPlace, rowOf, runOf, rowEntries, pairAt, pairsOf, binnedOf, wovenOf, wovenRun, wovenRow, renderOf, patchOf, oneBin, steadyAt, strandAt, cornersAt, weighedRun, Fits, Maps, Mapped, Shown, CornerAsks, RunAsks, RowAsks, Sectioned, PairAsks, BinsAsks, Stretch, WeighPartAsks, WeighAsks, WeavePartAsks, WeaveAsks, WeaveRunAsks, WeaveRowAsks};
 use blend::Place;
 use settings::Settings;
 use settings::Window;
@@ -24,12 +24,11 @@ fn mapped(s: Settings, map: &[u16], j: u32, i: u32, k: u32) -> u32
     map[at] as u32
 }
 
-// The rendered grey of a pixel of grey v at these places; `by` stands for the division by the spans, `bin` for the one that gives the bin.
-fn pixel(s: Settings, map: &[u16], column: Place, row: Place, by: u64, bin: u32, v: u32) -> u32
-    requires { ⌜ PixelAsks s (now map) column row v × Inverse (column .span * row .span) by × (bin ≡ factorOf (s .min) (s .max) (binsOf s)) ⌝ }
-    ensures { λ r. ⌜ r ≡ pixelOf s (now (map .entry)) column row v ⌝ }
+// The rendered grey of a pixel of bin k at these places, weighed from its four tiles; `by` stands for the division by the spans.
+fn pixel(s: Settings, map: &[u16], column: Place, row: Place, by: u64, k: u32) -> u32
+    requires { ⌜ CornerAsks s (now map) column row k × Inverse (column .span * row .span) by ⌝ }
+    ensures { λ r. ⌜ r ≡ cornersOf s (now (map .entry)) column row k ⌝ }
 {
-    let k = binning::bin_by(v, s.min, bin);
     let a = mapped(s, map, row.lower, column.lower, k);
     let b = mapped(s, map, row.lower, column.upper, k);
     let c = mapped(s, map, row.upper, column.lower, k);
@@ -59,18 +58,124 @@ fn along(column: Place, i: usize) -> Place
     }
 }
 
-// Renders pixels between the same tiles in place: from the first one's place the weights move along. Each pixel is weighed from its four tiles.
+// Whether the eight pixels from `at` on have one bin: no bit of any differs from the first one's. Each is looked at and the answer asked once: a test at every pixel cannot be foretold on a noisy film.
+fn one_bin(pixels: &[u16], at: usize) -> bool
+    requires { ⌜ at + 8 ≤ length (now pixels) ⌝ }
+    ensures { λ r. ⌜ r ≡ oneBin (now (pixels .entry)) at 8 ⌝ }
+{
+    let k = pixels[at];
+    let mut other = 0u16;
+    let mut j = 0;
+    while j < 8 {
+        other = other | (pixels[at + j] ^ k);
+        j += 1;
+    }
+    other == 0
+}
+
+// Renders the eight pixels from `at` on, which have one bin, whose pairs are `left` and `right`: their weighted sum is worked out once.
+fn move_eight(
+    pixels: &mut [u16],
+    at: usize,
+    left: u32,
+    right: u32,
+    column: Place,
+    row: Place,
+    by: u64,
+)
+    requires { ⌜ Stretch column row by at (at + 8) (length (now pixels)) × (left ≤ row .span * 4095) × (right ≤ row .span * 4095) ⌝ }
+    ensures { λ _. ⌜ now (pixels .exit) ≡ patchOf (steadyAt column row left right) (now (pixels .entry)) at (at + 8) ⌝ }
+{
+    let end = at + 8;
+    let first = along(column, at);
+    let mut sum = blend::sides(first, left, right);
+    let mut i = at;
+    while i < end {
+        pixels[i] = blend::quotient(sum, column, row, by) as u16;
+        // Order 4: "let the weighted sum move by the mapped differences where the bin stays the same".
+        sum = sum + (right as u64) - (left as u64);
+        i += 1;
+    }
+}
+
+// The pair of bin k in tile column i.
+fn side(s: Settings, map: &[u16], row: Place, i: u32, k: u32) -> u32
+    requires { ⌜ Maps s (now map) × Sound (s .down) 2048 row × (i < s .across) × (k < binsOf s) ⌝ }
+    ensures { λ r. ⌜ r ≡ sideOf s (now (map .entry)) row i k ⌝ }
+{
+    let a = mapped(s, map, row.lower, i, k);
+    let c = mapped(s, map, row.upper, i, k);
+    blend::pair(row, a, c)
+}
+
+// Renders the pixels from `at` up to `end`, whose bins stand in their places: each one is weighed from its four tiles.
+fn weigh_part(
+    pixels: &mut [u16],
+    at: usize,
+    end: usize,
+    s: Settings,
+    map: &[u16],
+    column: Place,
+    row: Place,
+    by: u64,
+)
+    requires { ⌜ Stretch column row by at end (length (now pixels)) × WeighPartAsks s (now map) column row at end (now pixels) ⌝ }
+    ensures { λ _. ⌜ now (pixels .exit) ≡ patchOf (cornersAt s (now (map .entry)) column row) (now (pixels .entry)) at end ⌝ }
+{
+    let mut i = at;
+    while i < end {
+        let place = along(column, i);
+        pixels[i] = pixel(s, map, place, row, by, pixels[i] as u32) as u16;
+        i += 1;
+    }
+}
+
+// The same for eight pixels: where they have one bin the sum moves.
+fn weigh_eight(
+    pixels: &mut [u16],
+    at: usize,
+    s: Settings,
+    map: &[u16],
+    column: Place,
+    row: Place,
+    by: u64,
+)
+    requires { ⌜ Stretch column row by at (at + 8) (length (now pixels)) × WeighPartAsks s (now map) column row at (at + 8) (now pixels) ⌝ }
+    ensures { λ _. ⌜ now (pixels .exit) ≡ patchOf (cornersAt s (now (map .entry)) column row) (now (pixels .entry)) at (at + 8) ⌝ }
+{
+    if one_bin(pixels, at) {
+        let k = pixels[at] as u32;
+        let left = side(s, map, row, column.lower, k);
+        let right = side(s, map, row, column.upper, k);
+        move_eight(pixels, at, left, right, column, row, by);
+        return;
+    }
+    weigh_part(pixels, at, at + 8, s, map, column, row, by);
+}
+
+// Renders pixels between the same tiles, whose bins stand in their places, from the mappings: eight at a time, and the rest one by one.
+fn weigh_bins(pixels: &mut [u16], s: Settings, map: &[u16], column: Place, row: Place)
+    requires { ⌜ WeighAsks s (now map) column row (now pixels) ⌝ }
+    ensures { λ _. ⌜ now (pixels .exit) ≡ weighedRun s (now (map .entry)) column row (now (pixels .entry)) ⌝ }
+{
+    let by = spans_factor(column, row);
+    let len = pixels.len();
+    let many = len / 8;
+    let mut n = 0;
+    while n < many {
+        weigh_eight(pixels, n * 8, s, map, column, row, by);
+        n += 1;
+    }
+    weigh_part(pixels, many * 8, len, s, map, column, row, by);
+}
+
+// Renders pixels between the same tiles in place: from the first one's place the weights move along.
 fn weigh_run(pixels: &mut [u16], s: Settings, map: &[u16], column: Place, row: Place, bin: u32)
     requires { ⌜ RunAsks s (now map) column row (now pixels) × (bin ≡ factorOf (s .min) (s .max) (binsOf s)) ⌝ }
     ensures { λ _. ⌜ now (pixels .exit) ≡ runOf s (now (map .entry)) column row (now (pixels .entry)) ⌝ }
 {
-    let by = spans_factor(column, row);
-    let mut i = 0;
-    while i < pixels.len() {
-        let place = along(column, i);
-        pixels[i] = pixel(s, map, place, row, by, bin, pixels[i] as u32) as u16;
-        i += 1;
-    }
+    bins_by(pixels, s, bin);
+    weigh_bins(pixels, s, map, column, row);
 }
 
 // The lesser of two lengths.
@@ -102,7 +207,7 @@ fn section_from(width: u32, across: u32, left: u32, at: usize, len: usize) -> Se
     Section { column, end }
 }
 
-// Renders a row's pixels in place, from column `left` on: each one is weighed from its four tiles.
+// Renders a row's pixels in place, from column `left` on, from the mappings.
 fn weighed_row(pixels: &mut [u16], left: u32, width: u32, s: Settings, map: &[u16], row: Place)
     requires { ⌜ RowAsks width s (now map) left row (now pixels) ⌝ }
     ensures { λ _. ⌜ now (pixels .exit) ≡ rowOf width s (now (map .entry)) left row (now (pixels .entry)) ⌝ }
@@ -142,6 +247,19 @@ fn bins_many(pixels: &mut [u16], s: Settings, bin: u32)
     }
 }
 
+// Puts each pixel's bin in its place, by the factor of the range and the bins.
+fn bins_by(pixels: &mut [u16], s: Settings, bin: u32)
+    requires { ⌜ BinsAsks s (now pixels) bin ⌝ }
+    ensures { λ _. ⌜ now (pixels .exit) ≡ binnedOf s (now (pixels .entry)) ⌝ }
+{
+    let bins = settings::bins(s);
+    if 256 < bins {
+        bins_many(pixels, s, bin);
+        return;
+    }
+    bins_few(pixels, s, bin);
+}
+
 // Puts each pixel's bin in its place.
 fn bins_row(pixels: &mut [u16], s: Settings)
     requires { ⌜ Scale (s .min) (s .max) (binsOf s) × (all (within (s .min) (s .max)) (now pixels) ≡ true) ⌝ }
@@ -149,11 +267,7 @@ fn bins_row(pixels: &mut [u16], s: Settings)
 {
     let bins = settings::bins(s);
     let bin = binning::bin_factor(s.min, s.max, bins);
-    if 256 < bins {
-        bins_many(pixels, s, bin);
-        return;
-    }
-    bins_few(pixels, s, bin);
+    bins_by(pixels, s, bin);
 }
 
 // The same place, its weights shown to fit 16 bits: the compiler then makes short products, more of them at once.
@@ -204,19 +318,64 @@ fn pair_row(s: Settings, map: &[u16], row: Place, pairs: &mut [u32])
     pair_up(&map[a..ae], &map[c..ce], row, &mut pairs[..each]);
 }
 
-// Renders pixels between the same tiles, whose bins stand in their places, from the pairs on the left and on the right.
-fn weave(pixels: &mut [u16], left: &[u32], right: &[u32], column: Place, row: Place)
-    requires { ⌜ WeaveAsks column row (now left) (now right) (now pixels) ⌝ }
-    ensures { λ _. ⌜ now (pixels .exit) ≡ wovenOf column row (now (left .entry)) (now (right .entry)) (now (pixels .entry)) ⌝ }
+// Renders the pixels from `at` up to `end`, whose bins stand in their places, from the pairs on the left and on the right.
+fn weave_part(
+    pixels: &mut [u16],
+    at: usize,
+    end: usize,
+    left: &[u32],
+    right: &[u32],
+    column: Place,
+    row: Place,
+    by: u64,
+)
+    requires { ⌜ Stretch column row by at end (length (now pixels)) × WeavePartAsks row (now left) (now right) at end (now pixels) ⌝ }
+    ensures { λ _. ⌜ now (pixels .exit) ≡ patchOf (strandAt column row (now (left .entry)) (now (right .entry))) (now (pixels .entry)) at end ⌝ }
 {
-    let by = spans_factor(column, row);
-    let mut i = 0;
-    while i < pixels.len() {
+    let mut i = at;
+    while i < end {
         let k = pixels[i] as usize;
         let place = along(column, i);
         pixels[i] = blend::grey_sides(place, row, by, left[k], right[k]) as u16;
         i += 1;
     }
+}
+
+// The same for eight pixels: where they have one bin the sum moves.
+fn weave_eight(
+    pixels: &mut [u16],
+    at: usize,
+    left: &[u32],
+    right: &[u32],
+    column: Place,
+    row: Place,
+    by: u64,
+)
+    requires { ⌜ Stretch column row by at (at + 8) (length (now pixels)) × WeavePartAsks row (now left) (now right) at (at + 8) (now pixels) ⌝ }
+    ensures { λ _. ⌜ now (pixels .exit) ≡ patchOf (strandAt column row (now (left .entry)) (now (right .entry))) (now (pixels .entry)) at (at + 8) ⌝ }
+{
+    if one_bin(pixels, at) {
+        let k = pixels[at] as usize;
+        move_eight(pixels, at, left[k], right[k], column, row, by);
+        return;
+    }
+    weave_part(pixels, at, at + 8, left, right, column, row, by);
+}
+
+// Renders pixels between the same tiles, whose bins stand in their places, from the pairs on the left and on the right: eight at a time, and the rest one by one.
+fn weave(pixels: &mut [u16], left: &[u32], right: &[u32], column: Place, row: Place)
+    requires { ⌜ WeaveAsks column row (now left) (now right) (now pixels) ⌝ }
+    ensures { λ _. ⌜ now (pixels .exit) ≡ wovenOf column row (now (left .entry)) (now (right .entry)) (now (pixels .entry)) ⌝ }
+{
+    let by = spans_factor(column, row);
+    let len = pixels.len();
+    let many = len / 8;
+    let mut n = 0;
+    while n < many {
+        weave_eight(pixels, n * 8, left, right, column, row, by);
+        n += 1;
+    }
+    weave_part(pixels, many * 8, len, left, right, column, row, by);
 }
 
 // The same from the pairs of the whole row. A tile's pairs are lent as a part: an offset added in the loop was measured to cost 0.4 ns a pixel.

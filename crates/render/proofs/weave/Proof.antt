@@ -1,20 +1,20 @@
--- `render::weave` meets its contract: the pixels passed are rendered, those ahead hold their bins.
+-- `render::weave` meets its contract: the stretches passed are rendered, the pixels ahead hold their bins.
 -- Assumes nothing.
-use Prim.Native.Nat.{_≤_, _-_}
+use Prim.Native.Nat.{_*_, _/_, _-_, _≤_}
 use mathlib.Core.Path.{_≡_, refl}
-use lib.ListN.{length, length-set}
+use lib.ListN.{length}
 use native.Mathlib.Omega.{arith}
-use Rattle.lists.proofs.Fills.{filled-none}
+use Rattle.lists.proofs.Fills.{filled-none, filled-end}
 use Rattle.lists.specs.Lists.{filled}
-use Rattle.render.proofs.Weaving.{woven, weave-sound, left-there, right-there, weave-small, weave-next, weave-end}
+use Rattle.render.proofs.Weaving.{woven, weave-lies, weave-asks, weave-stretch, weave-end}
 use Rattle.render.proofs.weave.Statement.{statement}
 use Rattle.render.proofs.weave.Tie as tie
 
 abbrev Inv-loop : tie.InvT-loop
-Inv-loop pixels₀ left right column row by i₀ pixels i = (i ≤ length pixels₀) × (length pixels ≡ length pixels₀) × (pixels ≡ filled (woven column row left right pixels₀) pixels₀ i)
+Inv-loop pixels₀ left right column row by len many n₀ pixels n = (n ≤ length pixels₀ / 8) × (length pixels ≡ length pixels₀) × (pixels ≡ filled (woven column row left right pixels₀) pixels₀ (n * 8))
 
 abbrev μ-loop : tie.MeasureT-loop
-μ-loop pixels₀ left right column row by i₀ pixels i = length pixels₀ - i
+μ-loop pixels₀ left right column row by len many n₀ pixels n = length pixels₀ / 8 - n
 
 spans-factor-requires : tie.Need-spans-factor-requires Inv-loop μ-loop
 spans-factor-requires c κs = (c .before .before .before .pre .column, c .before .before .before .pre .row)
@@ -22,62 +22,32 @@ spans-factor-requires c κs = (c .before .before .before .pre .column, c .before
 loop-holds : tie.Need-loop-holds Inv-loop μ-loop
 loop-holds c = (omega arith, refl, filled-none _ _)
 
-mul-k : tie.Need-mul-k Inv-loop μ-loop
-mul-k c = omega arith
+mul-weave-eight : tie.Need-mul-weave-eight Inv-loop μ-loop
+mul-weave-eight c = omega arith
 
-slice-read-k : tie.Need-slice-read-k Inv-loop μ-loop
-slice-read-k c = omega arith
+weave-eight-requires : tie.Need-weave-eight-requires Inv-loop μ-loop
+weave-eight-requires c κs = (weave-lies (c .before .before .before .before .before .before .before .pre) (c .before .before .before .spans-factor .ensures) (c .before .before .loop .inv .2) (omega arith) (omega arith) (c .before .before .loop .inv .1), weave-asks (c .before .before .before .before .before .before .before .pre) (c .before .before .before .spans-factor .ensures) (c .before .before .loop .inv .2) (omega arith) (omega arith))
 
-cast-k : tie.Need-cast-k Inv-loop μ-loop
-cast-k c = omega (arith, c .slice-known2 .given (c .before .before .loop .i))
-
-along-requires : tie.Need-along-requires Inv-loop μ-loop
-along-requires c κs = (c .before .before .before .before .before .before .before .pre .column, omega (arith, c .before .before .before .before .before .before .before .pre .room))
-
-mul-grey-sides : tie.Need-mul-grey-sides Inv-loop μ-loop
-mul-grey-sides c = omega (arith, c .before .slice-known2 .given (c .before .before .before .loop .i))
-
-shared-slice-read-grey-sides : tie.Need-shared-slice-read-grey-sides Inv-loop μ-loop
-shared-slice-read-grey-sides c = left-there (c .before .before .before .before .before .before .before .before .before .pre) (omega arith) (c .before .before .before .before .loop .inv .2)
-
-mul-grey-sides-2 : tie.Need-mul-grey-sides-2 Inv-loop μ-loop
-mul-grey-sides-2 c = omega (arith, c .before .before .slice-known2 .given (c .before .before .before .before .loop .i))
-
-shared-slice-read-grey-sides-2 : tie.Need-shared-slice-read-grey-sides-2 Inv-loop μ-loop
-shared-slice-read-grey-sides-2 c = right-there (c .before .before .before .before .before .before .before .before .before .before .pre) (omega arith) (c .before .before .before .before .before .loop .inv .2)
-
-grey-sides-requires : tie.Need-grey-sides-requires Inv-loop μ-loop
-grey-sides-requires c κs = rw (c .before .before .along .ensures) (
-  weave-sound (c .before .before .before .before .before .before .before .before .before .before .pre) {i = c .before .before .before .before .before .loop .i} (omega arith),
-  c .before .before .before .before .before .before .before .before .before .before .pre .row,
-  c .before .before .before .before .before .before .spans-factor .ensures,
-  c .before .before .before .before .before .before .before .before .before .before .pre .left _ (left-there (c .before .before .before .before .before .before .before .before .before .before .pre) (omega arith) (c .before .before .before .before .before .loop .inv .2)),
-  c .before .before .before .before .before .before .before .before .before .before .pre .right _ (right-there (c .before .before .before .before .before .before .before .before .before .before .pre) (omega arith) (c .before .before .before .before .before .loop .inv .2)),
-)
-
-cast-pixels : tie.Need-cast-pixels Inv-loop μ-loop
-cast-pixels c = omega (arith, weave-small (c .before .before .before .before .before .before .before .before .before .before .before .pre) (omega arith) (c .before .before .before .before .before .before .loop .inv .2) (c .before .before .before .along .ensures) (c .grey-sides .ensures))
-
-mul-pixels : tie.Need-mul-pixels Inv-loop μ-loop
-mul-pixels c = omega arith
-
-slice-write-pixels : tie.Need-slice-write-pixels Inv-loop μ-loop
-slice-write-pixels c = omega arith
-
-add-i : tie.Need-add-i Inv-loop μ-loop
-add-i c = omega arith
+add-n : tie.Need-add-n Inv-loop μ-loop
+add-n c = omega arith
 
 loop-less : tie.Need-loop-less Inv-loop μ-loop
 loop-less c = omega arith
 
 loop-again : tie.Need-loop-again Inv-loop μ-loop
-loop-again c = (omega arith, rw length-set (omega arith), weave-next (c .before .before .before .before .before .before .before .before .before .before .before .pre) (omega arith) (c .before .before .before .before .before .before .loop .inv .2) (c .before .before .before .along .ensures) (c .grey-sides .ensures))
+loop-again c = (omega arith, omega arith, filled-end _ _ (weave-stretch (c .before .before .before .before .before .before .before .before .before .before .pre) (c .before .before .before .before .before .before .spans-factor .ensures) (c .before .before .before .before .before .loop .inv .2) (omega arith) (omega arith) (c .before .before .weave-eight .ensures)) (omega arith) (omega arith))
+
+mul-weave-part : tie.Need-mul-weave-part Inv-loop μ-loop
+mul-weave-part c = omega arith
+
+weave-part-requires : tie.Need-weave-part-requires Inv-loop μ-loop
+weave-part-requires c κs = (weave-lies (c .before .before .before .before .before .before .before .pre) (c .before .before .before .spans-factor .ensures) (filled-end _ _ (c .before .before .loop .inv .2) (omega arith) (omega arith)) (omega arith) (omega arith) (c .before .before .loop .inv .1), weave-asks (c .before .before .before .before .before .before .before .pre) (c .before .before .before .spans-factor .ensures) (filled-end _ _ (c .before .before .loop .inv .2) (omega arith) (omega arith)) (omega arith) (omega arith))
 
 same-length : tie.Need-same-length Inv-loop μ-loop
 same-length c = omega arith
 
 returns : tie.Need-returns Inv-loop μ-loop
-returns c = weave-end _ _ _ _ _ {i = c .before .loop .i} (c .before .loop .inv .2) (omega arith) (omega arith)
+returns c = weave-end _ _ _ _ _ (weave-stretch (c .before .before .before .before .before .before .before .before .before .before .pre) (c .before .before .before .before .before .before .spans-factor .ensures) (filled-end _ _ (c .before .before .before .before .before .loop .inv .2) (omega arith) (omega arith)) (omega arith) (omega arith) (c .before .before .weave-part .ensures))
 
 pub weave-spec : {M : Type 1} → statement M
 weave-spec =
@@ -87,20 +57,12 @@ weave-spec =
     μ-loop
     spans-factor-requires
     loop-holds
-    mul-k
-    slice-read-k
-    cast-k
-    along-requires
-    mul-grey-sides
-    shared-slice-read-grey-sides
-    mul-grey-sides-2
-    shared-slice-read-grey-sides-2
-    grey-sides-requires
-    cast-pixels
-    mul-pixels
-    slice-write-pixels
-    add-i
+    mul-weave-eight
+    weave-eight-requires
+    add-n
     loop-less
     loop-again
+    mul-weave-part
+    weave-part-requires
     same-length
     returns)
