@@ -35,13 +35,14 @@ static const struct reel {
 
 /* In the order in which they take turns: draw comes behind prepare, with whose mappings it draws. */
 enum call {
-    ENHANCE, ENHANCE_BYTES, BY_1994, COPY, SCAN, UNCLIPPED, NEAR_ONE, PREPARE, DRAW, PREPARE_BYTES, DRAW_BYTES, WRITE,
-    READ, CALLS
+    ENHANCE, ENHANCE_BYTES, BY_1994, COPY, SCAN, UNCLIPPED, NEAR_ONE, PREPARE, DRAW, PREPARE_BYTES, DRAW_BYTES, COUNT,
+    MAP, WRITE, READ, CALLS
 };
 
 #define ONE(call) (1u << (call))
 #define BYTES (ONE(ENHANCE_BYTES) | ONE(PREPARE_BYTES) | ONE(DRAW_BYTES)) /* for films of 8 bits alone */
-#define ALL ((ONE(CALLS) - 1) & ~BYTES & ~ONE(NEAR_ONE))
+#define COUNTS (ONE(COUNT) | ONE(MAP)) /* in this order: mapping wants the counts */
+#define ALL ((ONE(CALLS) - 1) & ~BYTES & ~COUNTS & ~ONE(NEAR_ONE))
 
 static const struct {
     void (*before)(struct bench *);
@@ -50,7 +51,7 @@ static const struct {
     [ENHANCE] = {lay_out, call_enhance}, [BY_1994] = {lay_out, call_1994},     [COPY] = {NULL, call_copy},
     [SCAN] = {NULL, call_scan},          [UNCLIPPED] = {NULL, call_unclipped}, [PREPARE] = {NULL, call_prepare},
     [DRAW] = {NULL, call_draw},          [WRITE] = {NULL, call_write},         [READ] = {NULL, call_read},
-    [NEAR_ONE] = {NULL, call_near_one},
+    [NEAR_ONE] = {NULL, call_near_one},  [COUNT] = {NULL, call_count},         [MAP] = {NULL, call_map},
     [ENHANCE_BYTES] = {lay_out_bytes, call_enhance_bytes},
     [PREPARE_BYTES] = {NULL, call_prepare_bytes},
     [DRAW_BYTES] = {NULL, call_draw_bytes},
@@ -105,6 +106,8 @@ static struct result measure(const struct subject *of, unsigned which)
     check(&b);
     if ((which & ONE(NEAR_ONE)) != 0)
         check_near_one(&b);
+    if ((which & COUNTS) != 0)
+        check_counts(&b);
     struct result r = {.pixels = (double)b.pixels, .area = (double)b.area, .share = share_of(&b)};
     for (int i = rounds(of->side); i > 0; i--)
         for (int c = 0; c < CALLS; c++)
@@ -358,6 +361,27 @@ static void near_one_table(void)
     near_one_row(COMBED, 2, 2048);
 }
 
+/* ---- a new factor ---- */
+
+static void counts_row(enum kind kind)
+{
+    struct subject of = usual(kind, 4096, 12);
+    struct result r = measure(&of, COUNTS | ONE(PREPARE));
+    double prepare = r.best[PREPARE] / 1e6, count = r.best[COUNT] / 1e6, map = r.best[MAP] / 1e6;
+    printf("| %4u | %-5s | %7.3f | %7.3f | %7.3f | %6.4f |\n", (unsigned)of.side, film_name(kind), prepare, count, map,
+           map / prepare);
+    fflush(stdout);
+}
+
+static void counts_table(void)
+{
+    printf("\n### Mapping from counts\n\n"
+           "A new factor over counts that are there, against prepare on the same film, milliseconds. 12 bits.\n\n");
+    printf("| side | film | prepare | counting | mapping from counts | mapping of prepare |\n|---|---|---|---|---|---|\n");
+    counts_row(NOISY);
+    counts_row(CALM);
+}
+
 /* ---- how time grows ---- */
 
 static void growth_row(const char *grows, uint32_t side, uint32_t grid, uint32_t bins)
@@ -418,6 +442,7 @@ static void run(const char *opencv)
     comparison();
     bins_table();
     near_one_table();
+    counts_table();
     growth_table();
 }
 

@@ -48,6 +48,8 @@ void open_bench(struct bench *b, const struct subject *of)
     b->drawn = room(2 * b->pixels);
     b->map = room(2 * tz_map_entries(&b->settings));
     b->scratch = room(4 * tz_scratch_entries(&b->settings));
+    b->counts = room(4 * tz_counts_entries(&b->settings));
+    b->mapped = room(2 * tz_map_entries(&b->settings));
     b->file = room(tz_write_bytes(side, side));
     film_draw(b->film, of->kind, side, of->bits);
     if (of->bits == 8)
@@ -61,6 +63,8 @@ void close_bench(struct bench *b)
     free(b->drawn);
     free(b->map);
     free(b->scratch);
+    free(b->counts);
+    free(b->mapped);
     free(b->file);
     free(b->bytes);
     free(b->byte_picture);
@@ -110,6 +114,20 @@ long call_near_one(struct bench *b)
     near.factor = 1.0001f;
     return prepare_by(b, &near);
 }
+
+long call_count(struct bench *b)
+{
+    return tzofnadir_count(b->of.side, b->of.side, b->film, b->pixels, &b->settings, b->counts,
+                           tz_counts_entries(&b->settings));
+}
+
+static long map_by(struct bench *b, const tz_settings *s, size_t counts)
+{
+    return tzofnadir_map(FILM, b->of.side, b->of.side, s, b->counts, counts, b->mapped, tz_map_entries(s), b->scratch,
+                         tz_scratch_entries(s), &b->record, &b->footer);
+}
+
+long call_map(struct bench *b) { return map_by(b, &b->settings, tz_counts_entries(&b->settings)); }
 
 long call_draw(struct bench *b)
 {
@@ -220,6 +238,38 @@ void check(struct bench *b)
     check_window(b);
     if (b->bytes != NULL)
         check_bytes(b);
+}
+
+/* One clip setting over the counts as they stand: mapping leaves what prepare does, at factor 1.0 nothing new. */
+static void check_mapped(struct bench *b, uint32_t clip, float factor)
+{
+    tz_settings s = b->settings;
+    s.clip = clip;
+    s.factor = factor;
+    must("prepare", prepare_by(b, &s));
+    tz_record record = b->record;
+    tz_footer footer = b->footer;
+    must("mapping", map_by(b, &s, tz_counts_entries(&s)));
+    if (memcmp(b->mapped, b->map, 2 * tz_map_entries(&s)) != 0)
+        end("a mapping from counts is not prepare's", b->of.side);
+    if (memcmp(&b->record, &record, sizeof record) != 0 || memcmp(&b->footer, &footer, sizeof footer) != 0)
+        end("mapping's record or footer is not prepare's", b->of.side);
+}
+
+void check_counts(struct bench *b)
+{
+    size_t entries = tz_counts_entries(&b->settings);
+    must("counting", call_count(b));
+    check_mapped(b, 0, 0.0f);
+    check_mapped(b, 1, 1.0001f);
+    check_mapped(b, 1, 1.0f);
+    check_mapped(b, 1, b->settings.factor);
+    if (map_by(b, &b->settings, entries - 1) != TZ_COUNTS_SHORT)
+        end("counts that are too few are not refused", b->of.side);
+    b->counts[0]++;
+    if (call_map(b) != TZ_COUNTS_SUM)
+        end("counts that do not add up are not refused", b->of.side);
+    b->counts[0]--;
 }
 
 void check_near_one(struct bench *b)

@@ -28,6 +28,8 @@ struct bench {
     uint16_t *drawn;   /* what is drawn or copied */
     uint16_t *map;
     uint32_t *scratch;
+    uint32_t *counts; /* what counting leaves, */
+    uint16_t *mapped; /* and the mappings that are made of it */
     uint8_t *bytes; /* of a film of 8 bits: the same as bytes, and what the calls on bytes want */
     uint8_t *byte_picture;
     uint8_t *byte_drawn;
@@ -55,12 +57,15 @@ void lay_out_bytes(struct bench *b);
  * .. bytes:  the calls on bytes, for a film of 8 bits with a grid of 8 by 8 and 64, 128 or 256 bins.
  * unclipped: prepare with clip off. Its record is not that of the settings: draw wants prepare before it.
  * near one:  prepare at the factor 1.0001, and so is its record not that of the settings.
+ * map:       mapping from the counts. It wants counting before it; the mappings go to `mapped`.
  */
 long call_enhance(struct bench *b);
 long call_prepare(struct bench *b);
 long call_scan(struct bench *b);
 long call_unclipped(struct bench *b);
 long call_near_one(struct bench *b);
+long call_count(struct bench *b);
+long call_map(struct bench *b);
 long call_draw(struct bench *b);
 long call_write(struct bench *b);
 long call_read(struct bench *b);
@@ -81,5 +86,11 @@ void check(struct bench *b);
  * Ends the program where one does not.
  */
 void check_near_one(struct bench *b);
+
+/*
+ * Counts once and maps with one clip setting after the other. Ends the program where mappings, record or footer are not
+ * prepare's, or where counts that are too few or do not add up are not refused. Leaves the counts.
+ */
+void check_counts(struct bench *b);
 
 #endif

@@ -51,9 +51,9 @@ def faulty(node):
 
 
 def prints(room):
-    """What the three programs print, or None if one fails."""
+    """What the four programs print, or None if one fails."""
     texts = []
-    for program in ("films.py", "byte_films.py", "listings.py"):
+    for program in ("films.py", "byte_films.py", "count_films.py", "listings.py"):
         try:
             done = subprocess.run([sys.executable, "-B", f"{room}/{program}"], capture_output=True, timeout=60, check=False)
         except subprocess.TimeoutExpired:
@@ -71,7 +71,7 @@ def main():
         room = above + "/second"
         shutil.copytree(f"{top}/second", room)
         shutil.copytree(f"{top}/crates/listing_set/src", above + "/crates/listing_set/src")
-        for program in ("films", "byte_films"):
+        for program in ("films", "byte_films", "count_films"):
             os.mkdir(f"{above}/crates/{program}")
             with open(f"{top}/crates/{program}/stdin", encoding="ascii") as text, open(f"{above}/crates/{program}/stdin", "w", encoding="ascii") as out:
                 out.writelines(line for line in text if small(line))

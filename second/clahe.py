@@ -1,13 +1,13 @@
 """Prepare, draw and enhance: a second reading of document 01, and of document
-02's orders 1 (byte films), 2 (no more refusal 14) and 3 (bins that no pixel
-reaches).
+02's orders 1 (byte films), 2 (no more refusal 14), 3 (bins that no pixel
+reaches) and 5 (a new factor without a new count).
 
 Plain and slow. Whole numbers and fractions.Fraction only; the one float is
 the division behind the footer's "factor used", which Python rounds correctly
 for two whole numbers.
 
-A quoted sentence in a comment is document 01's own; below the last heading,
-and where an order is named before it, document 02's.
+A quoted sentence in a comment is document 01's own; below the headings of
+orders, and where an order is named before it, document 02's.
 
 An answer is either a whole number (the refusal) or a tuple (the results).
 Pictures, map buffers, scratch and outputs are lists that the caller lends.
@@ -53,6 +53,17 @@ def factor_number(bits):
 def bin_count(bins):
     """"Bins B: 2 to 4096. 0 means 128." """
     return 128 if bins == 0 else bins
+
+
+def entries_of(settings):
+    """How many entries the mappings have: "(grid across) x (grid down) x
+    B"."""
+    return settings.across * settings.down * bin_count(settings.bins)
+
+
+def tile_pixels(width, height, settings):
+    """N, the pixels of a tile."""
+    return (width // settings.across) * (height // settings.down)
 
 
 def bin_of(grey, low, high, bins):
@@ -143,23 +154,27 @@ def tile_counts(picture, width, tile_width, tile_height, row, column, low, high,
     return counts
 
 
+def tile_mapping(counts, settings, pixels):
+    """The mapping of a tile from its raw counts.  "With clip off, steps 2 to 4
+    are skipped and the raw counts are mapped." """
+    if settings.clip is not None:
+        counts = clipped(counts, limit_of(settings.clip, pixels, len(counts)))
+    return mapping_of(counts, settings.min, settings.max, pixels)
+
+
 def all_mappings(width, height, picture, settings):
     """Every tile's mapping in one list: "the mappings, tiles row by row, bins
-    upward".  "With clip off, steps 2 to 4 are skipped and the raw counts are
-    mapped." """
-    across, down, bins, low, high, clip = settings
+    upward"."""
+    across, down, bins, low, high, _ = settings
     bins = bin_count(bins)
     tile_width = width // across
     tile_height = height // down
-    pixels = tile_width * tile_height
     result = []
     for row in range(down):
         for column in range(across):
             counts = tile_counts(picture, width, tile_width, tile_height,
                                  row, column, low, high, bins)
-            if clip is not None:
-                counts = clipped(counts, limit_of(clip, pixels, bins))
-            result.extend(mapping_of(counts, low, high, pixels))
+            result.extend(tile_mapping(counts, settings, tile_width * tile_height))
     return result
 
 
@@ -206,16 +221,25 @@ def grey_at(x, y, grey, width, height, settings, maps):
                  mapped(j0, k0), mapped(j0, k1), mapped(j1, k0), mapped(j1, k1))
 
 
-def refusal_1_to_10(width, height, picture, settings):
-    """Rows 1 to 10 of the table, with 31 behind 9, "The first that applies is
-    given."  0 when none applies."""
-    across, down, bins, low, high, clip = settings
+def refusal_of_sides(width, height):
+    """Row 1 of the table.  0 when it doesn't apply."""
     # 1: "width or height is 0 or above 4096"
     if width == 0 or width > 4096 or height == 0 or height > 4096:
         return 1
+    return 0
+
+
+def refusal_of_length(width, height, picture):
+    """Row 2 of the table.  0 when it doesn't apply."""
     # 2: "picture length is not width x height"
     if len(picture) != width * height:
         return 2
+    return 0
+
+
+def refusal_3_to_9(width, height, settings):
+    """Rows 3 to 9 of the table, with 31 behind 9.  0 when none applies."""
+    across, down, bins, low, high, _ = settings
     # 3 / 4: "grid across / down is not 2 to 16"
     if not 2 <= across <= 16:
         return 3
@@ -237,6 +261,11 @@ def refusal_1_to_10(width, height, picture, settings):
     # Order 3: "31, bins (after 0 is read as 128) above R + 1, after 9."
     if bin_count(bins) > high - low + 1:
         return 31
+    return 0
+
+
+def refusal_of_clip(clip):
+    """Row 10 of the table.  0 when it doesn't apply."""
     # 10: "factor NaN, infinite, below 1.0 or above 1024.0"
     if clip is not None:
         factor = factor_number(clip)
@@ -245,31 +274,52 @@ def refusal_1_to_10(width, height, picture, settings):
     return 0
 
 
-def refusal_1_to_11(width, height, picture, settings, map_buffer):
-    """Rows 1 to 11 of the table, with 31 behind 9.  0 when none applies."""
-    refusal = refusal_1_to_10(width, height, picture, settings)
-    if refusal:
-        return refusal
+def refusal_of_map(settings, map_buffer):
+    """Row 11 of the table.  0 when it doesn't apply."""
     # 11: "map buffer shorter than (grid across) x (grid down) x B"
-    if len(map_buffer) < settings.across * settings.down * bin_count(settings.bins):
+    if len(map_buffer) < entries_of(settings):
         return 11
     return 0
 
 
-def refusal_1_to_13(width, height, picture, settings, map_buffer, scratch):
-    """"Prepare and enhance: 1 to 14 upward."  Order 2: "Strike 14"; order 3
-    puts 31 behind 9.  0 when none applies."""
-    refusal = refusal_1_to_11(width, height, picture, settings, map_buffer)
-    if refusal:
-        return refusal
+def refusal_of_scratch(settings, scratch):
+    """Row 12 of the table.  0 when it doesn't apply."""
     # 12: "scratch shorter than B"
     if len(scratch) < bin_count(settings.bins):
         return 12
+    return 0
+
+
+def refusal_of_pixels(settings, picture):
+    """Row 13 of the table.  0 when it doesn't apply."""
     # 13: "a pixel outside Min to Max"
     for grey in picture:
         if grey < settings.min or grey > settings.max:
             return 13
     return 0
+
+
+def refusal_1_to_10(width, height, picture, settings):
+    """Rows 1 to 10 of the table, with 31 behind 9, "The first that applies is
+    given."  0 when none applies."""
+    return (refusal_of_sides(width, height)
+            or refusal_of_length(width, height, picture)
+            or refusal_3_to_9(width, height, settings)
+            or refusal_of_clip(settings.clip))
+
+
+def refusal_1_to_11(width, height, picture, settings, map_buffer):
+    """Rows 1 to 11 of the table, with 31 behind 9.  0 when none applies."""
+    return (refusal_1_to_10(width, height, picture, settings)
+            or refusal_of_map(settings, map_buffer))
+
+
+def refusal_1_to_13(width, height, picture, settings, map_buffer, scratch):
+    """"Prepare and enhance: 1 to 14 upward."  Order 2: "Strike 14"; order 3
+    puts 31 behind 9.  0 when none applies."""
+    return (refusal_1_to_11(width, height, picture, settings, map_buffer)
+            or refusal_of_scratch(settings, scratch)
+            or refusal_of_pixels(settings, picture))
 
 
 def factor_is_one(clip):
@@ -286,20 +336,25 @@ def footer_of(width, height, settings):
     if factor_is_one(settings.clip):
         return Footer(0, ONE_F32, f64_bits(1.0))
     bins = bin_count(settings.bins)
-    pixels = (width // settings.across) * (height // settings.down)
+    pixels = tile_pixels(width, height, settings)
     limit = limit_of(settings.clip, pixels, bins)
     # int / int is the correctly rounded quotient; both fit an f64 exactly.
     return Footer(limit, settings.clip, f64_bits(limit * bins / pixels))
 
 
-def lay_down(width, height, picture, settings, map_buffer, scratch):
+def kept_record(film_number, width, height, settings):
+    """The map record, "with bins 0 kept as 128." """
+    kept = settings._replace(bins=bin_count(settings.bins))
+    return Record(film_number, width, height, kept)
+
+
+def lay_down(maps, settings, map_buffer, scratch):
     """"the map buffer's first (grid across) x (grid down) x B entries are the
     mappings, tiles row by row, bins upward; the first B scratch entries are
     zero; all other entries keep their contents."  "Factor 1.0: [...] map and
     scratch stay as they were." """
     if factor_is_one(settings.clip):
         return
-    maps = all_mappings(width, height, picture, settings)
     for i, value in enumerate(maps):
         map_buffer[i] = value
     for i in range(bin_count(settings.bins)):
@@ -312,10 +367,8 @@ def prepare(film_number, width, height, picture, settings, map_buffer, scratch):
     refusal = refusal_1_to_13(width, height, picture, settings, map_buffer, scratch)
     if refusal:
         return refusal
-    lay_down(width, height, picture, settings, map_buffer, scratch)
-    # "with bins 0 kept as 128."
-    kept = settings._replace(bins=bin_count(settings.bins))
-    return Record(film_number, width, height, kept), footer_of(width, height, settings)
+    lay_down(all_mappings(width, height, picture, settings), settings, map_buffer, scratch)
+    return kept_record(film_number, width, height, settings), footer_of(width, height, settings)
 
 
 def enhance(width, height, picture, settings, map_buffer, scratch):
@@ -324,7 +377,7 @@ def enhance(width, height, picture, settings, map_buffer, scratch):
     refusal = refusal_1_to_13(width, height, picture, settings, map_buffer, scratch)
     if refusal:
         return refusal
-    lay_down(width, height, picture, settings, map_buffer, scratch)
+    lay_down(all_mappings(width, height, picture, settings), settings, map_buffer, scratch)
     if not factor_is_one(settings.clip):
         for y in range(height):
             for x in range(width):
@@ -386,7 +439,7 @@ def refusal_of_draw(film_number, width, height, picture, settings, record, windo
     # 18: "draw: one of the first (grid across) x (grid down) x B map entries
     # outside Min to Max"
     if not factor_is_one(settings.clip):
-        for i in range(settings.across * settings.down * bin_count(settings.bins)):
+        for i in range(entries_of(settings)):
             if map_buffer[i] < settings.min or map_buffer[i] > settings.max:
                 return 18
     return 0
@@ -460,3 +513,81 @@ def draw_bytes(film_number, width, height, picture, settings, record, window, ma
     if refusal:
         return refusal
     return draw(film_number, width, height, picture, settings, record, window, map_buffer, output)
+
+
+# --- counting and mapping: document 02, order 5 ------------------------------
+
+def refusal_of_counts(settings, counts):
+    """"33, counts buffer shorter than tiles times bins".  0 when it doesn't
+    apply."""
+    if len(counts) < entries_of(settings):
+        return 33
+    return 0
+
+
+def refusal_of_sums(width, height, settings, counts):
+    """"34, a tile's counts don't add up to its pixels": each tile by itself.
+    0 when it doesn't apply."""
+    bins = bin_count(settings.bins)
+    for at in range(0, entries_of(settings), bins):
+        if sum(counts[at:at + bins]) != tile_pixels(width, height, settings):
+            return 34
+    return 0
+
+
+def refusal_of_count(width, height, picture, settings, counts):
+    """"Counting gives 1 to 9 with 31 after 9, then 33, then 13": the clip
+    setting is not asked.  0 when none applies."""
+    return (refusal_of_sides(width, height)
+            or refusal_of_length(width, height, picture)
+            or refusal_3_to_9(width, height, settings)
+            or refusal_of_counts(settings, counts)
+            or refusal_of_pixels(settings, picture))
+
+
+def refusal_of_mapping(width, height, settings, counts, map_buffer, scratch):
+    """"mapping gives 1, 3 to 12 with 31 after 9, then 33, then 34": there is
+    no picture to refuse.  As 11 to 13 are, 33 and 34 are given at factor 1.0
+    and with clip off too.  0 when none applies."""
+    return (refusal_of_sides(width, height)
+            or refusal_3_to_9(width, height, settings)
+            or refusal_of_clip(settings.clip)
+            or refusal_of_map(settings, map_buffer)
+            or refusal_of_scratch(settings, scratch)
+            or refusal_of_counts(settings, counts)
+            or refusal_of_sums(width, height, settings, counts))
+
+
+def count(width, height, picture, settings, counts):
+    """"counting, which fills only the front of a lent buffer with each tile's
+    raw counts in the mappings' order".  Answers 0 when counted, else the
+    refusal, which changes nothing."""
+    refusal = refusal_of_count(width, height, picture, settings, counts)
+    if refusal:
+        return refusal
+    bins = bin_count(settings.bins)
+    at = 0
+    for row in range(settings.down):
+        for column in range(settings.across):
+            counts[at:at + bins] = tile_counts(picture, width, width // settings.across,
+                                               height // settings.down, row, column,
+                                               settings.min, settings.max, bins)
+            at += bins
+    return 0
+
+
+def map_counts(film_number, width, height, settings, counts, map_buffer, scratch):
+    """"mapping, which makes the mappings and footer from those counts", the
+    counts "which mapping doesn't change".  "Mapping leaves map buffer and
+    scratch as prepare does, at factor 1.0 too."  Answers what prepare
+    answers."""
+    refusal = refusal_of_mapping(width, height, settings, counts, map_buffer, scratch)
+    if refusal:
+        return refusal
+    bins = bin_count(settings.bins)
+    maps = []
+    for at in range(0, entries_of(settings), bins):
+        maps.extend(tile_mapping(counts[at:at + bins], settings,
+                                 tile_pixels(width, height, settings)))
+    lay_down(maps, settings, map_buffer, scratch)
+    return kept_record(film_number, width, height, settings), footer_of(width, height, settings)

@@ -50,19 +50,26 @@ WIDE = Calls(clahe.prepare, clahe.draw, clahe.enhance, list)
 WIDE_RECORD = 11
 
 
-def rows(crate):
-    """The rows of a set: each a letter, a dictionary of its columns, and the bytes that it lists."""
+def lines(crate):
+    """The rows of a set: each a letter and its numbers."""
     found = []
     path = os.path.join(os.path.dirname(os.path.abspath(__file__)), "..", "crates", crate, "stdin")
     with open(path, encoding="ascii") as text:
         for line in text:
             words = line.split("#")[0].split()
             if words:
-                letter, numbers = words[0], [int(word, 0) for word in words[1:]]
-                columns = COLUMNS[letter]
-                row, listed = dict(zip(columns, numbers)), bytes(numbers[len(columns):])
-                assert len(row) == len(columns) and len(listed) == (row["count"] if letter in LISTS else 0), line
-                found.append((letter, row, listed))
+                found.append((words[0], [int(word, 0) for word in words[1:]]))
+    return found
+
+
+def rows(crate):
+    """The rows of a set: each a letter, a dictionary of its columns, and the bytes that it lists."""
+    found = []
+    for letter, numbers in lines(crate):
+        columns = COLUMNS[letter]
+        row, listed = dict(zip(columns, numbers)), bytes(numbers[len(columns):])
+        assert len(row) == len(columns) and len(listed) == (row["count"] if letter in LISTS else 0), numbers
+        found.append((letter, row, listed))
     return found
 
 

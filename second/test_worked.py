@@ -1,5 +1,6 @@
 """The worked numbers of document 01, "Numbers to check by hand", one by one,
-as document 02's orders 2 and 3 change them, and the profile of its order 1.
+as document 02's orders 2 and 3 change them, the profile of its order 1, and
+the counting and mapping of its order 5.
 
 Run: python3 second/test_worked.py   (prints the number of checks)
 """
@@ -276,6 +277,55 @@ def byte_films():
         same(list(bytes_rendered), rendered)
 
 
+def counts():
+    """Order 5: "counting then mapping with factor f gives prepare's mappings,
+    record and footer for f, for each f in turn over the same counts, which
+    mapping doesn't change"; and the refusals 33 and 34."""
+    settings = clahe.Settings(2, 2, 4, 0, 15, 0x7FC00000)
+    lent = [7] * 18
+    # "fills only the front of a lent buffer with each tile's raw counts in
+    # the mappings' order"; the clip is not asked.
+    same(clahe.count(4, 4, WORKED_FILM, settings, lent), 0)
+    same(lent, [4, 0, 0, 0, 1, 1, 1, 1, 0, 0, 0, 4, 2, 0, 0, 2, 7, 7])
+    kept, maps, scratch = list(lent), [9] * 19, [8] * 6
+    for clip in (f32(2.0), f32(1.0), None, 0x3F800001, f32(1024.0), f32(2.0)):
+        asked, own_maps, own_scratch = settings._replace(clip=clip), list(maps), list(scratch)
+        same(clahe.map_counts(5, 4, 4, asked, lent, maps, scratch),
+             clahe.prepare(5, 4, 4, WORKED_FILM, asked, own_maps, own_scratch))
+        same((lent, maps, scratch), (kept, own_maps, own_scratch))
+    # Counting: 1 to 9, 31, 33, 13, and never 10.
+    same(clahe.count(4, 0, WORKED_FILM, settings, []), 1)
+    same(clahe.count(4, 4, WORKED_FILM[1:], settings, []), 2)
+    same(clahe.count(4, 4, WORKED_FILM, settings._replace(bins=17), []), 31)
+    same(clahe.count(4, 4, [16] * 16, settings, lent[:15]), 33)
+    same(clahe.count(4, 4, [16] * 16, settings, lent), 13)
+    same(clahe.count(4, 4, WORKED_FILM, settings._replace(bins=0, max=255), [0] * 511), 33)
+    # Mapping: 1, 3 to 9, 31, 10, 11, 12, 33, 34, at factor 1.0 and off too.
+    wrong = [5] + lent[1:]
+    same(clahe.map_counts(5, 4, 0, settings, [], [], []), 1)
+    same(clahe.map_counts(5, 4, 5, settings, [], [], []), 6)
+    same(clahe.map_counts(5, 4, 4, settings._replace(bins=17), [], [], []), 31)
+    same(clahe.map_counts(5, 4, 4, settings, [], [], []), 10)
+    for clip in (f32(2.0), f32(1.0), None):
+        asked = settings._replace(clip=clip)
+        same(clahe.map_counts(5, 4, 4, asked, [], [9] * 15, []), 11)
+        same(clahe.map_counts(5, 4, 4, asked, [], maps, [8] * 3), 12)
+        same(clahe.map_counts(5, 4, 4, asked, wrong[:15], maps, scratch), 33)
+        same(clahe.map_counts(5, 4, 4, asked, wrong, maps, scratch), 34)
+        # A count moved between two tiles keeps the total of all tiles; 2^32
+        # more keeps a tile's total in 32 bits.
+        same(clahe.map_counts(5, 4, 4, asked, [3, 0, 0, 0, 2] + lent[5:], maps, scratch), 34)
+        same(clahe.map_counts(5, 4, 4, asked, [4, 2 ** 32 - 1, 1] + lent[3:], maps, scratch), 34)
+        same(isinstance(clahe.map_counts(5, 4, 4, asked, [3, 1] + lent[2:], maps, scratch), tuple), True)
+    same((lent, maps[16:], scratch), (kept, [9] * 3, [0] * 4 + [8] * 2))
+    # Bins 0 where the other has 128.
+    lent = [0] * 512
+    same(clahe.count(4, 4, WORKED_FILM, clahe.Settings(2, 2, 0, 0, 255, None), lent), 0)
+    asked = clahe.Settings(2, 2, 128, 0, 255, f32(2.0))
+    same(clahe.map_counts(5, 4, 4, asked, lent, [0] * 512, [0] * 128),
+         clahe.prepare(5, 4, 4, WORKED_FILM, asked, [0] * 512, [0] * 128))
+
+
 def larges():
     """Numbers of films that no program of the toolchain has room for: sums above 32 bits, and the largest tile whose
     division the library makes a product. The program `numbers` prints them; what it must print is held to the rules here."""
@@ -302,5 +352,6 @@ if __name__ == "__main__":
     listings()
     files()
     byte_films()
+    counts()
     larges()
     print("%d checks hold" % checks)

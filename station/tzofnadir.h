@@ -67,7 +67,9 @@ enum tz_refusal {
     TZ_SAMPLE = 26,          /* a sample above maxval */
     TZ_TARGET_SHORT = 27,    /* the caller's target too short */
     TZ_PROFILE = 30,         /* a film of bytes: grid not 8 by 8, range not 0 to 255, or bins not 64, 128 or 256 */
-    TZ_BINS_UNREACHED = 31   /* bins, 0 read as 128, above Max - Min + 1 */
+    TZ_BINS_UNREACHED = 31,  /* bins, 0 read as 128, above Max - Min + 1 */
+    TZ_COUNTS_SHORT = 33,    /* counts buffer shorter than (grid across) x (grid down) x B */
+    TZ_COUNTS_SUM = 34       /* a tile's counts do not add up to its pixels */
 };
 
 /* One plain sentence for a refusal's number, to show to a person. */
@@ -106,6 +108,9 @@ static inline const char *tz_refusal_text(uint32_t refusal)
         "There is no refusal of this number.",
         "The settings are outside the byte profile: grid 8 by 8, range 0 to 255, bins 64, 128 or 256.",
         "There are more bins (0 stands for 128) than greys in the range: ask for fewer, on the command line by --bins.",
+        "There is no refusal of this number.",
+        "The counts buffer is shorter than the grid across times the grid down times the bins.",
+        "The counts of a tile do not add up to that tile's pixels.",
     };
     return refusal < sizeof text / sizeof text[0] ? text[refusal] : text[19];
 }
@@ -121,7 +126,7 @@ typedef struct tz_settings {
     float factor;          /* 1.0 to 1024.0; exactly 1.0 returns the film unchanged */
 } tz_settings;
 
-/* What tz_prepare says its mappings belong to. bins is never 0 in it; clip is 0 or 1; factor 0.0 where clip is 0. */
+/* What tz_prepare and tz_map say their mappings belong to. bins is never 0 in it; clip is 0 or 1; factor 0.0 where clip is 0. */
 typedef struct tz_record {
     uint32_t film, width, height;
     tz_settings settings;
@@ -175,6 +180,16 @@ uint32_t tz_draw(uint32_t film, uint32_t width, uint32_t height,
                  const uint32_t *record, float record_factor,
                  uint32_t left, uint32_t top, uint32_t window_width, uint32_t window_height,
                  const uint16_t *map, size_t map_len, uint16_t *out, size_t out_len);
+
+uint32_t tz_count(uint32_t width, uint32_t height, const uint16_t *picture, size_t picture_len,
+                  uint32_t across, uint32_t down, uint32_t bins, uint32_t min, uint32_t max,
+                  uint32_t *counts, size_t counts_len);
+
+uint32_t tz_map(uint32_t film, uint32_t width, uint32_t height,
+                uint32_t across, uint32_t down, uint32_t bins, uint32_t min, uint32_t max,
+                uint32_t clip, float factor, const uint32_t *counts, size_t counts_len,
+                uint16_t *map, size_t map_len, uint32_t *scratch, size_t scratch_len,
+                uint32_t *record, float *record_factor, uint32_t *limit, float *asked, double *used);
 
 uint32_t tz_prepare_bytes(uint32_t film, uint32_t width, uint32_t height,
                           const uint8_t *picture, size_t picture_len,
@@ -231,6 +246,12 @@ static inline size_t tz_map_entries(const tz_settings *s)
     size_t across = s->across < TZ_MOST_GRID ? s->across : TZ_MOST_GRID;
     size_t down = s->down < TZ_MOST_GRID ? s->down : TZ_MOST_GRID;
     return across * down * tz_scratch_entries(s);
+}
+
+/* Entries of the counts buffer: as many as of the map buffer. */
+static inline size_t tz_counts_entries(const tz_settings *s)
+{
+    return tz_map_entries(s);
 }
 
 /* Bytes that hold any written film of at most 4096 by 4096. */
@@ -338,6 +359,52 @@ static inline uint32_t tzofnadir_draw(uint32_t film, uint32_t width, uint32_t he
     return tz_draw(film, width, height, picture, picture_len, s->across, s->down, s->bins, s->min, s->max, s->clip,
                    s->factor, r, record->settings.factor, window->left, window->top, window->width, window->height,
                    map, map_len, out, out_len);
+}
+
+/*
+ * Count: the first half of prepare, the one that looks at the film. Afterwards the first (across x down x bins) entries
+ * of `counts` say how many pixels of each tile are in each bin, tiles row by row, bins upward; all other entries keep
+ * their contents. The clip setting is not looked at: the same counts serve every factor, and clip off.
+ *
+ * Sizes: picture_len is width x height; counts_len at least tz_counts_entries.
+ * Refusals, the first that applies: 1 to 9 upward, 31, 33, 13.
+ */
+static inline uint32_t tzofnadir_count(uint32_t width, uint32_t height, const uint16_t *picture, size_t picture_len,
+                                       const tz_settings *s, uint32_t *counts, size_t counts_len)
+{
+    return tz_count(width, height, picture, picture_len, s->across, s->down, s->bins, s->min, s->max, counts,
+                    counts_len);
+}
+
+/*
+ * Map: the second half of prepare. It makes the mappings, the record and the footer from counts, and looks at no pixel,
+ * so that a new factor asks no new count. With the counts that count left for this film, with the same sizes, grid,
+ * bins and range, it leaves in map, scratch, record and footer what prepare leaves, at factor 1.0 too; the counts stay,
+ * for the next factor.
+ *
+ * The counts are taken as lent, whoever wrote them. Counts of another film that add up cannot be told apart: mapped under
+ * this film's number they give the other film's mappings, and draw takes them. Keep a film's counts beside its number.
+ *
+ * Sizes: counts_len at least tz_counts_entries, map_len at least tz_map_entries, scratch_len at least
+ * tz_scratch_entries.
+ * Refusals, the first that applies: 1, 3 to 9 upward, 31, 10, 11, 12, 33, 34. At factor 1.0 and with clip off 33 and 34
+ * are given too.
+ */
+static inline uint32_t tzofnadir_map(uint32_t film, uint32_t width, uint32_t height, const tz_settings *s,
+                                     const uint32_t *counts, size_t counts_len, uint16_t *map, size_t map_len,
+                                     uint32_t *scratch, size_t scratch_len, tz_record *record, tz_footer *footer)
+{
+    uint32_t r[9] = {0}, limit = 0;
+    float factor = 0, asked = 0;
+    double used = 0;
+    uint32_t refusal = tz_map(film, width, height, s->across, s->down, s->bins, s->min, s->max, s->clip, s->factor,
+                              counts, counts_len, map, map_len, scratch, scratch_len, r, &factor, &limit, &asked,
+                              &used);
+    if (refusal == TZ_DONE) {
+        *record = tz_record_of(r, factor);
+        *footer = tz_footer_of(limit, asked, used);
+    }
+    return refusal;
 }
 
 /*

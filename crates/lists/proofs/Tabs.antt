@@ -84,6 +84,17 @@ unfolding every
 every-all zero f h = refl
 every-all (suc n) f h = and-both (every n f) (f n) (every-all n f (λ i l. h i (omega arith))) (h n (omega arith))
 
+-- one more
+pub every-suc : (n : ℕ) (f : ℕ → Bool) → every (n + 1) f ≡ (every n f && f n)
+unfolding every
+every-suc n f = rw add-one refl
+
+-- two tests that agree below n hold of all alike
+pub every-cong : (n : ℕ) {f g : ℕ → Bool} → ((i : ℕ) → i < n → f i ≡ g i) → every n f ≡ every n g
+unfolding every
+every-cong zero h = refl
+every-cong (suc n) h = ap₂ (λ a b. a && b) (every-cong n (λ i l. h i (omega arith))) (h n (omega arith))
+
 -- one that fails is enough
 pub every-not : (n : ℕ) (f : ℕ → Bool) (i : ℕ) → i < n → f i ≡ false → every n f ≡ false
 unfolding every

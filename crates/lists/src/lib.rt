@@ -39,3 +39,15 @@ pub fn copy8(src: &[u8], dst: &mut [u8])
         k += 1;
     }
 }
+
+// The same for 32-bit entries.
+pub fn copy32(src: &[u32], dst: &mut [u32])
+    requires { ⌜ length (now src) ≤ length (now dst) ⌝ }
+    ensures { λ _. ⌜ now (dst .exit) ≡ onto (now (dst .entry)) (now (src .entry)) ⌝ }
+{
+    let mut j = 0;
+    while j < src.len() {
+        dst[j] = src[j];
+        j += 1;
+    }
+}

@@ -1,15 +1,16 @@
 -- How prepare ends: refused, with the factor 1.0, or with the mappings laid down.
 -- Assumes nothing.
 use Prim.Native.Nat.{ℕ, zero, suc}
-use mathlib.Core.Bool.{Bool, true, false}
+use mathlib.Core.Bool.{Bool, true, false, cond}
 use mathlib.Core.List.{List}
 use mathlib.Core.Path.{_≡_, refl, sym, ap, _∙_}
 use lib.ListN.{length}
+use Rattle.lists.specs.Lists.{onto, filled}
 use Rattle.refuse.specs.Refuse.{first, unless}
 use Rattle.refuse.proofs.Walk.{unless-refused}
 use Rattle.settings.specs.declared.Settings.{Settings}
 use Rattle.settings.specs.declared.Footer.{Footer}
-use Rattle.settings.specs.Settings.{keptOf, clipOne}
+use Rattle.settings.specs.Settings.{binsOf, keptOf, recordOf, clipOne}
 use Rattle.prepare.specs.declared.Prepared.the-variants as Prepared
 use Rattle.prepare.specs.Prepare.{mappings, prepareRows, footOf, Ended, ending, preparedOf, prepareOf, FilmAsks, Work, TilesAsk, TilesDone}
 use Rattle.prepare.proofs.Table.{work, film-asks}
@@ -44,6 +45,18 @@ module _ (film w h : ℕ) (pic : List ℕ) (s : Settings) (m t : List ℕ) where
   pub ends-done : {r : ℕ} → r ≡ first (prepareRows w h pic s (length m) (length t)) → r ≡ 0 → preparedOf film w h pic s m t ≡ prepareOf film w h pic s m t
   unfolding prepareOf
   ends-done {r} e z = ap (λ k. unless k (λ n. ending (Prepared.Refused n) m t) (preparedOf film w h pic s m t)) (sym z ∙ e)
+
+  -- what it leaves then, from the mappings however they were made
+  pub prepared-as : {maps : List ℕ} → maps ≡ mappings w h pic s
+      → _≡_ {A = Ended}
+      record {
+        answer = Prepared.Done (recordOf film w h s) (footOf w h s);
+        map = cond (clipOne (s .clip)) m (onto m maps);
+        scratch = cond (clipOne (s .clip)) t (filled (λ k. 0) t (binsOf s));
+      }
+      (preparedOf film w h pic s m t)
+  unfolding preparedOf
+  prepared-as e = rw e refl
 
   -- at the factor 1.0 the buffers stay
   pub ends-one : {r : ℕ} {kept : Settings} {foot : Footer} {o : Bool} → r ≡ first (prepareRows w h pic s (length m) (length t)) → r ≡ 0

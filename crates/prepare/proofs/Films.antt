@@ -8,8 +8,8 @@ use native.Mathlib.Omega.{arith}
 use lib.ListN.{length, take, drop, getD}
 use borrow.Author.Tests.{not-false}
 use borrow.Rule.Slice.PartMut.{putMid}
-use Rattle.lists.specs.Lists.{all}
-use Rattle.lists.proofs.Fills.{length-joined, drop-onto, length-onto}
+use Rattle.lists.specs.Lists.{joined, all}
+use Rattle.lists.proofs.Fills.{length-joined, joined-cong, drop-onto, length-onto}
 use Rattle.lists.proofs.Blocks.{block-fits, getD-joined}
 use Rattle.lists.proofs.Maps.{over-part}
 use Rattle.lists.proofs.Windows.{length-block}
@@ -20,11 +20,11 @@ use Rattle.limit.specs.Limit.{allowed}
 use Rattle.limit.proofs.Laws.{limit-holds}
 use Rattle.tally.specs.declared.Rect.{Rect}
 use Rattle.scan.specs.Scan.{within}
-use Rattle.tally.specs.Tally.{greysOf}
-use Rattle.tile.specs.Tile.{mappedOf, tileCounts, tileMapping, Holds, off, factor, TileMapped}
+use Rattle.tally.specs.Tally.{greysOf, countsOf}
+use Rattle.tile.specs.Tile.{mappedOf, countsMapping, tileCounts, tileMapping, Holds, off, factor, TileMapped}
 use Rattle.tile.specs.Tile as tile
 use Rattle.tally.proofs.Greys.{greys-all}
-use Rattle.tile.proofs.Tiles.{length-tile-counts, length-tile-mapping, getD-tile-mapping, tile-mapping-within}
+use Rattle.tile.proofs.Tiles.{length-tile-counts, tile-mapping-from, length-tile-mapping, getD-tile-mapping, tile-mapping-within}
 use Rattle.settings.specs.declared.Settings.{Settings}
 use Rattle.settings.specs.Settings.{binsOf, entriesOf, clipBad, clipOne, Ready}
 use Rattle.settings.proofs.Ready.{entries-small}
@@ -59,6 +59,17 @@ module _ {w h : ℕ} {pic : List ℕ} {s : Settings} {room scratch : ℕ} (asks 
 pub length-tile-map : (w h : ℕ) (pic : List ℕ) (s : Settings) (k : ℕ) → length (tileMap w h pic s k) ≡ binsOf s
 unfolding tileMap
 length-tile-map w h pic s k = length-tile-mapping (s .min) (s .max) (binsOf s) (s .clip) (greysOf pic w (tileOf w h s k))
+
+-- the mappings are each tile's own raw counts, mapped by the clip setting
+pub mappings-from : (w h : ℕ) (pic : List ℕ) (s : Settings)
+    → mappings w h pic s
+    ≡ joined (s .across * s .down) (λ k. countsMapping (s .min) (s .max) (s .clip) (pixelsIn w h s k) (countsOf (s .min) (s .max) (binsOf s) (greysOf pic w (tileOf w h s k))))
+unfolding mappings tileMap
+mappings-from w h pic s =
+    joined-cong (s .across * s .down)
+    (λ k l.
+    tile-mapping-from (s .min) (s .max) (binsOf s) (s .clip) (greysOf pic w (tileOf w h s k))
+    ∙ ap (λ n. countsMapping (s .min) (s .max) (s .clip) n (countsOf (s .min) (s .max) (binsOf s) (greysOf pic w (tileOf w h s k)))) (length-tile-greys w h pic s k))
 
 -- "(grid across) x (grid down) x B entries"
 pub length-mappings : (w h : ℕ) (pic : List ℕ) (s : Settings) → length (mappings w h pic s) ≡ entriesOf s

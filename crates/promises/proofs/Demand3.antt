@@ -34,7 +34,8 @@ use Rattle.prepare.proofs.Table.{footer-asks, film-asks}
 use Rattle.prepare.proofs.Footers.{footer-off, footer-one, footer-above, foot-is}
 use Rattle.prepare.proofs.Tiles.{tile-area, tile-pixels-some, tile-pixels-alike}
 use Rattle.prepare.proofs.Films.{tile-greys, rect-holds}
-use Rattle.promises.specs.Films.{rawCounts, clippedCounts, ClippingOn, ClipCase, clip-off, clip-one, clip-on, FooterShows, TileSound, FilmSound, LimitFits}
+use Rattle.counts.specs.Counts.{rawCounts}
+use Rattle.promises.specs.Films.{clippedCounts, ClippingOn, ClipCase, clip-off, clip-one, clip-on, FooterShows, TileSound, FilmSound, LimitFits}
 use Rattle.promises.proofs.Accepted.{prepare-work, prepare-foot, enhance-work, enhance-foot}
 use Rattle.promises.proofs.Demand2.{own-mapping, own-mapping-enhance}
 

@@ -16,7 +16,7 @@ use Rattle.limit.specs.Limit.{isOne, AboveOne, flooredOf, limitOf, usedOf}
 use Rattle.clip.specs.Clip.{share}
 use Rattle.scan.specs.Scan.{within}
 use Rattle.binning.specs.Binning.{binOf}
-use Rattle.tally.specs.Tally.{greysOf, countsOf}
+use Rattle.tally.specs.Tally.{greysOf}
 use Rattle.tile.specs.Tile.{mappedOf, tileCounts}
 use Rattle.settings.specs.declared.Settings.{Settings}
 use Rattle.settings.specs.declared.Footer.{Footer}
@@ -24,13 +24,10 @@ use Rattle.settings.specs.declared.Window.{Window}
 use Rattle.settings.specs.Settings.{binsOf, entriesOf, keptOf, clipOne}
 use Rattle.blend.specs.Blend.{greyOf}
 use Rattle.render.specs.Render.{columnPlace, rowPlace}
+use Rattle.counts.specs.Counts.{rawCounts}
 use Rattle.prepare.specs.Prepare.{tileOf, pixelsIn, none, one}
 
 -- ---- a tile
-
--- each bin's "own count": how many of tile k's pixels are in it
-abbrev pub rawCounts : ℕ → ℕ → List ℕ → Settings → ℕ → List ℕ
-rawCounts w h pic s k = countsOf (s .min) (s .max) (binsOf s) (greysOf pic w (tileOf w h s k))
 
 -- "the clipped counts" of tile k, the raw ones where the clip is off
 abbrev pub clippedCounts : ℕ → ℕ → List ℕ → Settings → ℕ → List ℕ

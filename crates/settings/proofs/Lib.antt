@@ -2,3 +2,4 @@ pub mod Clips
 pub mod Like
 pub mod Ready
 pub mod Reach
+pub mod Parts

@@ -106,6 +106,11 @@ tile-mapping-counts : (lo hi b : ℕ) (clip : Clip) (vs : List ℕ) → tileMapp
 unfolding tileMapping countsMapping tileCounts
 tile-mapping-counts lo hi b clip vs = refl
 
+-- and the mapping of its raw counts by the clip setting
+pub tile-mapping-from : (lo hi b : ℕ) (clip : Clip) (vs : List ℕ) → tileMapping lo hi b clip vs ≡ countsMapping lo hi clip (length vs) (countsOf lo hi b vs)
+unfolding tileMapping
+tile-mapping-from lo hi b clip vs = refl
+
 -- a mapped value for each bin
 pub length-tile-mapping : (lo hi b : ℕ) (clip : Clip) (vs : List ℕ) → length (tileMapping lo hi b clip vs) ≡ b
 length-tile-mapping lo hi b clip vs = ap length (tile-mapping-counts lo hi b clip vs) ∙ length-mapping lo hi (length vs) (tileCounts lo hi b clip vs) ∙ length-tile-counts lo hi b clip vs

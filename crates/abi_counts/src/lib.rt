@@ -1,0 +1,75 @@
+// Counting and mapping for C: numbers and slices in, 0 or the refusal's number out.
+ghost use mathlib.Core.Path.{_≡_};
+ghost use Rattle.counts.specs.Counts.{countOf, mapOf};
+ghost use Rattle.flat.specs.Flat.{settingsFrom};
+ghost use Rattle.flat.specs.Films.{footed, preparedAs, flatPrepared};
+ghost use Rattle.abi_counts.specs.Flat.{unclipped, countedAs, flatCounted};
+use counts::Counted;
+use limit::Clip;
+use prepare::Prepared;
+use settings::Settings;
+
+// Counting never looks at the clip setting, so it is not asked for.
+#[no_mangle]
+pub extern "C" fn tz_count(
+    width: u32,
+    height: u32,
+    picture: &[u16],
+    across: u32,
+    down: u32,
+    bins: u32,
+    min: u32,
+    max: u32,
+    counts: &mut [u32],
+) -> u32
+    ensures { λ r. ⌜ countedAs r (now (counts .exit)) ≡ flatCounted (countOf width height (now (picture .entry)) (unclipped across down bins min max) (now (counts .entry))) ⌝ }
+{
+    let s = Settings {
+        across,
+        down,
+        bins,
+        min,
+        max,
+        clip: Clip::Off,
+    };
+    let answer = counts::count_tiles(width, height, picture, s, counts);
+    match answer {
+        Counted::Done => 0,
+        Counted::Refused(number) => number,
+    }
+}
+
+#[no_mangle]
+pub extern "C" fn tz_map(
+    film: u32,
+    width: u32,
+    height: u32,
+    across: u32,
+    down: u32,
+    bins: u32,
+    min: u32,
+    max: u32,
+    clip: u32,
+    factor: f32,
+    counts: &[u32],
+    map: &mut [u16],
+    scratch: &mut [u32],
+    numbers: &mut [u32; 9],
+    kept: &mut f32,
+    limit: &mut u32,
+    asked: &mut f32,
+    used: &mut f64,
+) -> u32
+    ensures { λ r. ⌜ preparedAs r (now (map .exit)) (now (scratch .exit)) (now (numbers .exit)) (now (kept .exit)) (footed (now (limit .exit)) (now (asked .exit)) (now (used .exit))) ≡ flatPrepared (mapOf film width height (settingsFrom across down bins min max clip factor) (now (counts .entry)) (now (map .entry)) (now (scratch .entry))) (now (numbers .entry)) (now (kept .entry)) (footed (now (limit .entry)) (now (asked .entry)) (now (used .entry))) ⌝ }
+{
+    let s = flat::settings_from(across, down, bins, min, max, clip, factor);
+    let answer = counts::map_counts(film, width, height, s, counts, map, scratch);
+    match answer {
+        Prepared::Done(record, foot) => {
+            flat::put_record(numbers, kept, record);
+            flat::put_footer(limit, asked, used, foot);
+            0
+        }
+        Prepared::Refused(n) => n,
+    }
+}

@@ -1,0 +1,228 @@
+// The films and the mappings: counting, mapping and, beside them, prepare.
+use crate::words;
+use counts::Counted;
+use filmset::column;
+use filmset::digest;
+use filmset::kept;
+use filmset::kept::Kept;
+use filmset::made;
+use filmset::text;
+use filmset::whole::Row;
+use filmset::whole::at;
+use filmset::whole::front;
+use filmset::whole::front_words;
+use filmset::whole::minus;
+use filmset::whole::with;
+use prepare::Prepared;
+use settings::Settings;
+
+// The columns that these rows alone have. Of a film: how many counts are lent.
+const COUNTS_ROOM: usize = 23;
+
+// Of a mapping: how many counts are lent, what is changed in them, and the turns.
+const LENT_ROOM: usize = 6;
+
+const GAIN_AT: usize = 7;
+
+const GAIN: usize = 8;
+
+const LOSS_AT: usize = 9;
+
+const LOSS: usize = 10;
+
+const STEP: usize = 11;
+
+const EACH: usize = 23;
+
+const TURNS: usize = 24;
+
+const FIRST_TURN: usize = 25;
+
+// 2^32.
+const SPAN: u64 = 4294967296;
+
+// What a call left: its answer, 0 where it accepted, and the digests of map and scratch.
+pub struct Left {
+    pub number: u32,
+    pub map: u64,
+    pub scratch: u64,
+}
+
+fn counted_number(c: Counted) -> u32 {
+    match c {
+        Counted::Done => 0,
+        Counted::Refused(n) => n,
+    }
+}
+
+// Calls counting; answers its number.
+fn call_count(row: Row, picture: &[u16], lent: &mut [u32]) -> u32 {
+    let t = kept::made(row);
+    let s: Settings = kept::settings(t);
+    let answer: Counted = counts::count_tiles(t.width, t.height, picture, s, lent);
+    counted_number(answer)
+}
+
+// The lines of counting: the answer, the digests of picture and counts, and the counts.
+fn counted_lines(no: u64, number: u32, picture: &[u16], lent: &[u32]) {
+    text::one(b'C', no, number);
+    text::two(b'c', no, digest::greys(picture), digest::words(lent));
+    words::small(b'n', no, lent);
+}
+
+// Makes the picture and the counts of a film, and counts; answers the call's number.
+fn counted(row: Row, picture: &mut [u16], lent: &mut [u32]) -> u32 {
+    made::picture(row, picture);
+    words::fill(lent);
+    call_count(row, &picture[..], lent)
+}
+
+// Calls mapping, and prints its answer.
+fn call_map(row: Row, lent: &[u32], map: &mut [u16], scratch: &mut [u32]) -> Kept {
+    let t = kept::made(row);
+    let s: Settings = kept::settings(t);
+    let answer: Prepared = counts::map_counts(t.film, t.width, t.height, s, lent, map, scratch);
+    kept::of_prepared(b'P', at(row, column::NO), t, answer)
+}
+
+// Maps, and prints the answer, the digests of counts, map and scratch, and the map.
+fn mapped(row: Row, lent: &[u32], m: &mut [u16], s: &mut [u32]) -> Left {
+    let no = at(row, column::NO);
+    let k = call_map(row, lent, m, s);
+    let a = digest::greys(&m[..]);
+    let b = digest::words(&s[..]);
+    text::three(b'm', no, digest::words(lent), a, b);
+    text::small(b'q', no, &m[..]);
+    Left {
+        number: k.number,
+        map: a,
+        scratch: b,
+    }
+}
+
+// Calls prepare, and prints its answer.
+fn call_prepare(row: Row, picture: &[u16], map: &mut [u16], scratch: &mut [u32]) -> Kept {
+    let t = kept::made(row);
+    let s: Settings = kept::settings(t);
+    let answer: Prepared = prepare::prepare(t.film, t.width, t.height, picture, s, map, scratch);
+    kept::of_prepared(b'P', at(row, column::NO), t, answer)
+}
+
+// Prepares, and prints the answer and the digests of picture, map and scratch.
+fn prepared(row: Row, picture: &[u16], m: &mut [u16], s: &mut [u32]) -> Left {
+    let k = call_prepare(row, picture, m, s);
+    let a = digest::greys(&m[..]);
+    let b = digest::words(&s[..]);
+    text::three(b'p', at(row, column::NO), digest::greys(picture), a, b);
+    Left {
+        number: k.number,
+        map: a,
+        scratch: b,
+    }
+}
+
+// Makes map and scratch and maps.
+fn mapped_anew(row: Row, lent: &[u32]) -> Left {
+    let mut map = [0; 65536];
+    let mut scratch = made::scratch();
+    let m = front(&mut map, at(row, column::MAP_ROOM));
+    made::map(row, m);
+    let s = front_words(&mut scratch, at(row, column::SCRATCH_ROOM));
+    mapped(row, lent, m, s)
+}
+
+// Makes map and scratch and prepares.
+fn prepared_anew(row: Row, picture: &[u16]) -> Left {
+    let mut map = [0; 65536];
+    let mut scratch = made::scratch();
+    let m = front(&mut map, at(row, column::MAP_ROOM));
+    made::map(row, m);
+    let s = front_words(&mut scratch, at(row, column::SCRATCH_ROOM));
+    prepared(row, picture, m, s)
+}
+
+// Whether map and scratch have the same digests: 1, else 0.
+fn alike(a: Left, b: Left) -> u32 {
+    if a.map != b.map {
+        return 0;
+    }
+    if a.scratch != b.scratch {
+        return 0;
+    }
+    1
+}
+
+// The line K: whether mapping and prepare left the same, where both accepted.
+fn same(no: u64, a: Left, b: Left) {
+    if a.number != 0 {
+        return;
+    }
+    if b.number != 0 {
+        return;
+    }
+    text::one(b'K', no, alike(a, b));
+}
+
+// A row of the films, over rooms for the largest picture and the most counts.
+pub fn film(row: Row, picture: &mut [u16], counts: &mut [u32]) {
+    let no = at(row, column::NO);
+    let p = front(picture, at(row, column::LENGTH));
+    let c = front_words(counts, at(row, COUNTS_ROOM));
+    let number = counted(row, p, c);
+    counted_lines(no, number, &p[..], &c[..]);
+    let a = mapped_anew(row, &c[..]);
+    same(no, a, prepared_anew(row, &p[..]));
+}
+
+// Counts the film of a mapping, printing nothing.
+fn counted_case(case: Row, picture: &mut [u16], counts: &mut [u32]) {
+    let p = front(picture, at(case, column::LENGTH));
+    let c = front_words(counts, at(case, COUNTS_ROOM));
+    counted(case, p, c);
+}
+
+// Changes the counts as the row says.
+fn changed(row: Row, lent: &mut [u32]) {
+    words::gain(lent, at(row, GAIN_AT), at(row, GAIN));
+    words::gain(lent, at(row, LOSS_AT), minus(SPAN, at(row, LOSS)));
+    words::gain_each(lent, at(row, STEP), at(row, EACH));
+}
+
+// The row with the clip setting of a turn.
+fn turned(row: Row, turn: u64) -> Row {
+    let place = std::num::wrapping_add_usize(FIRST_TURN, (turn % 8 * 2) as usize);
+    let clip = with(row, column::CLIP, at(row, place));
+    with(
+        clip,
+        column::FACTOR,
+        at(row, std::num::wrapping_add_usize(place, 1)),
+    )
+}
+
+// The turns behind the first, each over the map and scratch that the one before left.
+fn turns(row: Row, count: u64, lent: &[u32], m: &mut [u16], s: &mut [u32]) {
+    let mut i = 0;
+    while i < count {
+        mapped(turned(row, i), lent, m, s);
+        i += 1;
+    }
+}
+
+// Makes map and scratch and maps in turn.
+fn all_turns(row: Row, lent: &[u32]) {
+    let mut map = [0; 65536];
+    let mut scratch = made::scratch();
+    let m = front(&mut map, at(row, column::MAP_ROOM));
+    made::map(row, m);
+    let s = front_words(&mut scratch, at(row, column::SCRATCH_ROOM));
+    mapped(row, lent, m, s);
+    turns(row, at(row, TURNS), lent, m, s);
+}
+
+// A row of the mappings, with that of its film.
+pub fn mappings(case: Row, row: Row, picture: &mut [u16], counts: &mut [u32]) {
+    counted_case(case, picture, counts);
+    let c = front_words(counts, at(row, LENT_ROOM));
+    changed(row, c);
+    all_turns(row, &c[..]);
+}

@@ -1,0 +1,4 @@
+pub mod Runs
+pub mod Outcomes
+pub mod Turns
+pub mod Demand3

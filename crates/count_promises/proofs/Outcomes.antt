@@ -1,0 +1,132 @@
+-- Counting and mapping, demand 1 and how tight their promises are: what each answer says, that a refusal keeps all lent memory, that two runs of the same end the same,
+-- that counting does not look at the clip setting, and that what lies behind the front of the counts plays no part.
+-- Of every run by the contracts (Runs); a name with ′ is lent memory at the end.
+-- Assumes nothing.
+use Prim.Native.Nat.{ℕ, _*_, _<_}
+use mathlib.Core.List.{List}
+use mathlib.Core.Logic.{_≢_}
+use mathlib.Core.Path.{_≡_, refl, sym, ap, _∙_}
+use lib.ListN.{length, take, drop}
+use Rattle.lists.specs.Lists.{onto}
+use Rattle.lists.proofs.Fills.{take-onto, drop-onto}
+use Rattle.refuse.specs.Refuse.{first, refused, accepted, says}
+use Rattle.settings.specs.declared.Settings.{Settings}
+use Rattle.settings.specs.Settings.{entriesOf, keptOf, recordOf}
+use Rattle.prepare.specs.declared.Prepared.the-variants as Prepared
+use Rattle.prepare.specs.Prepare.{preparedSays, footOf, Ended, ending}
+use Rattle.counts.specs.declared.Counted.the-variants as Counted
+use Rattle.counts.specs.Counts.{rawCounts, countings, countsIn, countRows, mapRows, countedSays, Tallied, counted, countOf, mapDoneOf, mapOf, Alike}
+use Rattle.counts.proofs.Tables.{count-never-10}
+use Rattle.counts.proofs.Endings.{count-refused, count-well, map-refused, map-done}
+use Rattle.counts.proofs.Mapped.{length-countings, own-counts}
+use Rattle.counts.proofs.Like.{count-alike, map-kept, map-taken}
+use Rattle.promises.proofs.Accepted.{says-refused, ByTable, table-says, table-done, table-kept}
+use Rattle.count_promises.proofs.Runs.{CountCall, Counts, count-given, count-ends, MapCall, Maps, map-given, map-read, map-ends}
+
+-- ---- by their tables
+
+-- counting: "1 to 9 with 31 after 9, then 33, then 13"
+pub count-table : (w h : ℕ) (pic : List ℕ) (s : Settings) (cs : List ℕ)
+    → ByTable (λ (x : Tallied). countedSays (x .answer)) (first (countRows w h pic s (length cs))) tt (counted Counted.Done (onto cs (countings w h pic s)))
+    (λ k. counted (Counted.Refused k) cs) (countOf w h pic s cs)
+unfolding countedSays
+count-table w h pic s cs =
+    record {
+      when-none = λ z. sym (count-well w h pic s cs refl z refl);
+      when-some = λ z. sym (count-refused w h pic s cs refl z);
+      says-done = refl;
+      says-lent = λ k. refl;
+    }
+
+-- mapping: "1, 3 to 12 with 31 after 9, then 33, then 34"
+pub map-table : (film w h : ℕ) (s : Settings) (cs m t : List ℕ)
+    → ByTable (λ (x : Ended). preparedSays (x .answer)) (first (mapRows w h s cs (length m) (length t))) (recordOf film w h s, footOf w h s) (mapDoneOf film w h s cs m t)
+    (λ k. ending (Prepared.Refused k) m t) (mapOf film w h s cs m t)
+unfolding mapDoneOf preparedSays
+map-table film w h s cs m t =
+    record {
+      when-none = λ z. sym (map-done film w h s cs m t refl z);
+      when-some = λ z. sym (map-refused film w h s cs m t refl z);
+      says-done = refl;
+      says-lent = λ k. refl;
+    }
+
+-- ---- what each answer says
+
+-- counting: done, or the number of the first row that applies
+pub count-says : {c : CountCall} → Counts c → countedSays (c .answer) ≡ says (first (countRows (c .width) (c .height) (c .pixels) (c .settings) (length (c .counts)))) tt
+count-says ran = ap (λ (y : Tallied). countedSays (y .answer)) (count-ends ran) ∙ table-says (count-table _ _ _ _ _)
+
+-- mapping: prepare's record and footer, or the number
+pub map-says : {d : MapCall} → Maps d
+    → preparedSays (d .answer)
+    ≡ says (first (mapRows (d .width) (d .height) (d .settings) (d .counts) (length (d .map)) (length (d .scratch))))
+    (recordOf (d .film) (d .width) (d .height) (d .settings), footOf (d .width) (d .height) (d .settings))
+map-says ran = ap (λ (y : Ended). preparedSays (y .answer)) (map-ends ran) ∙ table-says (map-table _ _ _ _ _ _ _)
+
+-- counting "never looks at the clip": a factor that mapping refuses is counted all the same
+pub count-says-no-10 : {c : CountCall} → Counts c → countedSays (c .answer) ≢ refused 10
+count-says-no-10 {c} ran q = count-never-10 (c .width) (c .height) (c .pixels) (c .settings) (length (c .counts)) (says-refused _ _ (sym (count-says ran) ∙ q))
+
+-- ---- a refusal keeps all lent memory
+
+pub count-refusal-keeps : {c : CountCall} (n : ℕ) → Counts c → countedSays (c .answer) ≡ refused n → c .counts′ ≡ c .counts
+count-refusal-keeps n ran q =
+    let x = count-ends ran in
+    ap (λ (y : Tallied). y .counts) (x ∙ table-kept (count-table _ _ _ _ _) (sym (ap (λ (y : Tallied). countedSays (y .answer)) x) ∙ q))
+
+pub map-refusal-keeps : {d : MapCall} (n : ℕ) → Maps d → preparedSays (d .answer) ≡ refused n → (d .map′ ≡ d .map) × (d .scratch′ ≡ d .scratch)
+map-refusal-keeps n ran q =
+    let x = map-ends ran in
+    let e = x ∙ table-kept (map-table _ _ _ _ _ _ _) (sym (ap (λ (y : Ended). preparedSays (y .answer)) x) ∙ q) in
+    (ap (λ (y : Ended). y .map) e, ap (λ (y : Ended). y .scratch) e)
+
+-- ---- "fills only the front of a lent buffer with each tile's raw counts in the mappings' order"
+
+module _ {c : CountCall} (ran : Counts c) (done : countedSays (c .answer) ≡ accepted tt) where
+  -- what counting left
+  pub counts-left : c .counts′ ≡ onto (c .counts) (countings (c .width) (c .height) (c .pixels) (c .settings))
+  counts-left =
+      let x = count-ends ran in
+      ap (λ (y : Tallied). y .counts) (x ∙ table-done (count-table _ _ _ _ _) (sym (ap (λ (y : Tallied). countedSays (y .answer)) x) ∙ done))
+
+  -- each tile's raw counts, in the tile's place
+  pub counts-own : (k : ℕ) → k < c .settings .across * c .settings .down → countsIn (c .settings) (c .counts′) k ≡ rawCounts (c .width) (c .height) (c .pixels) (c .settings) k
+  counts-own k l = ap (λ cs. countsIn (c .settings) cs k) counts-left ∙ own-counts _ _ _ (c .settings) _ l
+
+  -- in the front, whatever was lent
+  pub counts-front : take (entriesOf (c .settings)) (c .counts′) ≡ countings (c .width) (c .height) (c .pixels) (c .settings)
+  counts-front = ap (take (entriesOf (c .settings))) counts-left ∙ take-onto (c .counts) _ (entriesOf (c .settings)) (length-countings _ _ _ (c .settings))
+
+  -- and what lies behind stays
+  pub counts-behind : drop (entriesOf (c .settings)) (c .counts′) ≡ drop (entriesOf (c .settings)) (c .counts)
+  counts-behind = ap (drop (entriesOf (c .settings))) counts-left ∙ drop-onto (c .counts) _ (entriesOf (c .settings)) (length-countings _ _ _ (c .settings))
+
+-- ---- one outcome only
+
+pub count-determined : {c d : CountCall} → Counts c → Counts d → count-given c ≡ count-given d → (c .answer ≡ d .answer) × (c .counts′ ≡ d .counts′)
+count-determined x y same =
+    let e = count-ends x ∙ ap (λ g. countOf (g .0) (g .1) (g .2) (g .3) (g .4)) same ∙ sym (count-ends y) in
+    (ap (λ (z : Tallied). z .answer) e, ap (λ (z : Tallied). z .counts) e)
+
+-- "Changing only the factor": settings that differ in the clip alone, or in bins 0 and 128, count alike
+pub count-any-clip : {c d : CountCall} → Counts c → Counts d → c .width ≡ d .width → c .height ≡ d .height → c .pixels ≡ d .pixels → Alike (c .settings) (d .settings)
+    → c .counts ≡ d .counts → (c .answer ≡ d .answer) × (c .counts′ ≡ d .counts′)
+count-any-clip {c} {d} x y width height pixels like counts =
+    let e : counted (c .answer) (c .counts′) ≡ counted (d .answer) (d .counts′) =
+    count-ends x ∙ rw (width, height, pixels, counts) (count-alike (d .width) (d .height) (d .pixels) like (d .counts)) ∙ sym (count-ends y) in
+    (ap (λ (z : Tallied). z .answer) e, ap (λ (z : Tallied). z .counts) e)
+
+-- mapping reads no more of the counts than an entry for each bin of each tile: what lies behind the front decides nothing
+pub map-alike : {d e : MapCall} → Maps d → Maps e → map-read d ≡ map-read e → (d .answer ≡ e .answer) × (d .map′ ≡ e .map′) × (d .scratch′ ≡ e .scratch′)
+map-alike {d} {e} x y same =
+    let k = map-ends x ∙ sym (seen d) ∙ ap (λ g. mapOf (g .0) (g .1) (g .2) (g .3) (g .4) (g .5) (g .6)) same ∙ seen e ∙ sym (map-ends y) in
+    (ap (λ (z : Ended). z .answer) k, ap (λ (z : Ended). z .map) k, ap (λ (z : Ended). z .scratch) k)
+  where
+    seen : (d : MapCall)
+        → mapOf (d .film) (d .width) (d .height) (keptOf (d .settings)) (take (entriesOf (d .settings)) (d .counts)) (d .map) (d .scratch)
+        ≡ mapOf (d .film) (d .width) (d .height) (d .settings) (d .counts) (d .map) (d .scratch)
+    seen d = map-kept (d .film) (d .width) (d .height) (d .settings) _ (d .map) (d .scratch) ∙ map-taken (d .film) (d .width) (d .height) (d .settings) (d .counts) (d .map) (d .scratch)
+
+pub map-determined : {d e : MapCall} → Maps d → Maps e → map-given d ≡ map-given e → (d .answer ≡ e .answer) × (d .map′ ≡ e .map′) × (d .scratch′ ≡ e .scratch′)
+map-determined x y same = map-alike x y (ap (λ g. (g .0, g .1, g .2, keptOf (g .3), take (entriesOf (g .3)) (g .4), g .5, g .6)) same)

@@ -1,0 +1,153 @@
+-- Order 5: "Wherever prepare accepts the film and 33 isn't met, counting then mapping with factor f gives prepare's mappings, record and footer for f, for each f in turn
+-- over the same counts". Of every run of counting, mapping and prepare by their contracts, each handed what is named; a name with ′ is lent memory at the end.
+-- Assumes nothing.
+use Prim.Native.Nat.{ℕ, _≤_}
+use mathlib.Core.List.{List, [], _∷_}
+use mathlib.Core.Path.{_≡_, refl, sym, ap, ap₂, _∙_}
+use lib.ListN.{length}
+use Rattle.lists.specs.Lists.{onto}
+use Rattle.refuse.specs.Refuse.{first, accepted}
+use Rattle.limit.specs.declared.Clip.{Clip}
+use Rattle.settings.specs.declared.Settings.{Settings}
+use Rattle.settings.specs.declared.MapRecord.{MapRecord}
+use Rattle.settings.specs.declared.Footer.{Footer}
+use Rattle.settings.specs.Settings.{entriesOf}
+use Rattle.prepare.specs.Prepare.{preparedSays, Ended, ending, prepareOf}
+use Rattle.counts.specs.Counts.{countings, countRows, countedSays, mapOf, Alike, withClip}
+use Rattle.counts.proofs.Mapped.{mapped-as-prepared, prepared-counts}
+use Rattle.counts.proofs.Like.{rows-alike, countings-alike, clip-alike}
+use Rattle.promises.proofs.Accepted.{says-accepted, prepare-accepts}
+use Rattle.promises.proofs.Runs.{PrepareCall, Prepares, prepare-given, prepare-ends}
+use Rattle.count_promises.proofs.Runs.{CountCall, Counts, MapCall, Maps, map-given, map-ends}
+use Rattle.count_promises.proofs.Outcomes.{count-says, counts-left}
+
+-- ---- one mapping
+
+-- counting accepted a film of these sizes and pixels, with settings that agree with s in all but the factor, and left the counts cs
+pub record CountedAs (w h : ℕ) (pic : List ℕ) (s : Settings) (cs : List ℕ) : Type 0 where
+  pub call : CountCall
+  pub ran : Counts call
+  pub done : countedSays (call .answer) ≡ accepted tt
+  pub width : call .width ≡ w
+  pub height : call .height ≡ h
+  pub pixels : call .pixels ≡ pic
+  pub like : Alike (call .settings) s
+  pub left : cs ≡ call .counts′
+
+-- mapping these counts is prepare, for every film number, clip setting, map buffer and scratch, refusals too
+pub counted-maps : {w h : ℕ} {pic : List ℕ} {s : Settings} {cs : List ℕ} → CountedAs w h pic s cs → (film : ℕ) (m t : List ℕ) → mapOf film w h s cs m t ≡ prepareOf film w h pic s m t
+counted-maps {w} {h} {pic} {s} {cs} by film m t =
+    ap (λ x. mapOf film w h s x m t) held ∙ mapped-as-prepared w h pic s (by .call .counts) free film m t
+  where
+    held : cs ≡ onto (by .call .counts) (countings w h pic s)
+    held = by .left ∙ counts-left (by .ran) (by .done) ∙ ap (onto (by .call .counts)) (rw (by .width, by .height, by .pixels) (countings-alike w h pic (by .like)))
+
+    free : first (countRows w h pic s (length (by .call .counts))) ≡ 0
+    free =
+        ap first (sym (rows-alike w h pic (by .like) (length (by .call .counts))))
+        ∙ rw (← by .width, ← by .height, ← by .pixels) (says-accepted _ _ (sym (count-says (by .ran)) ∙ by .done) .0)
+
+-- mapping was handed these counts, and all else as prepare was
+pub record MappedAs (p : PrepareCall) (cs : List ℕ) (d : MapCall) : Type 0 where
+  pub maps : Maps d
+  pub film : d .film ≡ p .film
+  pub width : d .width ≡ p .width
+  pub height : d .height ≡ p .height
+  pub settings : d .settings ≡ p .settings
+  pub counts : d .counts ≡ cs
+  pub map : d .map ≡ p .map
+  pub scratch : d .scratch ≡ p .scratch
+
+-- it answers and leaves what prepare does
+pub mapped-as-prepare : {p : PrepareCall} {cs : List ℕ} {d : MapCall} → Prepares p → CountedAs (p .width) (p .height) (p .pixels) (p .settings) cs → MappedAs p cs d
+    → (d .answer ≡ p .answer) × (d .map′ ≡ p .map′) × (d .scratch′ ≡ p .scratch′)
+mapped-as-prepare {p} {cs} {d} prepares by same =
+    let e : ending (d .answer) (d .map′) (d .scratch′) ≡ ending (p .answer) (p .map′) (p .scratch′) =
+    map-ends (same .maps)
+    ∙ rw (same .film, same .width, same .height, same .settings, same .counts, same .map, same .scratch) (counted-maps by (p .film) (p .map) (p .scratch))
+    ∙ sym (prepare-ends prepares) in
+    (ap (λ (z : Ended). z .answer) e, ap (λ (z : Ended). z .map) e, ap (λ (z : Ended). z .scratch) e)
+
+-- ---- wherever prepare accepts the film and 33 is not met
+
+-- counting was handed the film of p, with settings that agree with its own in all but the factor, and counts that are long enough
+pub record CountsFilm (p : PrepareCall) (c : CountCall) : Type 0 where
+  pub counts : Counts c
+  pub width : c .width ≡ p .width
+  pub height : c .height ≡ p .height
+  pub pixels : c .pixels ≡ p .pixels
+  pub like : Alike (c .settings) (p .settings)
+  pub long : entriesOf (p .settings) ≤ length (c .counts)
+
+module _ {p : PrepareCall} {r : MapRecord} {foot : Footer} (prepares : Prepares p) (prepared : preparedSays (p .answer) ≡ accepted (r, foot)) {c : CountCall} (of : CountsFilm p c) where
+  -- counting accepts it
+  pub counted-done : countedSays (c .answer) ≡ accepted tt
+  counted-done =
+      count-says (of .counts)
+      ∙ rw (of .width, of .height, of .pixels, rows-alike (p .width) (p .height) (p .pixels) (of .like) (length (c .counts)), free) refl
+    where
+      free : first (countRows (p .width) (p .height) (p .pixels) (p .settings) (length (c .counts))) ≡ 0
+      free =
+          prepared-counts (p .width) (p .height) (p .pixels) (p .settings) (length (p .map)) (length (p .scratch)) (length (c .counts))
+          (prepare-accepts (p .film) (p .width) (p .height) (p .pixels) (p .settings) (p .map) (p .scratch)
+          (sym (ap (λ (z : Ended). preparedSays (z .answer)) (prepare-ends prepares)) ∙ prepared))
+          (of .long)
+
+  counted-as : CountedAs (p .width) (p .height) (p .pixels) (p .settings) (c .counts′)
+  counted-as = record { call = c; ran = of .counts; done = counted-done; width = of .width; height = of .height; pixels = of .pixels; like = of .like; left = refl }
+
+  -- and mapping what it left gives prepare's record and footer, map buffer and scratch
+  pub counted-then-mapped : {d : MapCall} → MappedAs p (c .counts′) d → (preparedSays (d .answer) ≡ accepted (r, foot)) × (d .map′ ≡ p .map′) × (d .scratch′ ≡ p .scratch′)
+  counted-then-mapped same = let (answer, map, scratch) = mapped-as-prepare prepares counted-as same in (ap preparedSays answer ∙ prepared, map, scratch)
+
+-- ---- "for each f in turn over the same counts"
+
+-- mapping the counts cs with f ended with e
+pub record MapsWith (film w h : ℕ) (s : Settings) (cs : List ℕ) (f : Clip) (m t : List ℕ) (e : Ended) : Type 0 where
+  pub call : MapCall
+  pub maps : Maps call
+  pub given : map-given call ≡ (film, w, h, withClip s f, cs, m, t)
+  pub ended : e ≡ ending (call .answer) (call .map′) (call .scratch′)
+
+-- prepare with f ended with e
+pub record PreparesWith (film w h : ℕ) (pic : List ℕ) (s : Settings) (f : Clip) (m t : List ℕ) (e : Ended) : Type 0 where
+  pub call : PrepareCall
+  pub prepares : Prepares call
+  pub given : prepare-given call ≡ (film, w, h, pic, withClip s f, m, t)
+  pub ended : e ≡ ending (call .answer) (call .map′) (call .scratch′)
+
+-- a call for each f, from the map buffer m and the scratch t on, each handed what the one before left; es is what each ended with
+abbrev pub InTurn : (Clip → List ℕ → List ℕ → Ended → Type 0) → List Clip → List ℕ → List ℕ → List Ended → Type 0
+InTurn Call [] m t es = es ≡ []
+InTurn Call (f ∷ fs) m t [] = ⊥
+InTurn Call (f ∷ fs) m t (e ∷ es) = Call f m t e × InTurn Call fs (e .map) (e .scratch) es
+
+-- mapping in turn over the same counts ends, each time, as prepare in turn does
+pub in-turn : {w h : ℕ} {pic : List ℕ} {s : Settings} {cs : List ℕ} → CountedAs w h pic s cs → (film : ℕ) (fs : List Clip) (m t : List ℕ) (es es′ : List Ended)
+    → InTurn (MapsWith film w h s cs) fs m t es → InTurn (PreparesWith film w h pic s) fs m t es′ → es ≡ es′
+in-turn by film [] m t es es′ x y = x ∙ sym y
+in-turn by film (f ∷ fs) m t [] es′ x y = absurd x
+in-turn by film (f ∷ fs) m t (e ∷ es) [] x y = absurd y
+in-turn {w} {h} {pic} {s} {cs} by film (f ∷ fs) m t (e ∷ es) (e′ ∷ es′) x y = ap₂ (λ a b. a ∷ b) same (in-turn by film fs (e .map) (e .scratch) es es′ (x .1) (rw same (y .1)))
+  where
+    mapped : e ≡ mapOf film w h (withClip s f) cs m t
+    mapped = x .0 .ended ∙ map-ends (x .0 .maps) ∙ ap (λ g. mapOf (g .0) (g .1) (g .2) (g .3) (g .4) (g .5) (g .6)) (x .0 .given)
+
+    prepared : e′ ≡ prepareOf film w h pic (withClip s f) m t
+    prepared = y .0 .ended ∙ prepare-ends (y .0 .prepares) ∙ ap (λ g. prepareOf (g .0) (g .1) (g .2) (g .3) (g .4) (g .5) (g .6)) (y .0 .given)
+
+    another : CountedAs w h pic (withClip s f) cs
+    another =
+        record {
+          call = by .call;
+          ran = by .ran;
+          done = by .done;
+          width = by .width;
+          height = by .height;
+          pixels = by .pixels;
+          like = record { across = by .like .across; down = by .like .down; bins = by .like .bins ∙ clip-alike s f .bins; min = by .like .min; max = by .like .max };
+          left = by .left;
+        }
+
+    same : e ≡ e′
+    same = mapped ∙ counted-maps another film m t ∙ sym prepared

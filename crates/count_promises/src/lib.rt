@@ -1,0 +1,1 @@
+// The promises of counting and mapping, proved over their contracts. Nothing runs.

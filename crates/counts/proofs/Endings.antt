@@ -1,0 +1,85 @@
+-- How counting and mapping end: refused, at the factor 1.0, or with counts or mappings laid down.
+-- Assumes nothing.
+use Prim.Native.Nat.{ℕ}
+use mathlib.Core.Bool.{Bool, true, false}
+use mathlib.Core.List.{List}
+use mathlib.Core.Path.{_≡_, refl, sym, ap, _∙_}
+use lib.ListN.{length}
+use Rattle.lists.specs.Lists.{onto}
+use Rattle.refuse.specs.Refuse.{first, unless}
+use Rattle.refuse.proofs.Walk.{unless-refused}
+use Rattle.settings.specs.declared.Settings.{Settings}
+use Rattle.settings.specs.declared.Footer.{Footer}
+use Rattle.settings.specs.Settings.{keptOf, clipOne}
+use Rattle.prepare.specs.declared.Prepared.the-variants as Prepared
+use Rattle.prepare.specs.Prepare.{footOf, ending, FilmAsks}
+use Rattle.counts.specs.declared.Counted.the-variants as Counted
+use Rattle.counts.specs.Counts.{countings, countRows, mapRows, counted, countDoneOf, countOf, mapDoneOf, mapOf, CountsAsk, MapsAsk, AllMapped}
+use Rattle.counts.proofs.Tables.{count-ready, map-ready}
+
+-- ---- what the work asks, once none of the rows applies
+
+-- counting
+pub asks-count : (w h : ℕ) (pic : List ℕ) (s : Settings) (size : ℕ) {r : ℕ} → r ≡ first (countRows w h pic s size) → r ≡ 0 → CountsAsk w h pic s size
+asks-count w h pic s size e z = count-ready w h pic s size (sym e ∙ z)
+
+module _ (w h : ℕ) (s : Settings) (cs : List ℕ) (room scratch : ℕ) {r : ℕ} (e : r ≡ first (mapRows w h s cs room scratch)) (z : r ≡ 0) where
+  -- mapping
+  pub asks-maps : MapsAsk w h s cs room scratch
+  asks-maps = map-ready w h s cs room scratch (sym e ∙ z)
+
+  -- and the footer
+  pub asks-foot : FilmAsks w h s
+  asks-foot = record { tiled = asks-maps .tiled; fair = asks-maps .fair }
+
+-- ---- how counting ends
+
+module _ (w h : ℕ) (pic : List ℕ) (s : Settings) (cs : List ℕ) where
+  -- a refusal, as it was worked out
+  pub count-refused : {r : ℕ} → r ≡ first (countRows w h pic s (length cs)) → (r ≡ 0 → ⊥) → counted (Counted.Refused r) cs ≡ countOf w h pic s cs
+  unfolding countOf
+  count-refused {r} e z =
+      unless-refused r (λ n. counted (Counted.Refused n) cs) (countDoneOf w h pic s cs) z
+      ∙ ap (λ k. unless k (λ n. counted (Counted.Refused n) cs) (countDoneOf w h pic s cs)) e
+
+  -- no refusal
+  pub count-done : {r : ℕ} → r ≡ first (countRows w h pic s (length cs)) → r ≡ 0 → countDoneOf w h pic s cs ≡ countOf w h pic s cs
+  unfolding countOf
+  count-done e z = ap (λ k. unless k (λ n. counted (Counted.Refused n) cs) (countDoneOf w h pic s cs)) (sym z ∙ e)
+
+  -- the counts are laid down
+  pub count-well : {r : ℕ} {c : List ℕ} → r ≡ first (countRows w h pic s (length cs)) → r ≡ 0 → c ≡ onto cs (countings w h pic s) → counted Counted.Done c ≡ countOf w h pic s cs
+  unfolding countDoneOf
+  count-well e z q = ap (counted Counted.Done) q ∙ count-done e z
+
+-- ---- how mapping ends
+
+module _ (film w h : ℕ) (s : Settings) (cs m t : List ℕ) where
+  -- a refusal, as it was worked out
+  pub map-refused : {r : ℕ} → r ≡ first (mapRows w h s cs (length m) (length t)) → (r ≡ 0 → ⊥) → ending (Prepared.Refused r) m t ≡ mapOf film w h s cs m t
+  unfolding mapOf
+  map-refused {r} e z =
+      unless-refused r (λ n. ending (Prepared.Refused n) m t) (mapDoneOf film w h s cs m t) z
+      ∙ ap (λ k. unless k (λ n. ending (Prepared.Refused n) m t) (mapDoneOf film w h s cs m t)) e
+
+  module _ {r : ℕ} (e : r ≡ first (mapRows w h s cs (length m) (length t))) (z : r ≡ 0) where
+    -- no refusal
+    pub map-done : mapDoneOf film w h s cs m t ≡ mapOf film w h s cs m t
+    unfolding mapOf
+    map-done = ap (λ k. unless k (λ n. ending (Prepared.Refused n) m t) (mapDoneOf film w h s cs m t)) (sym z ∙ e)
+
+    module _ {kept : Settings} {foot : Footer} {o : Bool} (f : foot ≡ footOf w h s) (k : kept ≡ keptOf s) (c : o ≡ clipOne (s .clip)) where
+      -- at the factor 1.0 the buffers stay
+      pub map-one : o ≡ true → ending (Prepared.Done record { film = film; width = w; height = h; settings = kept } foot) m t ≡ mapOf film w h s cs m t
+      unfolding mapDoneOf
+      map-one y =
+          let one : clipOne (s .clip) ≡ true = sym c ∙ y in
+          rw (f, k, one) refl ∙ map-done
+
+      -- else the mappings are laid down and the scratch is zero
+      pub map-well : {m′ t′ : List ℕ} → o ≡ false → AllMapped w h s cs m m′ t t′
+          → ending (Prepared.Done record { film = film; width = w; height = h; settings = kept } foot) m′ t′ ≡ mapOf film w h s cs m t
+      unfolding mapDoneOf
+      map-well y done =
+          let one : clipOne (s .clip) ≡ false = sym c ∙ y in
+          rw (f, k, done .map, done .scratch, one) refl ∙ map-done

@@ -1,0 +1,6 @@
+pub mod Tables
+pub mod Tiles
+pub mod Turns
+pub mod Endings
+pub mod Mapped
+pub mod Like

@@ -1,0 +1,184 @@
+-- Order 5: "counting then mapping with factor f gives prepare's mappings, record and footer for f". Of the counts that counting left, mapping answers and leaves
+-- what prepare does of the film, for every film number, clip setting, map buffer and scratch, refusals too.
+-- Assumes nothing.
+use Prim.Native.Nat.{ℕ, zero, suc, _*_, _≤_, _<_}
+use mathlib.Core.Bool.{Bool, true, false, cond}
+use mathlib.Core.List.{List, _++_}
+use mathlib.Core.Path.{_≡_, refl, sym, ap, ap₂, _∙_}
+use native.Mathlib.Omega.{arith}
+use lib.Dec.{ltb}
+use lib.ListN.{length}
+use borrow.Author.Tests.{eq-eqb, ltb-true, ltb-false}
+use Rattle.lists.specs.Lists.{total, onto}
+use Rattle.lists.proofs.Tabs.{every-all}
+use Rattle.lists.proofs.Fills.{length-joined, length-onto, joined-cong}
+use Rattle.lists.proofs.Windows.{block-joined}
+use Rattle.refuse.specs.Refuse.{Row, first, unless, Numbered}
+use Rattle.refuse.proofs.Walk.{first-none, first-both, first-behind, first-front}
+use Rattle.tile.specs.Tile.{countsMapping}
+use Rattle.settings.specs.declared.Settings.{Settings}
+use Rattle.settings.specs.Settings.{binsOf, entriesOf, sideRows, sizeRows, gridRows, rangeRows, clipRows, greyRows, roomRows, settingRows, sharedRows}
+use Rattle.settings.proofs.Ready.{side-numbered, size-numbered, grid-numbered, range-numbered, setting-numbered, shared-numbered, shared-parts, shared-both}
+use Rattle.settings.proofs.Parts.{room-numbered, grey-parts, setting-parts, size-both, grey-both, setting-all}
+use Rattle.prepare.specs.Prepare.{pixelsIn, mappings, workRows, prepareRows, preparedOf, prepareOf}
+use Rattle.prepare.proofs.Table.{table-parts, table-both, work, work-scratch, work-greys}
+use Rattle.prepare.proofs.Films.{mappings-from}
+use Rattle.prepare.proofs.Endings.{ends-refused, ends-done, prepared-as}
+use Rattle.counts.specs.Counts.{rawCounts, countings, countsIn, addsUp, mappingsFrom, countsRows, outsideRows, pictureRows, countRows, tilingRows, lentRows, sumRows, mapRows, mapDoneOf, mapOf, CountsAsk}
+use Rattle.counts.proofs.Tables.{counts-numbered, picture-numbered, tiling-numbered, lent-numbered, fits-counts, outside-row, sum-row, count-ready}
+use Rattle.counts.proofs.Tiles.{length-raw, raw-sum}
+use Rattle.counts.proofs.Endings.{map-refused, map-done}
+
+-- ---- the counts that counting left
+
+-- an entry for each bin of each tile
+pub length-countings : (w h : ℕ) (pic : List ℕ) (s : Settings) → length (countings w h pic s) ≡ entriesOf s
+unfolding countings
+length-countings w h pic s = length-joined (binsOf s) (s .across * s .down) (rawCounts w h pic s) (λ i l. length-raw w h pic s i)
+
+-- tile k's are its own
+pub own-counts : (w h : ℕ) (pic : List ℕ) (s : Settings) (cs : List ℕ) {k : ℕ} → k < s .across * s .down → countsIn s (onto cs (countings w h pic s)) k ≡ rawCounts w h pic s k
+unfolding countings
+own-counts w h pic s cs l = block-joined (binsOf s) (s .across * s .down) (rawCounts w h pic s) cs (λ i q. length-raw w h pic s i) l
+
+-- so mapping makes prepare's mappings of them
+pub own-mappings : (w h : ℕ) (pic : List ℕ) (s : Settings) (cs : List ℕ) → mappingsFrom w h s (onto cs (countings w h pic s)) ≡ mappings w h pic s
+unfolding mappingsFrom
+own-mappings w h pic s cs =
+    joined-cong (s .across * s .down) (λ k l. ap (countsMapping (s .min) (s .max) (s .clip) (pixelsIn w h s k)) (own-counts w h pic s cs l)) ∙ sym (mappings-from w h pic s)
+
+-- and each tile's add up
+pub own-sums : (w h : ℕ) (pic : List ℕ) (s : Settings) (cs : List ℕ) {size : ℕ} → CountsAsk w h pic s size → addsUp w h s (onto cs (countings w h pic s)) ≡ true
+unfolding addsUp
+own-sums w h pic s cs asks =
+    every-all (s .across * s .down) _ (λ k l. eq-eqb _ _ (ap total (own-counts w h pic s cs l) ∙ raw-sum record { film = asks; tile = l }))
+
+-- where nothing is refused, mapping them leaves what prepare does
+done-as : (film w h : ℕ) (pic : List ℕ) (s : Settings) (cs m t : List ℕ) → mapDoneOf film w h s (onto cs (countings w h pic s)) m t ≡ preparedOf film w h pic s m t
+unfolding mapDoneOf
+done-as film w h pic s cs m t = prepared-as film w h pic s m t (own-mappings w h pic s cs)
+
+-- ---- the two tables
+
+-- the number of two tables, one behind the other: the first's, and where it gives none the second's
+infixl 20 _or_
+abbrev _or_ : ℕ → ℕ → ℕ
+_or_ n m = unless n (λ k. k) m
+
+first-or : (s t : List Row) → Numbered s → first (s ++ t) ≡ (first s or first t)
+first-or s t k = go (first s) refl
+  where
+    go : (n : ℕ) → first s ≡ n → first (s ++ t) ≡ (n or first t)
+    go zero e = first-behind s t (first-none s k e)
+    go (suc n) e = first-front s t (λ z. omega arith) ∙ e
+
+or-assoc : (a b c : ℕ) → ((a or b) or c) ≡ (a or (b or c))
+or-assoc zero b c = refl
+or-assoc (suc a) b c = refl
+
+or-none : (a : ℕ) → (a or 0) ≡ a
+or-none zero = refl
+or-none (suc a) = refl
+
+module _ (w h : ℕ) (pic : List ℕ) (s : Settings) (cs : List ℕ) (free : first (countRows w h pic s (length cs)) ≡ 0) where
+  asks : CountsAsk w h pic s (length cs)
+  asks = count-ready w h pic s (length cs) free
+
+  -- none of 1 to 9 applies
+  picture-free : first (pictureRows w h (length pic) s) ≡ 0
+  unfolding countRows
+  picture-free = first-both (pictureRows w h (length pic) s) _ (picture-numbered w h (length pic) s) free .0
+
+  sizes-free : first (sizeRows w h (length pic)) ≡ 0
+  unfolding pictureRows
+  sizes-free = first-both (sizeRows w h (length pic)) _ (size-numbered w h (length pic)) picture-free .0
+
+  rest-free : (first (gridRows w h s) ≡ 0) × (first (rangeRows s) ≡ 0)
+  unfolding pictureRows
+  rest-free = first-both (gridRows w h s) (rangeRows s) (grid-numbered w h s) (first-both (sizeRows w h (length pic)) _ (size-numbered w h (length pic)) picture-free .1)
+
+  -- so of 7 to 10 only 10 is left
+  greys-left : first (greyRows s) ≡ first (clipRows s)
+  greys-left = ap first (grey-parts s) ∙ first-or (rangeRows s) (clipRows s) (range-numbered s) ∙ ap (λ n. n or first (clipRows s)) (rest-free .1)
+
+  -- of 1 and 3 to 10 too
+  tiling-left : first (tilingRows w h s) ≡ first (clipRows s)
+  unfolding tilingRows
+  tiling-left =
+      first-or (sideRows w h) (gridRows w h s ++ greyRows s) (side-numbered w h)
+      ∙ ap₂ (λ n m. n or m) (size-both w h (length pic) sizes-free .0) (first-or (gridRows w h s) (greyRows s) (grid-numbered w h s) ∙ ap₂ (λ n m. n or m) (rest-free .0) greys-left)
+
+  -- and of 1 to 10
+  setting-left : first (settingRows w h (length pic) s) ≡ first (clipRows s)
+  setting-left =
+      ap first (setting-parts w h (length pic) s)
+      ∙ first-or (sizeRows w h (length pic)) (gridRows w h s ++ greyRows s) (size-numbered w h (length pic))
+      ∙ ap₂ (λ n m. n or m) sizes-free (first-or (gridRows w h s) (greyRows s) (grid-numbered w h s) ∙ ap₂ (λ n m. n or m) (rest-free .0) greys-left)
+
+  module _ (room scratch : ℕ) where
+    -- 12, of which prepare's rows behind 11 leave no other
+    work-left : first (workRows pic s scratch) ≡ cond (ltb scratch (binsOf s)) 12 0
+    work-left = go (ltb scratch (binsOf s)) refl
+      where
+        go : (b : Bool) → ltb scratch (binsOf s) ≡ b → first (workRows pic s scratch) ≡ cond b 12 0
+        go true e = sym (work-scratch pic s scratch refl (ltb-true scratch (binsOf s) e))
+        go false e = sym (work-greys pic s scratch refl (ltb-false scratch (binsOf s) e) true (sym (asks .greys)))
+
+    -- 11 and 12, of which mapping's leave no other either
+    lent-left : {size : ℕ} → entriesOf s ≤ size → first (lentRows s room scratch size) ≡ (first (roomRows s room) or cond (ltb scratch (binsOf s)) 12 0)
+    unfolding lentRows first
+    lent-left {size} l = first-or (roomRows s room) _ (room-numbered s room) ∙ rw (fits-counts s size l) refl
+
+    -- so mapping the counts that counting left gives prepare's number
+    pub same-number : first (mapRows w h s (onto cs (countings w h pic s)) room scratch) ≡ first (prepareRows w h pic s room scratch)
+    unfolding mapRows
+    same-number =
+        let lent : List Row = lentRows s room scratch (length (onto cs (countings w h pic s))) in
+        let sums : List Row = sumRows w h s (onto cs (countings w h pic s)) in
+        let size : length (onto cs (countings w h pic s)) ≡ length cs = length-onto cs (countings w h pic s) (omega (arith, length-countings w h pic s, asks .fitting)) in
+        let none : first sums ≡ 0 = sym (sum-row w h s (onto cs (countings w h pic s)) true (sym (own-sums w h pic s cs asks))) in
+        let back : first (lent ++ sums) ≡ (first (roomRows s room) or first (workRows pic s scratch)) =
+        first-or lent sums (lent-numbered s room scratch (length (onto cs (countings w h pic s))))
+        ∙ ap (λ n. first lent or n) none
+        ∙ or-none (first lent)
+        ∙ lent-left (omega (arith, size, asks .fitting))
+        ∙ ap (λ n. first (roomRows s room) or n) (sym work-left) in
+        first-or (tilingRows w h s) (lent ++ sums) (tiling-numbered w h s)
+        ∙ ap₂ (λ n m. n or m) tiling-left back
+        ∙ sym (or-assoc (first (clipRows s)) (first (roomRows s room)) (first (workRows pic s scratch)))
+        ∙ ap (λ n. (n or first (roomRows s room)) or first (workRows pic s scratch)) (sym setting-left)
+        ∙ ap (λ n. n or first (workRows pic s scratch))
+        (sym (ap first (shared-parts w h (length pic) s room) ∙ first-or (settingRows w h (length pic) s) (roomRows s room) (setting-numbered w h (length pic) s)))
+        ∙ sym (ap first (table-parts w h pic s room scratch) ∙ first-or (sharedRows w h (length pic) s room) (workRows pic s scratch) (shared-numbered w h (length pic) s room))
+
+  -- wherever counting accepted the film, mapping what it left is prepare, refusals too
+  pub mapped-as-prepared : (film : ℕ) (m t : List ℕ) → mapOf film w h s (onto cs (countings w h pic s)) m t ≡ prepareOf film w h pic s m t
+  mapped-as-prepared film m t = go (first (mapRows w h s (onto cs (countings w h pic s)) (length m) (length t))) refl
+    where
+      same : first (mapRows w h s (onto cs (countings w h pic s)) (length m) (length t)) ≡ first (prepareRows w h pic s (length m) (length t))
+      same = same-number (length m) (length t)
+
+      go : (n : ℕ) → first (mapRows w h s (onto cs (countings w h pic s)) (length m) (length t)) ≡ n
+          → mapOf film w h s (onto cs (countings w h pic s)) m t ≡ prepareOf film w h pic s m t
+      go zero e = sym (map-done film w h s _ m t (sym e) refl) ∙ done-as film w h pic s cs m t ∙ ends-done film w h pic s m t (sym e ∙ same) refl
+      go (suc n) e = sym (map-refused film w h s _ m t (sym e) (λ z. omega arith)) ∙ ends-refused film w h pic s m t (sym e ∙ same) (λ z. omega arith)
+
+-- ---- wherever prepare accepts the film and 33 is not met
+
+-- counting accepts it
+pub prepared-counts : (w h : ℕ) (pic : List ℕ) (s : Settings) (room scratch size : ℕ) → first (prepareRows w h pic s room scratch) ≡ 0 → entriesOf s ≤ size
+    → first (countRows w h pic s size) ≡ 0
+unfolding countRows pictureRows
+prepared-counts w h pic s room scratch size e l =
+    let parts = setting-all w h (length pic) s (shared-both w h (length pic) s room (table-both w h pic s room scratch e .0) .0) in
+    first-or (pictureRows w h (length pic) s) (countsRows s size ++ outsideRows pic s) (picture-numbered w h (length pic) s)
+    ∙ ap₂ (λ n m. n or m)
+    (first-or (sizeRows w h (length pic)) (gridRows w h s ++ rangeRows s) (size-numbered w h (length pic))
+    ∙ ap₂ (λ n m. n or m) (parts .0) (first-or (gridRows w h s) (rangeRows s) (grid-numbered w h s) ∙ ap₂ (λ n m. n or m) (parts .1) (grey-both s (parts .2) .0)))
+    (first-or (countsRows s size) (outsideRows pic s) (counts-numbered s size)
+    ∙ ap₂ (λ n m. n or m) (fits-counts s size l) (sym (outside-row pic s true (sym (work w h pic s room scratch e .greys)))))
+
+-- and counting then mapping is prepare
+pub mapped-is-prepared : (film w h : ℕ) (pic : List ℕ) (s : Settings) (cs m t : List ℕ) → first (prepareRows w h pic s (length m) (length t)) ≡ 0 → entriesOf s ≤ length cs
+    → mapOf film w h s (onto cs (countings w h pic s)) m t ≡ prepareOf film w h pic s m t
+mapped-is-prepared film w h pic s cs m t e l = mapped-as-prepared w h pic s cs (prepared-counts w h pic s (length m) (length t) (length cs) e l) film m t

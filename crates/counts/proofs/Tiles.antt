@@ -1,0 +1,175 @@
+-- One tile: where its counts lie, what counting it, adding its counts up and mapping them asks, and what they leave.
+-- Assumes nothing.
+use Prim.Native.Nat.{ℕ, _+_, _-_, _*_, _≤_, _<_}
+use mathlib.Core.Bool.{Bool, true}
+use mathlib.Core.List.{List, _++_}
+use mathlib.Core.Path.{_≡_, refl, sym, ap, ap₂, _∙_, subst}
+use native.Mathlib.Omega.{arith}
+use lib.Dec.{eqb}
+use lib.ListN.{length, take, drop}
+use lib.Seq.{drop-at, length-front}
+use borrow.Author.Needs.{needs}
+use borrow.Author.Tests.{eqb-true}
+use borrow.Rule.Slice.PartMut.{putMid}
+use Rattle.lists.specs.Lists.{total, all, onto, over}
+use Rattle.lists.proofs.Tabs.{every-at}
+use Rattle.lists.proofs.Fills.{take-onto, drop-onto, length-onto}
+use Rattle.lists.proofs.Blocks.{block-fits}
+use Rattle.lists.proofs.Maps.{over-part}
+use Rattle.lists.proofs.Windows.{block, length-block, block-cut}
+use Rattle.scan.specs.Scan.{within}
+use Rattle.tally.specs.declared.Rect.{Rect}
+use Rattle.tally.specs.Tally.{greysOf, countsOf}
+use Rattle.tally.specs.Tally as tally
+use Rattle.tally.proofs.Greys.{greys-all}
+use Rattle.tally.proofs.Counts.{length-counts, total-counts}
+use Rattle.tile.specs.Tile.{clippedBy, countsMapping, Holds, FromAsks}
+use Rattle.tile.proofs.Tiles.{length-clipped-by, length-counts-mapping}
+use Rattle.settings.specs.declared.Settings.{Settings}
+use Rattle.settings.specs.Settings.{binsOf, entriesOf, Tiled}
+use Rattle.settings.proofs.Ready.{entries-small}
+use Rattle.prepare.specs.Prepare.{tileOf, pixelsIn}
+use Rattle.prepare.proofs.Tiles.{length-tile-greys, tile-inside, tile-pixels-some, tile-pixels-most}
+use Rattle.prepare.proofs.Films.{holds}
+use Rattle.counts.specs.Counts.{rawCounts, countsIn, addsUp, mappingFrom, SumAsks, CountAsks, MapsAsk, MapAsks, CopyAsks, OneMapped}
+
+-- ---- where block k lies
+
+-- within a list that has an entry for each bin of each tile
+pub block-room : (s : Settings) {k room b : ℕ} → entriesOf s ≤ room → k < s .across * s .down → b ≡ binsOf s → k * b + b ≤ room
+block-room s fits l q = rw q (block-fits (binsOf s) (s .across * s .down) l fits)
+
+-- and within 16 x 16 tiles of 4096 bins
+pub block-small : {w h : ℕ} {s : Settings} {k b : ℕ} → Tiled w h s → k < s .across * s .down → b ≡ binsOf s → k * b + b ≤ 1048576
+block-small {s = s} tiled l q = block-room s (entries-small (s .across) (s .down) (binsOf s) (tiled .acrossmost) (tiled .downmost) (tiled .binsmost)) l q
+
+-- a tile's counts, as the code cuts them out
+pub counts-cut : (s : Settings) (cs : List ℕ) (k : ℕ) {b : ℕ} → b ≡ binsOf s → block cs k b ≡ countsIn s cs k
+counts-cut s cs k {b} q = block-cut cs k b ∙ ap (λ n. take n (drop (k * n) cs)) q
+
+-- ---- counting
+
+-- Min, Max and the bins of a film's tiles are as counting asks them, field by field
+scaled : {w h : ℕ} {s : Settings} → Tiled w h s → tally.Scale (s .min) (s .max) (binsOf s)
+scaled known = search needs
+
+-- there is a count for each bin
+pub length-raw : (w h : ℕ) (pic : List ℕ) (s : Settings) (k : ℕ) → length (rawCounts w h pic s k) ≡ binsOf s
+length-raw w h pic s k = length-counts (s .min) (s .max) (binsOf s) (greysOf pic w (tileOf w h s k))
+
+-- a tile's greys lie in Min to Max
+pub tile-greys : {w h : ℕ} {pic : List ℕ} {s : Settings} {k size : ℕ} → CountAsks w h pic s k size → all (within (s .min) (s .max)) (greysOf pic w (tileOf w h s k)) ≡ true
+tile-greys {w} {h} {pic} {s} {k} asks =
+    let inside = tile-inside (asks .film .tiled) (asks .tile) (asks .film .whole) in
+    greys-all (within (s .min) (s .max)) pic w (tileOf w h s k) (inside .across) (inside .down) (asks .film .greys)
+
+-- so its counts add up to its pixels
+pub raw-sum : {w h : ℕ} {pic : List ℕ} {s : Settings} {k size : ℕ} → CountAsks w h pic s k size → total (rawCounts w h pic s k) ≡ pixelsIn w h s k
+raw-sum {w} {h} {pic} {s} {k} asks =
+    total-counts (s .min) (s .max) (binsOf s) (greysOf pic w (tileOf w h s k)) (tile-greys asks) (omega (arith, asks .film .tiled .bins)) ∙ length-tile-greys w h pic s k
+
+module _ {w h : ℕ} {pic : List ℕ} {s : Settings} {k : ℕ} (cs : List ℕ) (asks : CountAsks w h pic s k (length cs)) {r : Rect} {b : ℕ} (p : r ≡ tileOf w h s k) (q : b ≡ binsOf s) where
+  -- what counting tile k asks, its rectangle and the bins as they were worked out
+  pub count-asks : tally.CountAsks pic w r (s .min) (s .max) b (length (block cs k b))
+  count-asks =
+      let tiled : Tiled w h s = asks .film .tiled in
+      rw (p, length-block cs k b (block-room s (asks .film .fitting) (asks .tile) q), q)
+      record {
+        inside = tile-inside tiled (asks .tile) (asks .film .whole);
+        scale = scaled tiled;
+        enough = omega arith;
+        greys = tile-greys asks;
+      }
+
+  -- what it leaves
+  pub count-done : {ys : List ℕ} → ys ≡ onto (block cs k b) (countsOf (s .min) (s .max) b (greysOf pic w r))
+      → putMid (k * b) (k * b + b - k * b) cs ys ≡ over cs (k * binsOf s) (rawCounts w h pic s k)
+  count-done e =
+      over-part cs (countsOf (s .min) (s .max) b (greysOf pic w r)) (k * b) b (block-room s (asks .film .fitting) (asks .tile) q) (length-counts _ _ b _) e ∙ rw (p, q) refl
+
+-- ---- adding up
+
+module _ {w h : ℕ} {s : Settings} {k : ℕ} (cs : List ℕ) (asks : SumAsks w h s k (length cs)) {b : ℕ} (q : b ≡ binsOf s) where
+  -- a tile has at most 4096 counts
+  pub sum-asks : length (block cs k b) ≤ 4096
+  sum-asks = omega (arith, length-block cs k b (block-room s (asks .film .fitting) (asks .tile) q), asks .film .tiled .binsmost)
+
+-- what is found of them
+pub sum-found : (w h : ℕ) (s : Settings) (cs : List ℕ) (k : ℕ) {b n : ℕ} {r : Bool} → b ≡ binsOf s → n ≡ pixelsIn w h s k → r ≡ eqb (total (block cs k b)) n
+    → r ≡ eqb (total (countsIn s cs k)) (pixelsIn w h s k)
+sum-found w h s cs k q p e = e ∙ ap₂ (λ x y. eqb (total x) y) (counts-cut s cs k q) p
+
+-- ---- mapping
+
+-- a tile's counts, where there are some for each
+pub length-counts-in : {w h : ℕ} {s : Settings} {cs : List ℕ} {k room scratch : ℕ} → MapAsks w h s cs k room scratch → length (countsIn s cs k) ≡ binsOf s
+length-counts-in {s = s} {cs} {k} asks = ap length (sym (counts-cut s cs k refl)) ∙ length-block cs k (binsOf s) (block-room s (asks .film .long) (asks .tile) refl)
+
+-- they add up to its pixels
+pub tile-sum : {w h : ℕ} {s : Settings} {cs : List ℕ} {k room scratch : ℕ} → MapAsks w h s cs k room scratch → total (countsIn s cs k) ≡ pixelsIn w h s k
+unfolding addsUp
+tile-sum {w} {h} {s} {cs} {k} asks = eqb-true (total (countsIn s cs k)) (pixelsIn w h s k) (every-at (s .across * s .down) _ (asks .film .sums) k (asks .tile))
+
+-- and the mapping has a value for each bin
+pub length-mapping-from : {w h : ℕ} {s : Settings} {cs : List ℕ} {k room scratch : ℕ} → MapAsks w h s cs k room scratch → length (mappingFrom w h s cs k) ≡ binsOf s
+length-mapping-from {w} {h} {s} {cs} {k} asks = length-counts-mapping (s .min) (s .max) (s .clip) (pixelsIn w h s k) (countsIn s cs k) ∙ length-counts-in asks
+
+module _ {w h : ℕ} {s : Settings} {cs : List ℕ} {k : ℕ} (m t : List ℕ) (asks : MapAsks w h s cs k (length m) (length t)) {b : ℕ} (q : b ≡ binsOf s) where
+  -- the copy of the counts fits into the scratch
+  pub copy-asks : CopyAsks b k (length cs) (length t)
+  copy-asks =
+      record {
+        inside = block-room s (asks .film .long) (asks .tile) q;
+        small = block-small (asks .film .tiled) (asks .tile) q;
+        room = omega (arith, asks .film .bins);
+      }
+
+  module _ {u : List ℕ} (e : u ≡ onto t (take b (drop (k * b) cs))) where
+    -- the front of the scratch holds the tile's counts
+    held : u ≡ onto t (countsIn s cs k)
+    held = e ∙ ap (λ n. onto t (take n (drop (k * n) cs))) q
+
+    long : length (countsIn s cs k) ≡ b
+    long = length-counts-in asks ∙ sym q
+
+    copied : take b u ≡ countsIn s cs k
+    copied = ap (take b) held ∙ take-onto t (countsIn s cs k) b long
+
+    size : length (take b u) ≡ binsOf s
+    size = ap length copied ∙ length-counts-in asks
+
+    pub front-long : b ≡ length (take b u)
+    front-long = q ∙ sym size
+
+    module _ {n : ℕ} (p : n ≡ pixelsIn w h s k) where
+      -- what clipping and mapping them asks
+      pub from-asks : FromAsks (s .clip) n (s .min) (s .max) (take b u) (length (block m k b))
+      from-asks =
+          let film : MapsAsk w h s cs (length m) (length t) = asks .film in
+          let tiled : Tiled w h s = film .tiled in
+          record {
+            counted = record {
+              holds = subst (λ j. Holds (s .clip) n j) (sym size) (holds (s .clip) n (binsOf s) (film .fair) (omega (arith, tiled .bins)));
+              all-pixels = ap total copied ∙ tile-sum asks ∙ sym p;
+              few-pixels = omega (arith, tile-pixels-most tiled (asks .tile));
+              some = omega (arith, size, tiled .bins);
+              few = omega (arith, size, tiled .binsmost);
+            };
+            some = omega (arith, tile-pixels-some tiled (asks .tile));
+            order = omega (arith, tiled .min);
+            most = tiled .max;
+            enough = omega (arith, size, length-block m k b (block-room s (film .fitting) (asks .tile) q));
+          }
+
+      -- what it leaves
+      pub one-mapped : {ys v : List ℕ} → v ≡ clippedBy (s .clip) n (take b u) → ys ≡ onto (block m k b) (countsMapping (s .min) (s .max) (s .clip) n (take b u))
+          → OneMapped w h s cs k m (putMid (k * b) (k * b + b - k * b) m ys) t (v ++ drop b u)
+      one-mapped {ys} {v} f g =
+          record {
+            map = over-part m (mappingFrom w h s cs k) (k * b) b (block-room s (asks .film .fitting) (asks .tile) q) (length-mapping-from asks ∙ sym q) (g ∙ rw (copied, p) refl) ∙ rw q refl;
+            behind = ap (λ j. drop j (v ++ drop b u)) (sym q) ∙ drop-at v (drop b u) b (clipped ∙ sym q) ∙ ap (drop b) held ∙ drop-onto t (countsIn s cs k) b long ∙ ap (λ j. drop j t) q;
+            size = length-front u v b (clipped ∙ sym size) ∙ ap length held ∙ length-onto t (countsIn s cs k) (omega (arith, long, copy-asks .room));
+          }
+        where
+          clipped : length v ≡ binsOf s
+          clipped = ap length f ∙ length-clipped-by (s .clip) n (take b u) ∙ size

@@ -1,0 +1,307 @@
+// Prepare in two calls: counting, which fills a lent buffer with each tile's raw counts, and mapping, which makes mappings and footer from such counts,
+// so that a new factor asks no new count.
+ghost use mathlib.Core.Path.{_≡_};
+ghost use Prim.Native.Nat.{_*_, _≤_};
+ghost use lib.Dec.{eqb};
+ghost use lib.ListN.{length, take, drop};
+ghost use Rattle.lists.specs.Lists.{total, onto, over};
+ghost use Rattle.refuse.specs.Refuse.{first};
+ghost use Rattle.settings.specs.Settings.{binsOf};
+ghost use Rattle.prepare.specs.Prepare.{pixelsIn, ending};
+ghost use Rattle.counts.specs.Counts.{rawCounts, countings, countsIn, addsUp, countsRows, pictureRows, countRows, tilingRows, lentRows, mapRows, counted, countOf, mapOf, LentAsks, SumsAsk, SumAsks, CountsAsk, CountAsks, MapsAsk, MapAsks, CopyAsks, OneMapped, AllMapped};
+use prepare::Prepared;
+use settings::MapRecord;
+use settings::Settings;
+
+// What counting answers: done, or the refusal's number alone.
+pub enum Counted {
+    Done,
+    Refused(u32),
+}
+
+// Refusal 33, where it applies, else 0: the counts take as many entries as the mappings.
+fn counts_refusal(s: Settings, size: usize) -> u32
+    requires { ⌜ LentAsks s ⌝ }
+    ensures { λ r. ⌜ r ≡ first (countsRows s size) ⌝ }
+{
+    if settings::room_refusal(s, size) != 0 {
+        return 33;
+    }
+    0
+}
+
+// The first of the refusals 1 to 9 that applies, else 0.
+fn picture_refusal(width: u32, height: u32, size: usize, s: Settings) -> u32
+    ensures { λ r. ⌜ r ≡ first (pictureRows width height size s) ⌝ }
+{
+    let sizes = settings::size_refusal(width, height, size);
+    if sizes != 0 {
+        return sizes;
+    }
+    let grid = settings::grid_refusal(width, height, s);
+    if grid != 0 {
+        return grid;
+    }
+    settings::range_refusal(s)
+}
+
+// The first of counting's refusals that applies, else 0. The clip setting plays no part.
+fn count_refusal(width: u32, height: u32, picture: &[u16], s: Settings, size: usize) -> u32
+    ensures { λ r. ⌜ r ≡ first (countRows width height (now (picture .entry)) s size) ⌝ }
+{
+    let early = picture_refusal(width, height, picture.len(), s);
+    if early != 0 {
+        return early;
+    }
+    let short = counts_refusal(s, size);
+    if short != 0 {
+        return short;
+    }
+    if !scan::all_within(picture, s.min, s.max) {
+        return 13;
+    }
+    0
+}
+
+// Counts tile k, in its place among the counts.
+fn count_tile(picture: &[u16], width: u32, height: u32, s: Settings, k: usize, counts: &mut [u32])
+    requires { ⌜ CountAsks width height (now picture) s k (length (now counts)) ⌝ }
+    ensures { λ _. ⌜ now (counts .exit) ≡ over (now (counts .entry)) (k * binsOf s) (rawCounts width height (now (picture .entry)) s k) ⌝ }
+{
+    let rect = prepare::tile_rect(width, height, s.across, s.down, k);
+    let bins = settings::bins(s);
+    let each = bins as usize;
+    let a = k * each;
+    let e = a + each;
+    tally::count(
+        picture,
+        width as usize,
+        rect,
+        s.min,
+        s.max,
+        bins,
+        &mut counts[a..e],
+    );
+}
+
+// Counts all tiles; entries behind the last keep their contents.
+fn count_all(picture: &[u16], width: u32, height: u32, s: Settings, counts: &mut [u32])
+    requires { ⌜ CountsAsk width height (now picture) s (length (now counts)) ⌝ }
+    ensures { λ _. ⌜ now (counts .exit) ≡ onto (now (counts .entry)) (countings width height (now (picture .entry)) s) ⌝ }
+{
+    let tiles = (s.across * s.down) as usize;
+    let mut k = 0;
+    while k < tiles {
+        count_tile(picture, width, height, s, k, counts);
+        k += 1;
+    }
+}
+
+// Each tile's raw counts in the front of the lent counts, tiles row by row, bins upward.
+pub fn count_tiles(
+    width: u32,
+    height: u32,
+    picture: &[u16],
+    s: Settings,
+    counts: &mut [u32],
+) -> Counted
+    ensures { λ r. ⌜ counted r (now (counts .exit)) ≡ countOf width height (now (picture .entry)) s (now (counts .entry)) ⌝ }
+{
+    let refused = count_refusal(width, height, picture, s, counts.len());
+    if refused != 0 {
+        return Counted::Refused(refused);
+    }
+    count_all(picture, width, height, s, counts);
+    Counted::Done
+}
+
+// Whether counts add up to these pixels. The sum of 4096 counts of 32 bits does not wrap in 64.
+fn adds_up(counts: &[u32], pixels: u32) -> bool
+    requires { ⌜ length (now counts) ≤ 4096 ⌝ }
+    ensures { λ r. ⌜ r ≡ eqb (total (now (counts .entry))) pixels ⌝ }
+{
+    let mut sum: u64 = 0;
+    let mut i = 0;
+    while i < counts.len() {
+        sum += counts[i] as u64;
+        i += 1;
+    }
+    sum == pixels as u64
+}
+
+// Whether the counts of tile k add up to its own pixels.
+fn tile_adds_up(width: u32, height: u32, s: Settings, k: usize, counts: &[u32]) -> bool
+    requires { ⌜ SumAsks width height s k (length (now counts)) ⌝ }
+    ensures { λ r. ⌜ r ≡ eqb (total (countsIn s (now (counts .entry)) k)) (pixelsIn width height s k) ⌝ }
+{
+    let pixels = prepare::tile_pixels(width, height, s, k);
+    let each = settings::bins(s) as usize;
+    let from = k * each;
+    let to = from + each;
+    adds_up(&counts[from..to], pixels)
+}
+
+// Whether each tile's counts add up to its pixels.
+fn all_add_up(width: u32, height: u32, s: Settings, counts: &[u32]) -> bool
+    requires { ⌜ SumsAsk width height s (length (now counts)) ⌝ }
+    ensures { λ r. ⌜ r ≡ addsUp width height s (now (counts .entry)) ⌝ }
+{
+    let tiles = (s.across * s.down) as usize;
+    let mut k = 0;
+    while k < tiles {
+        if !tile_adds_up(width, height, s, k, counts) {
+            return false;
+        }
+        k += 1;
+    }
+    true
+}
+
+// The first of the refusals 1 and 3 to 10 that applies, else 0.
+fn tiling_refusal(width: u32, height: u32, s: Settings) -> u32
+    ensures { λ r. ⌜ r ≡ first (tilingRows width height s) ⌝ }
+{
+    let sides = settings::side_refusal(width, height);
+    if sides != 0 {
+        return sides;
+    }
+    let grid = settings::grid_refusal(width, height, s);
+    if grid != 0 {
+        return grid;
+    }
+    settings::grey_refusal(s)
+}
+
+// The first of the refusals 11, 12 and 33 that applies, else 0.
+fn lent_refusal(s: Settings, room: usize, scratch: usize, size: usize) -> u32
+    requires { ⌜ LentAsks s ⌝ }
+    ensures { λ r. ⌜ r ≡ first (lentRows s room scratch size) ⌝ }
+{
+    let full = settings::room_refusal(s, room);
+    if full != 0 {
+        return full;
+    }
+    if scratch < (settings::bins(s) as usize) {
+        return 12;
+    }
+    counts_refusal(s, size)
+}
+
+// The first of mapping's refusals that applies, else 0.
+fn map_refusal(
+    width: u32,
+    height: u32,
+    s: Settings,
+    counts: &[u32],
+    room: usize,
+    scratch: usize,
+) -> u32
+    ensures { λ r. ⌜ r ≡ first (mapRows width height s (now (counts .entry)) room scratch) ⌝ }
+{
+    let tiling = tiling_refusal(width, height, s);
+    if tiling != 0 {
+        return tiling;
+    }
+    let lent = lent_refusal(s, room, scratch, counts.len());
+    if lent != 0 {
+        return lent;
+    }
+    if !all_add_up(width, height, s, counts) {
+        return 34;
+    }
+    0
+}
+
+// Copies the counts of tile k into the front of the scratch: clipping works in place, and the counts stay for the next factor.
+fn copy_tile(counts: &[u32], each: usize, k: usize, scratch: &mut [u32])
+    requires { ⌜ CopyAsks each k (length (now counts)) (length (now scratch)) ⌝ }
+    ensures { λ _. ⌜ now (scratch .exit) ≡ onto (now (scratch .entry)) (take each (drop (k * each) (now (counts .entry)))) ⌝ }
+{
+    let start = k * each;
+    let end = start + each;
+    lists::copy32(&counts[start..end], scratch);
+}
+
+// Makes the mapping of tile k from its counts, in its place in the map buffer.
+fn map_one(
+    width: u32,
+    height: u32,
+    s: Settings,
+    k: usize,
+    counts: &[u32],
+    map: &mut [u16],
+    scratch: &mut [u32],
+)
+    requires { ⌜ MapAsks width height s (now counts) k (length (now map)) (length (now scratch)) ⌝ }
+    ensures { λ _. ⌜ OneMapped width height s (now (counts .entry)) k (now (map .entry)) (now (map .exit)) (now (scratch .entry)) (now (scratch .exit)) ⌝ }
+{
+    let pixels = prepare::tile_pixels(width, height, s, k);
+    let clip = s.clip;
+    let each = settings::bins(s) as usize;
+    let at = k * each;
+    let behind = at + each;
+    copy_tile(counts, each, k, scratch);
+    tile::from_counts(
+        clip,
+        pixels,
+        s.min,
+        s.max,
+        &mut scratch[..each],
+        &mut map[at..behind],
+    );
+}
+
+// Makes the mappings of all tiles from their counts; the scratch is left zero.
+fn map_all(
+    width: u32,
+    height: u32,
+    s: Settings,
+    counts: &[u32],
+    map: &mut [u16],
+    scratch: &mut [u32],
+)
+    requires { ⌜ MapsAsk width height s (now counts) (length (now map)) (length (now scratch)) ⌝ }
+    ensures { λ _. ⌜ AllMapped width height s (now (counts .entry)) (now (map .entry)) (now (map .exit)) (now (scratch .entry)) (now (scratch .exit)) ⌝ }
+{
+    let tiles = (s.across * s.down) as usize;
+    let mut k = 0;
+    while k < tiles {
+        map_one(width, height, s, k, counts, map, scratch);
+        k += 1;
+    }
+    let each = settings::bins(s) as usize;
+    lists::clear(scratch, each);
+}
+
+// The mappings of a film from its counts in the map buffer, with the record of what they were made for and the footer: what prepare leaves.
+pub fn map_counts(
+    film: u32,
+    width: u32,
+    height: u32,
+    s: Settings,
+    counts: &[u32],
+    map: &mut [u16],
+    scratch: &mut [u32],
+) -> Prepared
+    ensures { λ r. ⌜ ending r (now (map .exit)) (now (scratch .exit)) ≡ mapOf film width height s (now (counts .entry)) (now (map .entry)) (now (scratch .entry)) ⌝ }
+{
+    let refused = map_refusal(width, height, s, counts, map.len(), scratch.len());
+    if refused != 0 {
+        return Prepared::Refused(refused);
+    }
+    let clip = s.clip;
+    let foot = prepare::foot(width, height, s);
+    let kept = settings::kept(s);
+    let record = MapRecord {
+        film,
+        width,
+        height,
+        settings: kept,
+    };
+    let one = settings::clip_one(clip);
+    if one {
+        return Prepared::Done(record, foot);
+    }
+    map_all(width, height, s, counts, map, scratch);
+    Prepared::Done(record, foot)
+}

@@ -1,0 +1,98 @@
+"""The count rows of FILMS.md, run through the second program's counting and
+mapping.
+
+Run: python3 second/count_films.py   prints the text that FILMS.md describes.
+The rows are read from crates/count_films/stdin, which the proved program reads
+too.
+"""
+
+import sys
+
+sys.dont_write_bytecode = True
+
+import clahe
+import films
+
+FILM = films.COLUMNS["F"] + ["countslen"]
+MAPPING = ("no film width height case countslen gainat gain lossat loss step across down bins min max "
+           "clip factor maplen scratchlen fillbase fillmod each turns").split()
+
+WORD = 2 ** 32
+
+
+def counts_fill(row):
+    """The counts before counting."""
+    return [3000000000 + i % 1000 for i in range(row["countslen"])]
+
+
+def answer_line(text, no, answer):
+    """The line of mapping or prepare, which answer alike."""
+    if isinstance(answer, int):
+        text.line("P", no, answer)
+    else:
+        text.line("P", no, 0, *(films.footer_fields(answer[1]) + films.record_fields(answer[0])))
+
+
+def run_mapping(text, row, counts, maps, scratch):
+    """One mapping over the lent counts."""
+    answer = clahe.map_counts(row["film"], row["width"], row["height"], films.settings_of(row),
+                              counts, maps, scratch)
+    answer_line(text, row["no"], answer)
+    text.digests("m", row["no"], counts, maps, scratch)
+    text.small("q", row["no"], maps)
+    return answer
+
+
+def run_film(text, row):
+    """One film: counted, mapped, and prepared beside it."""
+    no, width, height, settings = row["no"], row["width"], row["height"], films.settings_of(row)
+    picture, counts = films.film(row), counts_fill(row)
+    text.line("C", no, clahe.count(width, height, picture, settings, counts))
+    text.digests("c", no, picture, counts)
+    text.small("n", no, counts)
+
+    maps, scratch = films.map_fill(row), films.scratch_fill(row)
+    mapped = run_mapping(text, row, counts, maps, scratch)
+
+    other_maps, other_scratch = films.map_fill(row), films.scratch_fill(row)
+    prepared = clahe.prepare(row["film"], width, height, picture, settings, other_maps, other_scratch)
+    answer_line(text, no, prepared)
+    text.digests("p", no, picture, other_maps, other_scratch)
+    if not isinstance(mapped, int) and not isinstance(prepared, int):
+        text.line("K", no, 1 if (films.digest(maps) == films.digest(other_maps)
+                                 and films.digest(scratch) == films.digest(other_scratch)) else 0)
+
+
+def run_turns(text, row, turns, case):
+    """One row of mappings, in turn over the counts of a film."""
+    picture, counts = films.film(case), counts_fill(case)
+    clahe.count(case["width"], case["height"], picture, films.settings_of(case), counts)
+    counts = counts[:row["countslen"]]
+    for at, more in ((row["gainat"], row["gain"]), (row["lossat"], WORD - row["loss"])):
+        if at < len(counts):
+            counts[at] = (counts[at] + more) % WORD
+    if row["step"]:
+        for at in range(0, len(counts), row["step"]):
+            counts[at] = (counts[at] + row["each"]) % WORD
+    maps, scratch = films.map_fill(row), films.scratch_fill(row)
+    for clip, factor in [(row["clip"], row["factor"])] + turns:
+        run_mapping(text, dict(row, clip=clip, factor=factor), counts, maps, scratch)
+
+
+def run():
+    """The whole text."""
+    text, cases = films.Text(), {}
+    for letter, numbers in films.lines("count_films"):
+        columns = FILM if letter == "F" else MAPPING
+        row, rest = dict(zip(columns, numbers)), numbers[len(columns):]
+        assert len(row) == len(columns) and len(rest) == (0 if letter == "F" else 2 * row["turns"]), numbers
+        if letter == "F":
+            cases[row["no"]] = row
+            run_film(text, row)
+        else:
+            run_turns(text, row, list(zip(rest[::2], rest[1::2])), cases[row["case"]])
+    return text.whole()
+
+
+if __name__ == "__main__":
+    sys.stdout.write(run())
