@@ -1,11 +1,18 @@
 #!/bin/sh
-# station/faults.sh: tries what can go wrong around the command line program, and prints what it saw.
+# station/faults.sh [PROGRAM]: tries what can go wrong around the command line program, and prints what it saw. PROGRAM is
+# another build of it, one with sanitizers for instance; then the limits on memory are left out, as it may want more.
 #
 # In every trial OUT holds a text beforehand. A trial is as expected where the exit status is the one named, OUT is as it
 # was (or, after status 0, a whole film), and no file is left beside it; a kill that comes too late finds the whole film
 # there. The last line counts the trials. What cannot be tried on this machine or as this user is named and not counted.
 set -u
 top=$(cd "$(dirname "$0")/.." && pwd -P)
+case ${1:-} in
+-h | --help | help)
+    sed -n '2,/^set/s/^# \{0,1\}//p' "$top/station/faults.sh"
+    exit 0
+    ;;
+esac
 "$top/station/build" || exit 2
 
 room=$(mktemp -d) || exit 2
@@ -18,6 +25,7 @@ trap tidy EXIT
 trap 'exit 1' HUP INT TERM
 mkdir "$room/bin" "$room/out"
 cp "$top/target/station/tzofnadir" "$top/target/station/tzofnadir.x86-64" "$room/bin/"
+[ $# -eq 0 ] || cp -f "$1" "$room/bin/tzofnadir"
 chmod -R a+rX "$room"
 cd "$room" || exit 2
 tz=$room/bin/tzofnadir out=$room/out/film.pgm
@@ -147,16 +155,13 @@ try 'the factor next above 1.0, a window: rendered' 0 window film.pgm "$out" --b
 told='limit 2, factor asked 1.25, factor used 1.28'
 try '--bytes --bins 64 --clip 1.25, tiles of 100 pixels: rendered' 0 enhance small.pgm "$out" --bytes --bins 64 --clip 1.25
 
-# ---- no --bins: 128, or as many as the range has greys
+# ---- no --bins: 1024, or as many as the range has greys
 told='limit 18,'
 try 'no --bins, a film of 16 greys: 16 bins' 0 enhance faint.pgm "$out"
 told='limit 150,'
 try 'no --bins, a range of 2 greys, a window: 2 bins' 0 window faint.pgm "$out" --range 0:1 --at 7,7 --size 9x9
-"$tz" enhance film.pgm plain.pgm --bins 128 2>plain
-"$tz" enhance film.pgm "$out" 2>said
-saw=$?
-if [ "$saw" -eq 0 ] && cmp -s plain.pgm "$out" && cmp -s plain said && no_leftover out; then ok=yes; else ok=no; fi
-report "$ok" 'no --bins, a film of 4,096 greys: 128 bins' "status $saw: $(head -n 1 said)"
+told='bins 1024, chosen by the range 0 to 4095'
+try 'no --bins, a film of 4,096 greys: 1024 bins' 0 enhance film.pgm "$out"
 
 # ---- bytes: inside the profile the film and the footer are those of the same command without --bytes
 alike() { # WHAT COMMAND SETTINGS..
@@ -229,6 +234,9 @@ try 'a listing of a film too large for it' 22 listing film.pgm
 printf 'P5 2 2 2 \0\1\2\0' >three.pgm
 told='The listing has 4 bins'
 try 'a listing of a film of three greys' 31 listing three.pgm
+
+# ---- what the messages name
+. "$top/station/faults/messages.sh"
 
 # ---- standard input and output
 cp before "$out"
@@ -325,6 +333,13 @@ else
     skip 'an unreadable file, a folder that may not be written to, a write-protected output: nobody cannot run the program here'
 fi
 
+# ---- records, and habits
+. "$top/station/faults/record.sh"
+. "$top/station/faults/habits.sh"
+
+# ---- flushing that fails
+. "$top/station/faults/flush.sh"
+
 # ---- a full disk
 mkdir disk
 if [ "$(id -u)" -eq 0 ] && mount -t tmpfs -o size=256k tmpfs "$room/disk" 2>/dev/null; then
@@ -344,7 +359,7 @@ fi
 kib=8192 steps=0 before_us=0 odd='' saw=71
 cp before "$out"
 # shellcheck disable=SC3045
-while [ "$kib" -lt 1000000 ] && [ "$saw" -ne 0 ]; do
+while [ $# -eq 0 ] && [ "$kib" -lt 1000000 ] && [ "$saw" -ne 0 ]; do
     (ulimit -v "$kib" && exec timeout 120 "$tz" enhance big.pgm "$out") >wrote 2>said
     saw=$?
     if [ "$saw" -eq 71 ] && cmp -s before "$out" && no_leftover out; then
@@ -358,16 +373,20 @@ while [ "$kib" -lt 1000000 ] && [ "$saw" -ne 0 ]; do
 done 2>/dev/null
 if [ "$steps" -gt 0 ] && [ "$saw" -eq 0 ] && [ -z "$odd" ]; then ok=yes; else ok=no; fi
 # shellcheck disable=SC3045
-if (ulimit -v 1000000) 2>/dev/null; then
+if [ $# -ne 0 ]; then
+    skip 'no memory: this is another build of the program'
+elif (ulimit -v 1000000) 2>/dev/null; then
     report "$ok" 'no memory: status 71 until there is enough' "$steps times 71, $before_us times nothing started$odd"
 else
     skip 'no memory: this shell sets no limit'
 fi
 
-# ---- kills at the moment the new file appears, until five came before the rename. A shell has what it starts in the
+# ---- kills at the moment the new file appears, until three came before the rename. A shell has what it starts in the
 # background ignore INT, and nohup has it ignore HUP; the program leaves that as it is, so env undoes it.
 undo=''
-! env --default-signal=HUP,INT,TERM true 2>/dev/null || undo='env --default-signal=HUP,INT,TERM'
+! env --default-signal=HUP,INT,QUIT,TERM true 2>/dev/null || undo='env --default-signal=HUP,INT,QUIT,TERM'
+# shellcheck disable=SC3045
+ulimit -c 0 2>/dev/null # QUIT and XCPU would leave cores
 kill_in_the_middle() { # SIGNAL STATUS
     cp before "$out"
     $undo "$tz" enhance big.pgm "$out" >wrote 2>said &
@@ -382,20 +401,28 @@ kill_in_the_middle() { # SIGNAL STATUS
     no_leftover out || left=$((left + 1))
     rm -f out/.tzofnadir-*
 }
-for signal in TERM:143 HUP:129 INT:130 KILL:137; do
+for signal in TERM:143 HUP:129 INT:130 QUIT:131 XCPU:152 ALRM:142 USR1:138 KILL:137; do
     status=${signal#*:} signal=${signal%:*}
-    if [ -z "$undo" ] && [ "$signal" != TERM ] && [ "$signal" != KILL ]; then
-        skip "a kill by $signal: this env does not set signals back"
-        continue
-    fi
+    case $signal in
+    HUP | INT | QUIT) [ -n "$undo" ] || { skip "a kill by $signal: this env does not set signals back"; continue; } ;;
+    esac
     old=0 new=0 neither=0 left=0
-    while [ "$old" -lt 5 ] && [ $((new + neither)) -lt 40 ]; do kill_in_the_middle "$signal" "$status"; done
+    while [ "$old" -lt 3 ] && [ $((new + neither)) -lt 24 ]; do kill_in_the_middle "$signal" "$status"; done
     ok=yes
-    [ "$old" -eq 5 ] && [ "$neither" -eq 0 ] || ok=no
+    [ "$old" -eq 3 ] && [ "$neither" -eq 0 ] || ok=no
     # nothing can tidy up behind KILL; the part then lies beside OUT under its own name
     [ "$signal" = KILL ] || [ "$left" -eq 0 ] || ok=no
     report "$ok" "killed by $signal: OUT is the old text or the whole film" "status $status and the old text $old times, the whole film $new times, neither $neither times; $left parts left"
 done
+
+# ---- a look at a result
+. "$top/station/faults/look.sh"
+
+# ---- what is installed
+. "$top/station/faults/delivery.sh"
+
+# ---- several at once, a clone that may only be read, links, another toolchain
+. "$top/station/faults/together.sh"
 
 # ---- station/render
 render() { # WHAT WANTED FILM

@@ -1,9 +1,10 @@
 /*
  * tzofnadir.h: contrast-limited local histogram equalization for weld radiographs, for C.
  *
- * The functions named tz_.. are in the archive that station/build makes, target/lib/libtzofnadir.a.
- * They are proved: each call ends with the answer that the rules give, for any numbers and any contents of the
- * buffers. The functions named tzofnadir_.. stand in front of them and take structs. They do nothing else.
+ * The functions named tz_.. are in the archive that station/build makes, target/lib/libtzofnadir.a, and in the shared
+ * library that station/install makes of it. They are proved: each call ends with the answer that the rules give, for any
+ * numbers and any contents of the buffers. The functions named tzofnadir_.. stand in front of them and take structs. They
+ * do nothing else, and are in the library too, for languages that do not read this header.
  *
  * Every call returns 0 when it is done, else the number of the first refusal that applies, in the order that
  * stands beside the call. After a refusal all lent memory, the places for answers included, holds what it held.
@@ -12,6 +13,10 @@
  *   - no pointer is null, also where the length beside it is 0;
  *   - a length is in elements, and that many are there;
  *   - a buffer that a call writes overlaps no other buffer of the same call.
+ *
+ * Calls may run on any threads at once, each on buffers of its own: the library has no variables, keeps nothing from one
+ * call to the next, and allocates nothing. Buffers that calls only read may be shared. It needs x86-64 Linux and, of a C
+ * library, memset; linked with the toolchain's C library, as the command line is, glibc 2.34 or later.
  *
  * A picture is `width` times `height` greys, row by row from the top, each 0 to 4095 in 16 bits. The calls named .._bytes
  * take a film of bytes: picture, mappings and output are bytes, each 0 to 255, by the same rules.
@@ -25,6 +30,18 @@
 #ifdef __cplusplus
 extern "C" {
 #endif
+
+/* The edition of this header and of the library, as in the file VERSION. */
+#define TZ_VERSION "1.5.0"
+
+/* The functions with bodies are compiled into what includes this header. station/structs.c, which is a part of the library,
+   says otherwise, and so they have names in it as well. */
+#ifndef TZ_FUNCTION
+#define TZ_FUNCTION static inline
+#endif
+
+/* The edition of the library that is linked or loaded. */
+TZ_FUNCTION const char *tz_version(void) { return TZ_VERSION; }
 
 /* ---- limits ---- */
 
@@ -73,7 +90,7 @@ enum tz_refusal {
 };
 
 /* One plain sentence for a refusal's number, to show to a person. */
-static inline const char *tz_refusal_text(uint32_t refusal)
+TZ_FUNCTION const char *tz_refusal_text(uint32_t refusal)
 {
     static const char *const text[] = {
         "Done.",
@@ -229,19 +246,19 @@ uint32_t tz_listing(const uint8_t *bytes, size_t len, uint8_t *out, size_t out_l
 /* ---- how much to lend ---- */
 
 /* The number of bins that a setting stands for. */
-static inline uint32_t tz_bins_of(const tz_settings *s)
+TZ_FUNCTION uint32_t tz_bins_of(const tz_settings *s)
 {
     return s->bins == 0 ? TZ_USUAL_BINS : s->bins;
 }
 
 /* Entries of the scratch buffer. Never above 4096, whatever the settings hold: what is more is refused anyway. */
-static inline size_t tz_scratch_entries(const tz_settings *s)
+TZ_FUNCTION size_t tz_scratch_entries(const tz_settings *s)
 {
     return tz_bins_of(s) < TZ_MOST_BINS ? tz_bins_of(s) : TZ_MOST_BINS;
 }
 
 /* Entries of the map buffer. Never above 16 x 16 x 4096, for the same reason. */
-static inline size_t tz_map_entries(const tz_settings *s)
+TZ_FUNCTION size_t tz_map_entries(const tz_settings *s)
 {
     size_t across = s->across < TZ_MOST_GRID ? s->across : TZ_MOST_GRID;
     size_t down = s->down < TZ_MOST_GRID ? s->down : TZ_MOST_GRID;
@@ -249,21 +266,24 @@ static inline size_t tz_map_entries(const tz_settings *s)
 }
 
 /* Entries of the counts buffer: as many as of the map buffer. */
-static inline size_t tz_counts_entries(const tz_settings *s)
+TZ_FUNCTION size_t tz_counts_entries(const tz_settings *s)
 {
     return tz_map_entries(s);
 }
 
-/* Bytes that hold any written film of at most 4096 by 4096. */
-static inline size_t tz_write_bytes(uint32_t width, uint32_t height)
+/* Bytes that hold the written film. Never above those of a film of 4096 by 4096, whatever the sides are: what is larger is
+   refused anyway. */
+TZ_FUNCTION size_t tz_write_bytes(uint32_t width, uint32_t height)
 {
-    return TZ_WRITE_HEADER + (size_t)2 * width * height;
+    size_t across = width < TZ_MOST_SIDE ? width : TZ_MOST_SIDE;
+    size_t down = height < TZ_MOST_SIDE ? height : TZ_MOST_SIDE;
+    return TZ_WRITE_HEADER + 2 * across * down;
 }
 
 /* ---- the calls, with structs ---- */
 
 /* A record's nine numbers, in the order in which the flat functions have them. */
-static inline void tz_record_numbers(const tz_record *record, uint32_t numbers[9])
+TZ_FUNCTION void tz_record_numbers(const tz_record *record, uint32_t numbers[9])
 {
     const tz_settings *s = &record->settings;
     const uint32_t n[9] = {record->film, record->width, record->height, s->across, s->down,
@@ -273,7 +293,7 @@ static inline void tz_record_numbers(const tz_record *record, uint32_t numbers[9
 }
 
 /* A record of its nine numbers and its factor. */
-static inline tz_record tz_record_of(const uint32_t n[9], float factor)
+TZ_FUNCTION tz_record tz_record_of(const uint32_t n[9], float factor)
 {
     tz_settings kept = {n[3], n[4], n[5], n[6], n[7], n[8], factor};
     tz_record record = {n[0], n[1], n[2], kept};
@@ -281,7 +301,7 @@ static inline tz_record tz_record_of(const uint32_t n[9], float factor)
 }
 
 /* A footer of its three numbers. */
-static inline tz_footer tz_footer_of(uint32_t limit, float asked, double used)
+TZ_FUNCTION tz_footer tz_footer_of(uint32_t limit, float asked, double used)
 {
     tz_footer footer = {limit, asked, used};
     return footer;
@@ -298,10 +318,10 @@ static inline tz_footer tz_footer_of(uint32_t limit, float asked, double used)
  * Sizes: picture_len is width x height; map_len at least tz_map_entries, scratch_len at least tz_scratch_entries.
  * Refusals, the first that applies: 1 to 9 upward, 31, then 10 to 13.
  */
-static inline uint32_t tzofnadir_prepare(uint32_t film, uint32_t width, uint32_t height,
-                                         const uint16_t *picture, size_t picture_len, const tz_settings *s,
-                                         uint16_t *map, size_t map_len, uint32_t *scratch, size_t scratch_len,
-                                         tz_record *record, tz_footer *footer)
+TZ_FUNCTION uint32_t tzofnadir_prepare(uint32_t film, uint32_t width, uint32_t height,
+                                       const uint16_t *picture, size_t picture_len, const tz_settings *s,
+                                       uint16_t *map, size_t map_len, uint32_t *scratch, size_t scratch_len,
+                                       tz_record *record, tz_footer *footer)
 {
     uint32_t r[9] = {0}, limit = 0;
     float factor = 0, asked = 0;
@@ -322,9 +342,9 @@ static inline uint32_t tzofnadir_prepare(uint32_t film, uint32_t width, uint32_t
  *
  * Sizes and refusals as for prepare.
  */
-static inline uint32_t tzofnadir_enhance(uint32_t width, uint32_t height, uint16_t *picture, size_t picture_len,
-                                         const tz_settings *s, uint16_t *map, size_t map_len,
-                                         uint32_t *scratch, size_t scratch_len, tz_footer *footer)
+TZ_FUNCTION uint32_t tzofnadir_enhance(uint32_t width, uint32_t height, uint16_t *picture, size_t picture_len,
+                                       const tz_settings *s, uint16_t *map, size_t map_len,
+                                       uint32_t *scratch, size_t scratch_len, tz_footer *footer)
 {
     uint32_t limit = 0;
     float asked = 0;
@@ -349,10 +369,10 @@ static inline uint32_t tzofnadir_enhance(uint32_t width, uint32_t height, uint16
  * Refusals, the first that applies: 1 to 9, 31, 10, 11, 15, 16, 17, then 13 over the window, then 18 (not at factor
  * 1.0).
  */
-static inline uint32_t tzofnadir_draw(uint32_t film, uint32_t width, uint32_t height,
-                                      const uint16_t *picture, size_t picture_len, const tz_settings *s,
-                                      const tz_record *record, const tz_window *window,
-                                      const uint16_t *map, size_t map_len, uint16_t *out, size_t out_len)
+TZ_FUNCTION uint32_t tzofnadir_draw(uint32_t film, uint32_t width, uint32_t height,
+                                    const uint16_t *picture, size_t picture_len, const tz_settings *s,
+                                    const tz_record *record, const tz_window *window,
+                                    const uint16_t *map, size_t map_len, uint16_t *out, size_t out_len)
 {
     uint32_t r[9];
     tz_record_numbers(record, r);
@@ -369,8 +389,8 @@ static inline uint32_t tzofnadir_draw(uint32_t film, uint32_t width, uint32_t he
  * Sizes: picture_len is width x height; counts_len at least tz_counts_entries.
  * Refusals, the first that applies: 1 to 9 upward, 31, 33, 13.
  */
-static inline uint32_t tzofnadir_count(uint32_t width, uint32_t height, const uint16_t *picture, size_t picture_len,
-                                       const tz_settings *s, uint32_t *counts, size_t counts_len)
+TZ_FUNCTION uint32_t tzofnadir_count(uint32_t width, uint32_t height, const uint16_t *picture, size_t picture_len,
+                                     const tz_settings *s, uint32_t *counts, size_t counts_len)
 {
     return tz_count(width, height, picture, picture_len, s->across, s->down, s->bins, s->min, s->max, counts,
                     counts_len);
@@ -390,9 +410,9 @@ static inline uint32_t tzofnadir_count(uint32_t width, uint32_t height, const ui
  * Refusals, the first that applies: 1, 3 to 9 upward, 31, 10, 11, 12, 33, 34. At factor 1.0 and with clip off 33 and 34
  * are given too.
  */
-static inline uint32_t tzofnadir_map(uint32_t film, uint32_t width, uint32_t height, const tz_settings *s,
-                                     const uint32_t *counts, size_t counts_len, uint16_t *map, size_t map_len,
-                                     uint32_t *scratch, size_t scratch_len, tz_record *record, tz_footer *footer)
+TZ_FUNCTION uint32_t tzofnadir_map(uint32_t film, uint32_t width, uint32_t height, const tz_settings *s,
+                                   const uint32_t *counts, size_t counts_len, uint16_t *map, size_t map_len,
+                                   uint32_t *scratch, size_t scratch_len, tz_record *record, tz_footer *footer)
 {
     uint32_t r[9] = {0}, limit = 0;
     float factor = 0, asked = 0;
@@ -416,10 +436,10 @@ static inline uint32_t tzofnadir_map(uint32_t film, uint32_t width, uint32_t hei
  * Sizes as for the wide calls; an entry of the map buffer is a byte.
  * Refusals, the first that applies: 1 to 9 upward, 31, 10, 30, 11, 12. A byte lies in 0 to 255, so 13 is never given.
  */
-static inline uint32_t tzofnadir_prepare_bytes(uint32_t film, uint32_t width, uint32_t height,
-                                               const uint8_t *picture, size_t picture_len, const tz_settings *s,
-                                               uint8_t *map, size_t map_len, uint32_t *scratch, size_t scratch_len,
-                                               tz_record *record, tz_footer *footer)
+TZ_FUNCTION uint32_t tzofnadir_prepare_bytes(uint32_t film, uint32_t width, uint32_t height,
+                                             const uint8_t *picture, size_t picture_len, const tz_settings *s,
+                                             uint8_t *map, size_t map_len, uint32_t *scratch, size_t scratch_len,
+                                             tz_record *record, tz_footer *footer)
 {
     uint32_t r[9] = {0}, limit = 0;
     float factor = 0, asked = 0;
@@ -435,9 +455,9 @@ static inline uint32_t tzofnadir_prepare_bytes(uint32_t film, uint32_t width, ui
 }
 
 /* Enhance on bytes, in place. Refusals as for prepare on bytes. */
-static inline uint32_t tzofnadir_enhance_bytes(uint32_t width, uint32_t height, uint8_t *picture, size_t picture_len,
-                                               const tz_settings *s, uint8_t *map, size_t map_len,
-                                               uint32_t *scratch, size_t scratch_len, tz_footer *footer)
+TZ_FUNCTION uint32_t tzofnadir_enhance_bytes(uint32_t width, uint32_t height, uint8_t *picture, size_t picture_len,
+                                             const tz_settings *s, uint8_t *map, size_t map_len,
+                                             uint32_t *scratch, size_t scratch_len, tz_footer *footer)
 {
     uint32_t limit = 0;
     float asked = 0;
@@ -454,10 +474,10 @@ static inline uint32_t tzofnadir_enhance_bytes(uint32_t width, uint32_t height, 
  * Draw on bytes. Refusals, the first that applies: 1 to 9 upward, 31, 10, 30, 11, 15, 16, 17. Neither 13 nor 18 is ever
  * given: a byte lies in 0 to 255.
  */
-static inline uint32_t tzofnadir_draw_bytes(uint32_t film, uint32_t width, uint32_t height,
-                                            const uint8_t *picture, size_t picture_len, const tz_settings *s,
-                                            const tz_record *record, const tz_window *window,
-                                            const uint8_t *map, size_t map_len, uint8_t *out, size_t out_len)
+TZ_FUNCTION uint32_t tzofnadir_draw_bytes(uint32_t film, uint32_t width, uint32_t height,
+                                          const uint8_t *picture, size_t picture_len, const tz_settings *s,
+                                          const tz_record *record, const tz_window *window,
+                                          const uint8_t *map, size_t map_len, uint8_t *out, size_t out_len)
 {
     uint32_t r[9];
     tz_record_numbers(record, r);
@@ -472,7 +492,7 @@ static inline uint32_t tzofnadir_draw_bytes(uint32_t film, uint32_t width, uint3
  * Refusals: header bytes from the front, where, behind "P5", a '#' instead of white space or a digit is 21 and any
  * other misfit, or the end of input, is 20; then 22, 23, 24, 25. Nothing of the samples is looked at.
  */
-static inline uint32_t tzofnadir_read_sizes(const uint8_t *bytes, size_t len, tz_sizes *sizes)
+TZ_FUNCTION uint32_t tzofnadir_read_sizes(const uint8_t *bytes, size_t len, tz_sizes *sizes)
 {
     uint32_t n[3] = {0};
     uint32_t refusal = tz_read_sizes(bytes, len, n);
@@ -487,7 +507,7 @@ static inline uint32_t tzofnadir_read_sizes(const uint8_t *bytes, size_t len, tz
 /*
  * Read, second question, over the same bytes: which part of them is the raster. Refusals as for the first.
  */
-static inline uint32_t tzofnadir_read_raster(const uint8_t *bytes, size_t len, tz_part *part)
+TZ_FUNCTION uint32_t tzofnadir_read_raster(const uint8_t *bytes, size_t len, tz_part *part)
 {
     size_t n[2] = {0};
     uint32_t refusal = tz_read_raster(bytes, len, n);
@@ -504,8 +524,8 @@ static inline uint32_t tzofnadir_read_raster(const uint8_t *bytes, size_t len, t
  *
  * Sizes: target_len at least width x height. Refusals, the first that applies: 22, 23, 24, 25, 27, 26.
  */
-static inline uint32_t tzofnadir_read_greys(const uint8_t *bytes, size_t len, size_t start, const tz_sizes *sizes,
-                                            uint16_t *target, size_t target_len)
+TZ_FUNCTION uint32_t tzofnadir_read_greys(const uint8_t *bytes, size_t len, size_t start, const tz_sizes *sizes,
+                                          uint16_t *target, size_t target_len)
 {
     return tz_read_greys(bytes, len, start, sizes->width, sizes->height, sizes->maxval, target, target_len);
 }
@@ -517,8 +537,8 @@ static inline uint32_t tzofnadir_read_greys(const uint8_t *bytes, size_t len, si
  * Sizes: picture_len is width x height; out_len at least the count, and tz_write_bytes is always enough.
  * Refusals, the first that applies: 22, 23, 2, 26, 27.
  */
-static inline uint32_t tzofnadir_write(const uint16_t *picture, size_t picture_len, const tz_sizes *sizes,
-                                       uint8_t *out, size_t out_len, size_t *count)
+TZ_FUNCTION uint32_t tzofnadir_write(const uint16_t *picture, size_t picture_len, const tz_sizes *sizes,
+                                     uint8_t *out, size_t out_len, size_t *count)
 {
     return tz_write(picture, picture_len, sizes->width, sizes->height, sizes->maxval, out, out_len, count);
 }
@@ -532,7 +552,7 @@ static inline uint32_t tzofnadir_write(const uint16_t *picture, size_t picture_l
  * 22 for an input above 32,768 bytes before all else, then as read gives them, where a film above 8,192 pixels is 22
  * too, then 26, then as prepare gives them, and so 31 where maxval is 1 or 2.
  */
-static inline uint32_t tzofnadir_listing(const uint8_t *bytes, size_t len, uint8_t *out, size_t out_len, size_t *count)
+TZ_FUNCTION uint32_t tzofnadir_listing(const uint8_t *bytes, size_t len, uint8_t *out, size_t out_len, size_t *count)
 {
     return tz_listing(bytes, len, out, out_len, count);
 }

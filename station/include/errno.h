@@ -7,4 +7,5 @@ int *__errno_location(void) __attribute__((const));
 #define EBADF 9
 #define EEXIST 17
 #define EISDIR 21
+#define EINVAL 22
 #endif

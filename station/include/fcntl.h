@@ -7,6 +7,7 @@
 #define O_WRONLY 1
 #define O_CREAT 0100
 #define O_EXCL 0200
+#define O_DIRECTORY 0200000
 #define O_CLOEXEC 02000000
 #define F_GETFD 1
 int open(const char *path, int how, ...);

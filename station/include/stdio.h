@@ -1,11 +1,14 @@
 #ifndef TZ_STDIO_H
 #define TZ_STDIO_H
 #include <stddef.h>
+#include <stdarg.h>
 typedef struct _IO_FILE FILE;
 extern FILE *stdout;
 extern FILE *stderr;
 int printf(const char *form, ...) __attribute__((format(printf, 1, 2)));
 int fprintf(FILE *stream, const char *form, ...) __attribute__((format(printf, 2, 3)));
+int vfprintf(FILE *stream, const char *form, va_list rest);
+int vsnprintf(char *out, size_t room, const char *form, va_list rest);
 int snprintf(char *out, size_t room, const char *form, ...) __attribute__((format(printf, 3, 4)));
 int sscanf(const char *text, const char *form, ...) __attribute__((format(scanf, 2, 3)));
 int fputs(const char *text, FILE *stream);

@@ -13,4 +13,5 @@ int fsync(int file);
 int unlink(const char *path);
 int access(const char *path, int how);
 int getpid(void);
+int isatty(int file);
 #endif

@@ -1,0 +1,115 @@
+# shellcheck shell=sh disable=SC2154,SC2034
+# station/faults.sh reads this: help, version, --quiet, --option=value, --, several films, progress.
+prints() { # WHAT TOLD WORDS..: status 0, TOLD on standard output, nothing on standard error
+    what=$1 told=$2
+    shift 2
+    "$@" >wrote 2>said
+    saw=$?
+    if [ "$saw" -eq 0 ] && grep -qF -- "$told" wrote && [ ! -s said ]; then ok=yes; else ok=no; fi
+    told=''
+    report "$ok" "$what" "status $saw: $(head -n 1 wrote)"
+}
+prints 'help' 'usage: tzofnadir enhance' "$tz" help
+prints '-h' 'usage: tzofnadir enhance' "$tz" -h
+prints '--help behind a command and a film' 'usage: tzofnadir enhance' "$tz" enhance film.pgm --help
+prints 'help behind a command' 'usage: tzofnadir enhance' "$tz" window help
+prints '-h behind words that are wrong' 'usage: tzofnadir enhance' "$tz" enhance --bins -h
+prints '--version is that of VERSION' "tzofnadir $(cat "$top/VERSION")" "$tz" --version
+grep -qxF "#define TZ_VERSION \"$(cat "$top/VERSION")\"" "$top/station/tzofnadir.h" && ok=yes || ok=no
+report "$ok" 'the header has the version of VERSION' "$(grep '^#define TZ_VERSION' "$top/station/tzofnadir.h")"
+prints 'station/render --help, and no toolchain' 'usage: tzofnadir enhance' env RATTLE_HOME=/nowhere "$top/station/render" --help
+prints 'station/render film.pgm help, and no toolchain' 'usage: tzofnadir enhance' env RATTLE_HOME=/nowhere "$top/station/render" film.pgm help
+prints 'station/build --help, and no toolchain' 'station/build: builds' env RATTLE_HOME=/nowhere "$top/station/build" --help
+"$tz" help >/dev/full 2>said
+judge 'help on a full device' 74 $?
+
+"$tz" enhance film.pgm spaced.pgm --clip 2.5 --bins 256 2>spaced
+"$tz" enhance film.pgm "$out" --clip=2.5 --bins=256 2>said
+saw=$?
+if [ "$saw" -eq 0 ] && cmp -s spaced.pgm "$out" && cmp -s spaced said; then ok=yes; else ok=no; fi
+report "$ok" '--clip=2.5 as --clip 2.5' "status $saw: $(head -n 1 said)"
+try '--clip= without a value' 64 enhance film.pgm "$out" --clip=
+try '--quiet with a value' 64 enhance film.pgm "$out" --quiet=yes
+try 'an option cut short' 64 enhance film.pgm "$out" --bin=64
+told='bins 1024, chosen by the range 0 to 4095'
+try 'no bins: what was chosen is told' 0 enhance film.pgm "$out"
+told='bins 256, chosen by the range 100 to 355'
+{ printf 'P5\n16 16\n4095\n'; head -c 512 /dev/zero | tr '\0' '\1'; } >flat.pgm
+try 'no bins: a grey each in a short range' 0 enhance flat.pgm "$out" --range 100:355
+"$tz" enhance film.pgm usual.pgm --bins 128 2>said
+"$tz" enhance film.pgm "$out" --bins 0 2>said
+saw=$?
+if [ "$saw" -eq 0 ] && cmp -s usual.pgm "$out" && grep -q '^limit 72,' said && ! grep -q '^bins' said; then ok=yes; else ok=no; fi
+report "$ok" '--bins 0 is --bins 128' "status $saw: $(head -n 1 said)"
+"$tz" enhance film.pgm "$out" --quiet >wrote 2>said
+saw=$?
+if [ "$saw" -eq 0 ] && whole "$out" && [ ! -s said ] && [ ! -s wrote ]; then ok=yes; else ok=no; fi
+report "$ok" '--quiet: the film, and not a word' "status $saw"
+try '--quiet: a refusal is told all the same' 13 enhance film.pgm "$out" --quiet --range 0:9
+
+# names that look like options
+cp film.pgm ./--bins
+(cd "$room" && "$tz" enhance --bins 128 -- --bins -h) 2>said
+saw=$?
+if [ "$saw" -eq 0 ] && cmp -s usual.pgm ./-h; then ok=yes; else ok=no; fi
+report "$ok" 'files named --bins and -h behind --' "status $saw"
+rm -f ./--bins ./-h
+try 'no name behind --' 64 enhance film.pgm --
+
+# ---- several films
+mkdir films many_out more
+cp film.pgm films/a.pgm
+cp cut.pgm films/b.pgm
+cp shallow.pgm films/c.pgm
+cp short.pgm films/d.pgm
+"$tz" enhance film.pgm alone.pgm 2>said
+several() { # WHAT WANTED TOLD WORDS..
+    what=$1 wanted=$2 told=$3
+    shift 3
+    rm -rf many_out
+    mkdir many_out
+    "$tz" enhance --into many_out "$@" >wrote 2>said
+    saw=$?
+    if [ "$saw" -eq "$wanted" ] && grep -qF -- "$told" said && no_leftover many_out; then ok=yes; else ok=no; fi
+    told=''
+    report "$ok" "$what" "status $saw: $(tail -n 1 said | cut -c 1-90)"
+}
+several 'two films into a folder' 0 '2 films rendered into many_out' films/a.pgm films/c.pgm
+cmp -s alone.pgm many_out/a.pgm && [ -f many_out/c.pgm ] && ok=yes || ok=no
+report "$ok" 'two films into a folder: each as alone' "$(cd many_out && echo *)"
+several 'four films, two of them refused: the first one counts' 20 'films/d.pgm (status 24)' films/a.pgm films/b.pgm films/c.pgm films/d.pgm
+cmp -s alone.pgm many_out/a.pgm && [ "$(cd many_out && echo *)" = 'a.pgm c.pgm' ] && ok=yes || ok=no
+report "$ok" 'four films: the two that are not refused' "$(cd many_out && echo *)"
+several 'a film that is not there, and one that is' 66 '1 of 2 films were not rendered:' films/nowhere.pgm films/a.pgm
+cmp -s alone.pgm many_out/a.pgm && ok=yes || ok=no
+report "$ok" 'a film that is not there, and one that is: rendered' "$(cd many_out && echo *)"
+several 'two films of one name' 64 'two films would have the same name' films/a.pgm ./films/c.pgm ./films/a.pgm
+several 'standard input into a folder' 64 'standard input has no name' films/a.pgm -
+several 'no film into a folder' 64 'a film is missing' --bins 64
+several '--record with --into' 64 'it is --records' films/a.pgm --record x.json
+several '--records: a record beside each rendering' 0 '2 films rendered' --records films/a.pgm films/c.pgm
+if [ "$(cd many_out && echo *)" = 'a.pgm a.pgm.json c.pgm c.pgm.json' ] && grep -q "$(sha256sum many_out/c.pgm | cut -c 1-64)" many_out/c.pgm.json; then ok=yes; else ok=no; fi
+report "$ok" '--records: their names and digests' "$(cd many_out && echo *)"
+try '--records without --into' 64 enhance film.pgm "$out" --records
+try '--into of a window' 64 window --into out film.pgm --at 0,0 --size 8x8
+try '--into no folder' 73 enhance --into nowhere film.pgm
+try '--into a file' 73 enhance --into film.pgm films/a.pgm
+told='the rendering would take the scan'
+cp film.pgm more/a.pgm
+try '--into the folder of the scans' 64 enhance --into more films/c.pgm ./more/a.pgm
+if cmp -s film.pgm more/a.pgm && [ ! -e more/c.pgm ]; then ok=yes; else ok=no; fi
+report "$ok" '--into the folder of the scans: nothing was begun' "$(cd more && echo *)"
+told='several films want --into FOLDER'
+try 'three names and no --into' 64 enhance film.pgm "$out" films/a.pgm
+
+# ---- a terminal: script makes one
+if command -v script >/dev/null; then
+    script -qec "'$tz' enhance --into many_out films/a.pgm films/c.pgm" typed </dev/null >/dev/null 2>&1
+    if grep -qF '2 of 2: films/c.pgm: rendering' typed && grep -q 'films/c.pgm: limit' typed; then ok=yes; else ok=no; fi
+    report "$ok" 'progress on a terminal' "$(tr '\r' '\n' <typed | grep -c rendering) lines written over"
+    script -qec "'$tz' enhance --quiet --into many_out films/a.pgm films/c.pgm" typed </dev/null >/dev/null 2>&1
+    if grep -q rendering typed; then ok=no; else ok=yes; fi
+    report "$ok" 'no progress with --quiet' ''
+else
+    skip 'progress on a terminal: there is no script (util-linux) here'
+fi

@@ -1,0 +1,80 @@
+# shellcheck shell=sh disable=SC2154,SC2034
+# station/faults.sh reads this: what the messages name, and tzofnadir info.
+told='pixels wide and 384 high'
+try 'grid 7x8: the film and the grids that fit' 5 enhance film.pgm "$out" --grid 7x8
+told='Tiles across that fit: 2 4 8 16. Tiles down that fit: 2 3 4 6 8 12 16.'
+try 'grid 8x7: the same' 6 enhance film.pgm "$out" --grid 8x7
+told='-width=511 -height=384 film.pgm'
+try 'grid 7x8: what is to be cut off' 5 enhance film.pgm "$out" --grid 7x8
+{ printf 'P5\n509 8\n255\n'; head -c 4072 /dev/zero; } >prime.pgm
+told='Tiles across that fit: none.'
+try 'a width that no grid fits' 5 enhance prime.pgm "$out"
+told='The first is at column 120, row 0: grey 1015, and the range is 0 to 1000.'
+try 'range 0:1000: the first pixel outside' 13 enhance film.pgm "$out" --range 0:1000
+told="The film's least grey is 450, its greatest 3388: --range 450:3388 holds them all."
+try 'range 0:1000: least and greatest grey' 13 enhance film.pgm "$out" --range 0:1000
+try 'the range that was named' 0 enhance film.pgm "$out" --range 450:3388
+told='Asked was the range from 0 to 4096'
+try 'range 0:4096: what was asked' 7 enhance film.pgm "$out" --range 0:4096
+told='--bins 4097 '
+try 'bins 4097: what was asked' 9 enhance film.pgm "$out" --bins 4097
+told='Asked were 128 bins; the range 100 to 199 has 100 greys: --bins 100 is the most'
+try 'more bins than greys: the numbers' 31 enhance film.pgm "$out" --bins 0 --range 100:199
+told='--clip 0.5.'
+try 'clip 0.5: what was asked' 10 enhance film.pgm "$out" --clip 0.5
+told='From there it has 1 by 384.'
+try 'a window across the edge: what is there' 16 window film.pgm "$out" --at 511,0 --size 2x2
+told='--range 0:255 keeps below it'
+try 'a rendering above maxval: the range' 26 enhance shallow.pgm "$out" --range 0:4095
+
+# Files of other kinds: what each is told to be.
+kind() { # WHAT BYTES TOLD
+    # shellcheck disable=SC2059
+    printf "$2" >kind.pgm
+    told=$3
+    try "$1" 20 enhance kind.pgm "$out"
+}
+kind 'a plain PGM' 'P2\n2 2\n15\n1 2 3 4\n' 'It is a plain PGM (P2)'
+kind 'a PPM' 'P6\n2 2\n255\nabcdefghijkl' 'It is a PPM (P6), in colour. A raw PGM is made of it by: ppmtopgm kind.pgm >NEW.pgm'
+kind 'a PNG' '\211PNG\r\n\032\nIHDR' 'It is a PNG'
+kind 'a TIFF, low byte first' 'II*\0\010\0\0\0' 'It is a TIFF'
+kind 'a TIFF, high byte first' 'MM\0*\0\0\0\010' 'It is a TIFF'
+kind 'a JPEG' '\377\330\377\340' 'It is a JPEG'
+kind 'no file of a known kind' 'hello' 'It begins with byte 104'
+kind 'an empty file' '' 'It is empty'
+kind 'P5, and a header that breaks off' 'P5\n512 x384\n255\n' 'behind 1 of its three numbers the header breaks off, at byte 7'
+kind 'P5, and a header that ends' 'P5\n512 38' 'behind 2 of its three numbers the header ends'
+told='behind it stand 393215'
+try 'a file cut by one byte: how long it is' 24 enhance short.pgm "$out"
+told='two bytes, 393216 bytes; behind it stand 393217'
+try 'a file with one byte more: how long it is' 25 enhance long.pgm "$out"
+told='The header says 99999 by 99999 pixels'
+try 'a film of 99999 by 99999: what the header says' 22 enhance huge.pgm "$out"
+told='pamdepth 4095 deeper.pgm'
+{ printf 'P5\n2 2\n65535\n'; printf 'hellothe'; } >deeper.pgm
+try 'a maxval of 65535, and samples as high: Netpbm' 23 enhance deeper.pgm "$out"
+
+# Where a new header is all that is needed, the message has the command: it is run, and the film rendered.
+way_out() { # WHAT STATUS FILM
+    told='A new header alone does it'
+    try "$1" "$2" enhance "$3" "$out"
+    sed -n 's/.*alone does it: //p' said >way.sh
+    sh ./way.sh
+    try "$1: the way out" 0 enhance NEW.pgm "$out"
+}
+way_out 'a comment in the header' 21 comment.pgm
+{ printf 'P5\n# scan\n512 384\n65535\n'; raster; } >both.pgm
+way_out 'a comment, a maxval of 65535, and samples of 12 bits' 21 both.pgm
+way_out 'a maxval of 65535, and samples of 12 bits' 23 deep.pgm
+way_out 'a sample above maxval' 26 above.pgm
+
+printf 'width\t512\nheight\t384\nmaxval\t4095\nleast\t450\ngreatest\t3388\nacross\t2 4 8 16\ndown\t2 3 4 6 8 12 16\n' >wanted
+"$tz" info film.pgm >wrote 2>said
+saw=$?
+if [ "$saw" -eq 0 ] && cmp -s wanted wrote; then ok=yes; else ok=no; fi
+report "$ok" 'info' "status $saw: $(tr '\n\t' ';=' <wrote)"
+try 'info of a cut file' 24 info short.pgm
+try 'info of two files' 64 info film.pgm film.pgm
+try 'info with a setting' 64 info film.pgm --bins 64
+"$tz" info film.pgm >/dev/full 2>said
+judge 'info on a full device' 74 $?

@@ -1,0 +1,361 @@
+#include "film.h"
+
+#include <stdio.h>
+#include <stdlib.h>
+#include <string.h>
+#include <unistd.h>
+
+#include "messages.h"
+#include "record.h"
+#include "refuse.h"
+
+/* One film is open, so any number does. */
+#define FILM 1u
+
+/* The most bins that are taken where none are asked for. */
+#define MOST_CHOSEN_BINS 1024u
+
+/* ---- greys ---- */
+
+struct span span_of(const uint16_t *picture, size_t pixels)
+{
+    struct span s = {picture[0], picture[0]};
+    for (size_t i = 1; i < pixels; i++) {
+        if (picture[i] < s.least)
+            s.least = picture[i];
+        if (picture[i] > s.greatest)
+            s.greatest = picture[i];
+    }
+    return s;
+}
+
+/* Refusals 5 and 6, the other way round. */
+static int fits(uint32_t side, uint32_t tiles) { return side % tiles == 0; }
+
+void grids_that_fit(uint32_t side, char *text, size_t room)
+{
+    size_t at = 0;
+    for (uint32_t tiles = TZ_LEAST_GRID; tiles <= TZ_MOST_GRID; tiles++)
+        if (fits(side, tiles) && at < room)
+            at += (size_t)snprintf(text + at, room - at, at == 0 ? "%u" : " %u", (unsigned)tiles);
+    if (at == 0)
+        snprintf(text, room, "none");
+}
+
+/* ---- the film ---- */
+
+static void doing(const struct run *run, const char *what)
+{
+    if (run->task.of > 1)
+        progress("%d of %d: %s: %s", run->task.which, run->task.of, input_name(run->task.in), what);
+    else
+        progress("%s: %s", input_name(run->task.in), what);
+}
+
+/* What the front of a file settles, whatever stands behind it. The other answers about a file hang on where it ends. */
+static int settled(uint32_t refusal)
+{
+    return refusal == TZ_COMMENT || refusal == TZ_FILE_SIZE || refusal == TZ_MAXVAL || refusal == TZ_RASTER_LONG;
+}
+
+static int read_greys(struct run *run, size_t start)
+{
+    run->pixels = (size_t)run->sizes.width * run->sizes.height;
+    run->picture = calloc(run->pixels, sizeof *run->picture);
+    if (run->picture == NULL)
+        return no_memory();
+    uint32_t refusal = tzofnadir_read_greys(run->input.bytes, run->input.len, start, &run->sizes, run->picture, run->pixels);
+    return refusal == TZ_DONE ? 0 : refuse(refusal, run);
+}
+
+static int fetch(struct run *run)
+{
+    doing(run, "reading");
+    int code = read_input(run->task.in, &run->input);
+    if (code == 0 && run->task.record != NULL)
+        sha256_text(run->input.bytes, run->input.len, run->digest);
+    return code;
+}
+
+static int read_film(struct run *run)
+{
+    tz_part part = {0, 0};
+    int bytes = (run->job->given & BYTES) != 0;
+    int code = fetch(run);
+    if (code != 0)
+        return code;
+    uint32_t refusal = tzofnadir_read_sizes(run->input.bytes, run->input.len, &run->sizes);
+    if (run->input.cut && !settled(refusal))
+        return too_long(run);
+    if (refusal == TZ_DONE && bytes && run->sizes.maxval > 255)
+        return bad_words("--bytes takes a film of one byte a sample, of maxval 255 at most, and no other", input_name(run->task.in));
+    if (refusal == TZ_DONE)
+        refusal = tzofnadir_read_raster(run->input.bytes, run->input.len, &part);
+    if (refusal != TZ_DONE)
+        return refuse(refusal, run);
+    code = read_greys(run, part.start);
+    if (bytes)
+        run->film = run->input.bytes + part.start;
+    return code;
+}
+
+/* The greys are all that is needed of the input from here on, unless its bytes are the film. */
+static void drop_input(struct run *run)
+{
+    if (run->film != NULL)
+        return;
+    free(run->input.bytes);
+    run->input.bytes = NULL;
+}
+
+/* ---- rendering ---- */
+
+/* The bins where none are asked for: a bin for each grey of the range, so that the rendering has no steps that are not in
+   the film, up to a number that keeps the mappings small. A range that will be refused has no greys to go by. */
+static uint32_t chosen_bins(uint32_t min, uint32_t max)
+{
+    uint32_t more = max > min ? max - min : TZ_USUAL_BINS - 1;
+    return more < MOST_CHOSEN_BINS ? more + 1 : MOST_CHOSEN_BINS;
+}
+
+/* Settles by the film what the words leave open. */
+static void settle(struct run *run)
+{
+    tz_settings *s = &run->settings;
+    if ((run->job->given & RANGE) == 0) {
+        s->min = 0;
+        s->max = (run->job->given & BYTES) != 0 ? 255 : run->sizes.maxval;
+    }
+    if ((run->job->given & BINS) == 0)
+        s->bins = chosen_bins(s->min, s->max);
+}
+
+/* Reads the film, settles the settings and lends map and scratch. */
+static int begin(struct run *run)
+{
+    int code = read_film(run);
+    if (code != 0)
+        return code;
+    drop_input(run);
+    settle(run);
+    doing(run, "rendering");
+    const tz_settings *s = &run->settings;
+    /* one entry more, so that there is memory to point at whatever the settings say */
+    size_t entries = tz_map_entries(s) + 1;
+    if (run->film != NULL)
+        run->byte_map = calloc(entries, sizeof *run->byte_map);
+    else
+        run->map = calloc(entries, sizeof *run->map);
+    run->scratch = calloc(tz_scratch_entries(s) + 1, sizeof *run->scratch);
+    return (run->map == NULL && run->byte_map == NULL) || run->scratch == NULL ? no_memory() : 0;
+}
+
+/* The writer takes greys of 16 bits. */
+static void widen(const uint8_t *from, size_t count, uint16_t *to)
+{
+    for (size_t i = 0; i < count; i++)
+        to[i] = from[i];
+}
+
+/* What was chosen, and what clipping did; of several films behind each one's name. */
+static void tell_footer(const struct run *run)
+{
+    const tz_footer *footer = &run->footer;
+    int named = (run->job->given & INTO) != 0;
+    const char *name = named ? run->task.in : "", *mark = named ? ": " : "";
+    if ((run->job->given & BINS) == 0)
+        tell("%s%sbins %u, chosen by the range %u to %u", name, mark, (unsigned)run->settings.bins,
+             (unsigned)run->settings.min, (unsigned)run->settings.max);
+    tell("%s%slimit %u, factor asked %.9g, factor used %.17g", name, mark, (unsigned)footer->limit,
+         (double)footer->asked, footer->used);
+}
+
+/* The record gets its place before the film does: there is never a new film without it. */
+static int put_film(struct run *run, const tz_sizes *sizes, size_t count)
+{
+    struct output outs[MOST_OUTPUTS];
+    int many = 0;
+    if (run->task.record != NULL) {
+        run->record = record_text(run, sizes, run->file, count);
+        if (run->record == NULL)
+            return no_memory();
+        outs[many++] = (struct output){.name = run->task.record, .bytes = (const uint8_t *)run->record,
+                                       .count = strlen(run->record)};
+    }
+    outs[many++] = (struct output){.name = run->task.out, .bytes = run->file, .count = count};
+    return put_outputs(outs, many);
+}
+
+static int write_film(struct run *run, const uint16_t *picture, const tz_sizes *sizes)
+{
+    size_t pixels = (size_t)sizes->width * sizes->height;
+    size_t room = tz_write_bytes(sizes->width, sizes->height);
+    size_t count = 0;
+    doing(run, "writing");
+    run->file = malloc(room);
+    if (run->file == NULL)
+        return no_memory();
+    uint32_t refusal = tzofnadir_write(picture, pixels, sizes, run->file, room, &count);
+    if (refusal == TZ_SAMPLE) /* the film's own samples were in order, or it would not have been read */
+        return refuse_rendering(run);
+    if (refusal != TZ_DONE)
+        return refuse(refusal, run);
+    int code = put_film(run, sizes, count);
+    if (code == 0)
+        tell_footer(run);
+    return code;
+}
+
+static uint32_t enhance_bytes(struct run *run)
+{
+    const tz_settings *s = &run->settings;
+    uint32_t refusal = tzofnadir_enhance_bytes(run->sizes.width, run->sizes.height, run->film, run->pixels, s,
+                                               run->byte_map, tz_map_entries(s), run->scratch, tz_scratch_entries(s),
+                                               &run->footer);
+    if (refusal == TZ_DONE)
+        widen(run->film, run->pixels, run->picture);
+    return refusal;
+}
+
+static uint32_t enhance_greys(struct run *run)
+{
+    const tz_settings *s = &run->settings;
+    return tzofnadir_enhance(run->sizes.width, run->sizes.height, run->picture, run->pixels, s, run->map,
+                             tz_map_entries(s), run->scratch, tz_scratch_entries(s), &run->footer);
+}
+
+static int enhance(struct run *run)
+{
+    int code = begin(run);
+    if (code != 0)
+        return code;
+    uint32_t refusal = run->film != NULL ? enhance_bytes(run) : enhance_greys(run);
+    return refusal == TZ_DONE ? write_film(run, run->picture, &run->sizes) : refuse(refusal, run);
+}
+
+static uint32_t draw_bytes(struct run *run, size_t area)
+{
+    tz_record record;
+    const tz_settings *s = &run->settings;
+    uint32_t refusal = tzofnadir_prepare_bytes(FILM, run->sizes.width, run->sizes.height, run->film, run->pixels, s,
+                                               run->byte_map, tz_map_entries(s), run->scratch, tz_scratch_entries(s),
+                                               &record, &run->footer);
+    if (refusal == TZ_DONE)
+        refusal = tzofnadir_draw_bytes(FILM, run->sizes.width, run->sizes.height, run->film, run->pixels, s, &record,
+                                       &run->job->window, run->byte_map, tz_map_entries(s), run->byte_drawn, area);
+    if (refusal == TZ_DONE)
+        widen(run->byte_drawn, area, run->drawn);
+    return refusal;
+}
+
+static uint32_t draw_greys(struct run *run, size_t area)
+{
+    tz_record record;
+    const tz_settings *s = &run->settings;
+    uint32_t refusal = tzofnadir_prepare(FILM, run->sizes.width, run->sizes.height, run->picture, run->pixels, s,
+                                         run->map, tz_map_entries(s), run->scratch, tz_scratch_entries(s), &record,
+                                         &run->footer);
+    if (refusal == TZ_DONE)
+        refusal = tzofnadir_draw(FILM, run->sizes.width, run->sizes.height, run->picture, run->pixels, s, &record,
+                                 &run->job->window, run->map, tz_map_entries(s), run->drawn, area);
+    return refusal;
+}
+
+static int window(struct run *run)
+{
+    int code = begin(run);
+    if (code != 0)
+        return code;
+    const tz_window *at = &run->job->window;
+    /* a window of more pixels than the film is refused before its output is looked at */
+    uint64_t wanted = (uint64_t)at->width * at->height;
+    size_t area = wanted <= run->pixels ? (size_t)wanted : run->pixels;
+    tz_sizes sizes = {at->width, at->height, run->sizes.maxval};
+    run->drawn = calloc(area + 1, sizeof *run->drawn);
+    if (run->film != NULL)
+        run->byte_drawn = calloc(area + 1, sizeof *run->byte_drawn);
+    if (run->drawn == NULL || (run->film != NULL && run->byte_drawn == NULL))
+        return no_memory();
+    uint32_t refusal = run->film != NULL ? draw_bytes(run, area) : draw_greys(run, area);
+    return refusal == TZ_DONE ? write_film(run, run->drawn, &sizes) : refuse(refusal, run);
+}
+
+/* ---- what is printed of a film ---- */
+
+/* The number of a listing that says `refused`, tab, number; else 0. */
+static uint32_t listed_refusal(const uint8_t *text, size_t count)
+{
+    static const char word[] = "refused\t";
+    uint32_t number = 0;
+    if (count < sizeof word || memcmp(text, word, sizeof word - 1) != 0)
+        return TZ_DONE;
+    for (size_t i = sizeof word - 1; i < count && text[i] >= '0' && text[i] <= '9'; i++)
+        number = number * 10 + (uint32_t)(text[i] - '0');
+    return number;
+}
+
+static int listing(struct run *run)
+{
+    uint8_t text[TZ_LISTING_BYTES] = {0};
+    size_t count = 0;
+    int code = fetch(run);
+    if (code != 0)
+        return code;
+    uint32_t refusal = tzofnadir_listing(run->input.bytes, run->input.len, text, sizeof text, &count);
+    if (refusal != TZ_DONE)
+        return refuse(refusal, run);
+    code = put_straight(STDOUT_FILENO, output_name("-"), text, count);
+    refusal = listed_refusal(text, count);
+    return refusal == TZ_DONE ? code : refuse(refusal, run);
+}
+
+static int info(struct run *run)
+{
+    char text[512], across[64], down[64];
+    int code = read_film(run);
+    if (code != 0)
+        return code;
+    struct span greys = span_of(run->picture, run->pixels);
+    grids_that_fit(run->sizes.width, across, sizeof across);
+    grids_that_fit(run->sizes.height, down, sizeof down);
+    int count = snprintf(text, sizeof text,
+                         "width\t%u\nheight\t%u\nmaxval\t%u\nleast\t%u\ngreatest\t%u\nacross\t%s\ndown\t%s\n",
+                         (unsigned)run->sizes.width, (unsigned)run->sizes.height, (unsigned)run->sizes.maxval,
+                         (unsigned)greys.least, (unsigned)greys.greatest, across, down);
+    return put_straight(STDOUT_FILENO, output_name("-"), (const uint8_t *)text, (size_t)count);
+}
+
+/* ---- the frame ---- */
+
+static void let_go(struct run *run)
+{
+    free(run->input.bytes);
+    free(run->picture);
+    free(run->map);
+    free(run->byte_map);
+    free(run->scratch);
+    free(run->drawn);
+    free(run->byte_drawn);
+    free(run->file);
+    free(run->record);
+}
+
+/* A record would replace a film. */
+static int wrong_record(const struct task *task)
+{
+    return task->record != NULL && (same_place(task->record, task->out) ||
+                                    (!is_dash(task->in) && same_place(task->record, task->in)));
+}
+
+int run_film(const struct job *job, const struct task *task)
+{
+    static int (*const commands[])(struct run *) = {
+        [ENHANCE] = enhance, [WINDOW] = window, [LISTING] = listing, [INFO] = info};
+    struct run run = {.job = job, .task = *task, .settings = job->settings};
+    if (wrong_record(task))
+        return bad_words("the record would take a film's place", task->record);
+    int code = commands[job->command](&run);
+    end_progress();
+    let_go(&run);
+    return code;
+}

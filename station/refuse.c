@@ -1,0 +1,357 @@
+#include "refuse.h"
+
+#include <stdio.h>
+#include <string.h>
+
+#include "messages.h"
+
+/* ---- the file's front, read once more for a person ---- */
+
+/* What a header says, as far as it can be read, comments passed over. Messages alone hang on it. */
+struct front {
+    uint32_t width, height, maxval;
+    int numbers;   /* how many of the three are there */
+    size_t raster; /* where the raster starts */
+    size_t bytes;  /* and how many bytes it should have */
+};
+
+static int is_white(uint8_t byte) { return byte == ' ' || byte == '\t' || byte == '\r' || byte == '\n'; }
+
+static int is_digit(uint8_t byte) { return byte >= '0' && byte <= '9'; }
+
+/* Behind white space and comments. */
+static size_t behind_gap(const struct input *in, size_t at)
+{
+    while (at < in->len && (is_white(in->bytes[at]) || in->bytes[at] == '#')) {
+        if (in->bytes[at] == '#')
+            while (at + 1 < in->len && in->bytes[at + 1] != '\n')
+                at++;
+        at++;
+    }
+    return at;
+}
+
+/* A number of up to nine digits at a place, and the place behind it; the same place where there is none. */
+static size_t number_at(const struct input *in, size_t at, uint32_t *out)
+{
+    uint32_t sum = 0;
+    size_t first = at;
+    for (; at < in->len && at < first + 9 && is_digit(in->bytes[at]); at++)
+        sum = sum * 10 + (uint32_t)(in->bytes[at] - '0');
+    *out = sum;
+    return at;
+}
+
+static struct front front_of(const struct input *in)
+{
+    struct front f = {0, 0, 0, 0, 2, 0};
+    uint32_t *const places[3] = {&f.width, &f.height, &f.maxval};
+    while (f.numbers < 3) {
+        size_t from = behind_gap(in, f.raster);
+        size_t to = number_at(in, from, places[f.numbers]);
+        f.raster = to;
+        if (to == from)
+            return f;
+        f.numbers++;
+    }
+    f.raster = f.raster < in->len ? f.raster + 1 : in->len;
+    f.bytes = (size_t)f.width * f.height * (f.maxval < 256 ? 1 : 2);
+    return f;
+}
+
+static uint32_t sample(const struct input *in, const struct front *f, size_t i)
+{
+    const uint8_t *at = in->bytes + f->raster;
+    return f->maxval < 256 ? at[i] : (uint32_t)at[2 * i] * 256 + at[2 * i + 1];
+}
+
+/* The samples that are there, of those that should be. */
+static size_t samples(const struct input *in, const struct front *f)
+{
+    size_t there = in->len - f->raster;
+    return (there < f->bytes ? there : f->bytes) / (f->maxval < 256 ? 1 : 2);
+}
+
+static uint32_t greatest_sample(const struct input *in, const struct front *f)
+{
+    uint32_t greatest = 0;
+    size_t count = samples(in, f);
+    for (size_t i = 0; i < count; i++)
+        if (sample(in, f, i) > greatest)
+            greatest = sample(in, f, i);
+    return greatest;
+}
+
+/* ---- ways out ---- */
+
+/* The input's name where a shell takes it as it stands; else a word in its place. */
+static const char *shell_name(const char *name)
+{
+    static const char plain[] = "abcdefghijklmnopqrstuvwxyzABCDEFGHIJKLMNOPQRSTUVWXYZ0123456789._/-+,";
+    return name[0] != '-' && name[0] != '\0' && name[strspn(name, plain)] == '\0' ? name : "IN.pgm";
+}
+
+/* The same raster behind another header. */
+static void way_by_header(const struct run *run, const struct front *f, uint32_t maxval)
+{
+    say_more("A new header alone does it: { printf 'P5\\n%u %u\\n%u\\n'; tail -c %zu %s; } >NEW.pgm", (unsigned)f->width,
+             (unsigned)f->height, (unsigned)maxval, f->bytes, shell_name(run->task.in));
+}
+
+static void way_by_range(const struct run *run, struct span greys)
+{
+    int flat = greys.least == greys.greatest;
+    say_more("The film's least grey is %u, its greatest %u: --range %u:%u holds them all.", (unsigned)greys.least,
+             (unsigned)greys.greatest, flat ? 0u : (unsigned)greys.least,
+             flat ? (unsigned)run->sizes.maxval : (unsigned)greys.greatest);
+}
+
+/* ---- the settings ---- */
+
+static void more_settings(const struct run *run)
+{
+    const tz_settings *s = &run->settings;
+    char clip[32] = "off";
+    if (s->clip)
+        snprintf(clip, sizeof clip, "%.9g", (double)s->factor);
+    say_more("The settings were --grid %ux%u --bins %u --range %u:%u (%u greys) --clip %s.", (unsigned)s->across,
+             (unsigned)s->down, (unsigned)tz_bins_of(s), (unsigned)s->min, (unsigned)s->max,
+             s->max >= s->min ? (unsigned)(s->max - s->min) + 1u : 0u, clip);
+}
+
+static void more_bins(const struct run *run)
+{
+    const tz_settings *s = &run->settings;
+    say_more("Asked were %u bins; the range %u to %u has %u greys: --bins %u is the most, and what is taken without --bins.",
+             (unsigned)tz_bins_of(s), (unsigned)s->min, (unsigned)s->max, (unsigned)(s->max - s->min) + 1u,
+             (unsigned)(s->max - s->min) + 1u);
+}
+
+static void more_grid(const struct run *run)
+{
+    char across[64], down[64];
+    const tz_settings *s = &run->settings;
+    grids_that_fit(run->sizes.width, across, sizeof across);
+    grids_that_fit(run->sizes.height, down, sizeof down);
+    say_more("Asked were %u tiles across and %u down; the film is %u pixels wide and %u high.", (unsigned)s->across,
+             (unsigned)s->down, (unsigned)run->sizes.width, (unsigned)run->sizes.height);
+    say_more("Tiles across that fit: %s. Tiles down that fit: %s.", across, down);
+}
+
+static void more_sides(const struct run *run)
+{
+    const tz_settings *s = &run->settings;
+    uint32_t width = run->sizes.width - run->sizes.width % s->across;
+    uint32_t height = run->sizes.height - run->sizes.height % s->down;
+    more_grid(run);
+    if (width > 0 && height > 0)
+        say_more("Or a part of it that fits, cut out by Netpbm: pamcut -left=0 -top=0 -width=%u -height=%u %s >NEW.pgm",
+                 (unsigned)width, (unsigned)height, shell_name(run->task.in));
+}
+
+static void more_range(const struct run *run)
+{
+    say_more("Asked was the range from %u to %u; the file's maxval is %u.", (unsigned)run->settings.min,
+             (unsigned)run->settings.max, (unsigned)run->sizes.maxval);
+    way_by_range(run, span_of(run->picture, run->pixels));
+}
+
+static void more_pixel(const struct run *run)
+{
+    const tz_settings *s = &run->settings;
+    size_t at = 0;
+    while (at < run->pixels && run->picture[at] >= s->min && run->picture[at] <= s->max)
+        at++;
+    if (at == run->pixels)
+        return;
+    say_more("The first is at column %u, row %u: grey %u, and the range is %u to %u.",
+             (unsigned)(at % run->sizes.width), (unsigned)(at / run->sizes.width), (unsigned)run->picture[at],
+             (unsigned)s->min, (unsigned)s->max);
+    way_by_range(run, span_of(run->picture, run->pixels));
+}
+
+static void more_window(const struct run *run)
+{
+    const tz_window *w = &run->job->window;
+    say_more("Asked were %u by %u pixels from column %u, row %u on; the film is %u by %u.", (unsigned)w->width,
+             (unsigned)w->height, (unsigned)w->left, (unsigned)w->top, (unsigned)run->sizes.width,
+             (unsigned)run->sizes.height);
+    if (w->left < run->sizes.width && w->top < run->sizes.height)
+        say_more("From there it has %u by %u.", (unsigned)(run->sizes.width - w->left),
+                 (unsigned)(run->sizes.height - w->top));
+}
+
+/* ---- the file ---- */
+
+/* Files that are often handed in for a raw PGM, by their first bytes. The ways are Netpbm's, with the file's name between
+   the two parts. */
+static const struct kind {
+    const char *begins;
+    size_t length;
+    const char *what, *by, *and_then;
+} kinds[] = {
+    {"P2", 2, "a plain PGM (P2), its numbers in text", "pgmtopgm ", ""},
+    {"P1", 2, "a plain bitmap (P1), black and white alone", "pgmtopgm ", ""},
+    {"P4", 2, "a bitmap (P4), black and white alone", "pgmtopgm ", ""},
+    {"P3", 2, "a plain PPM (P3), in colour", "ppmtopgm ", ""},
+    {"P6", 2, "a PPM (P6), in colour", "ppmtopgm ", ""},
+    {"P7", 2, "a PAM (P7)", "pamtopnm ", ""},
+    {"\x89PNG", 4, "a PNG", "pngtopam ", " | ppmtopgm | pamdepth 4095"},
+    {"II*\0", 4, "a TIFF", "tifftopnm ", " | ppmtopgm | pamdepth 4095"},
+    {"MM\0*", 4, "a TIFF", "tifftopnm ", " | ppmtopgm | pamdepth 4095"},
+    {"\xff\xd8\xff", 3, "a JPEG", "jpegtopnm ", " | ppmtopgm"},
+    {"\x1f\x8b", 2, "packed by gzip", "gunzip <", ""},
+};
+
+static void say_kind(const struct run *run, const struct kind *kind)
+{
+    say_more("It is %s. A raw PGM is made of it by: %s%s%s >NEW.pgm", kind->what, kind->by, shell_name(run->task.in),
+             kind->and_then);
+}
+
+static void say_broken(const struct input *in)
+{
+    struct front f = front_of(in);
+    say_more("It begins with P5, and behind %d of its three numbers the header %s, at byte %zu.", f.numbers,
+             f.raster >= in->len ? "ends" : "breaks off", f.raster);
+    say_more("Due are width, height and maxval, of up to five digits, each behind white space, and one white space byte.");
+}
+
+static void more_header(const struct run *run)
+{
+    const struct input *in = &run->input;
+    for (unsigned i = 0; i < sizeof kinds / sizeof kinds[0]; i++)
+        if (in->len >= kinds[i].length && memcmp(in->bytes, kinds[i].begins, kinds[i].length) == 0) {
+            say_kind(run, &kinds[i]);
+            return;
+        }
+    if (in->len == 0)
+        say_more("It is empty.");
+    else if (in->len >= 2 && memcmp(in->bytes, "P5", 2) == 0)
+        say_broken(in);
+    else if (in->len >= 132 && memcmp(in->bytes + 128, "DICM", 4) == 0)
+        say_more("It is a DICOM file: have the program that made it export the film as PGM.");
+    else
+        say_more("It begins with byte %u where P, %u, stands in a PGM.", (unsigned)in->bytes[0], (unsigned)'P');
+}
+
+static void more_comment(const struct run *run)
+{
+    struct front f = front_of(&run->input);
+    uint32_t maxval = f.maxval < TZ_MOST_GREY ? f.maxval : TZ_MOST_GREY;
+    say_more("Netpbm's tools write none: pgmtopgm %s >NEW.pgm", shell_name(run->task.in));
+    if (f.numbers == 3 && maxval > 0 && run->input.len - f.raster == f.bytes && greatest_sample(&run->input, &f) <= maxval)
+        way_by_header(run, &f, maxval);
+}
+
+static void more_size(const struct run *run)
+{
+    struct front f = front_of(&run->input);
+    if (run->job->command == LISTING)
+        say_more("A listing is made of a film of at most 8192 pixels, in a file of at most 32768 bytes.");
+    if (f.numbers < 2)
+        return;
+    say_more("The header says %u by %u pixels; sides of 1 to %u are taken.", (unsigned)f.width, (unsigned)f.height,
+             TZ_MOST_SIDE);
+    if (f.width > TZ_MOST_SIDE || f.height > TZ_MOST_SIDE)
+        say_more("Netpbm cuts out a part: pamcut -left=0 -top=0 -width=%u -height=%u %s >NEW.pgm",
+                 f.width < TZ_MOST_SIDE ? (unsigned)f.width : TZ_MOST_SIDE,
+                 f.height < TZ_MOST_SIDE ? (unsigned)f.height : TZ_MOST_SIDE, shell_name(run->task.in));
+}
+
+static void more_maxval(const struct run *run)
+{
+    struct front f = front_of(&run->input);
+    if (f.numbers < 3)
+        return;
+    uint32_t greatest = greatest_sample(&run->input, &f);
+    say_more("The file's maxval is %u, and its greatest sample %u; maxvals of 1 to %u are taken.", (unsigned)f.maxval,
+             (unsigned)greatest, TZ_MOST_GREY);
+    if (f.maxval > TZ_MOST_GREY && greatest <= TZ_MOST_GREY)
+        way_by_header(run, &f, TZ_MOST_GREY);
+    else if (f.maxval > TZ_MOST_GREY)
+        say_more("Netpbm brings it down: pamdepth %u %s >NEW.pgm", TZ_MOST_GREY, shell_name(run->task.in));
+}
+
+static void more_raster(const struct run *run)
+{
+    struct front f = front_of(&run->input);
+    if (f.numbers == 3 && run->input.cut)
+        say_more("The header says %u by %u pixels of %s, %zu bytes; behind it stand more than %zu.", (unsigned)f.width,
+                 (unsigned)f.height, f.maxval < 256 ? "one byte" : "two bytes", f.bytes, run->input.len - f.raster);
+    else if (f.numbers == 3)
+        say_more("The header says %u by %u pixels of %s, %zu bytes; behind it stand %zu.", (unsigned)f.width,
+                 (unsigned)f.height, f.maxval < 256 ? "one byte" : "two bytes", f.bytes, run->input.len - f.raster);
+}
+
+static void more_sample(const struct run *run)
+{
+    struct front f = front_of(&run->input);
+    size_t count = samples(&run->input, &f), at = 0;
+    while (at < count && sample(&run->input, &f, at) <= f.maxval)
+        at++;
+    if (f.numbers < 3 || at == count)
+        return;
+    uint32_t greatest = greatest_sample(&run->input, &f);
+    say_more("The file's maxval is %u. The first above it is at column %u, row %u: %u; the greatest is %u.",
+             (unsigned)f.maxval, (unsigned)(at % f.width), (unsigned)(at / f.width),
+             (unsigned)sample(&run->input, &f, at), (unsigned)greatest);
+    if (greatest <= TZ_MOST_GREY)
+        way_by_header(run, &f, greatest);
+}
+
+/* ---- the refusals ---- */
+
+typedef void (*more_function)(const struct run *);
+
+/* What is told of a refusal behind its sentence; of any that stands here not, the settings. */
+static more_function more_of(uint32_t refusal)
+{
+    static const more_function more[] = {
+        [TZ_GRID_ACROSS] = more_grid,     [TZ_GRID_DOWN] = more_grid,     [TZ_WIDTH_MULTIPLE] = more_sides,
+        [TZ_HEIGHT_MULTIPLE] = more_sides, [TZ_RANGE_MAX] = more_range,   [TZ_RANGE_MIN] = more_range,
+        [TZ_PIXEL_OUTSIDE] = more_pixel,  [TZ_WINDOW] = more_window,      [TZ_HEADER] = more_header,
+        [TZ_COMMENT] = more_comment,      [TZ_FILE_SIZE] = more_size,     [TZ_MAXVAL] = more_maxval,
+        [TZ_RASTER_SHORT] = more_raster,  [TZ_RASTER_LONG] = more_raster, [TZ_SAMPLE] = more_sample,
+        [TZ_BINS_UNREACHED] = more_bins,
+    };
+    more_function found = refusal < sizeof more / sizeof more[0] ? more[refusal] : NULL;
+    return found != NULL ? found : more_settings;
+}
+
+/* A listing has settings of its own, for which nobody asked. */
+static void more_listing(void) { say_more("A listing takes grid 2 by 2, 4 bins, range 0 to maxval and factor 2."); }
+
+static const char *sentence_of(uint32_t refusal, const struct run *run)
+{
+    if (run->job->command == LISTING && refusal == TZ_BINS_UNREACHED)
+        return "The listing has 4 bins, and a film of this maxval has fewer greys.";
+    return tz_refusal_text(refusal);
+}
+
+int refuse(uint32_t refusal, const struct run *run)
+{
+    int of_file = refusal >= TZ_HEADER && refusal <= TZ_TARGET_SHORT;
+    say("%s: refused, %u: %s", input_name(run->task.in), (unsigned)refusal, sentence_of(refusal, run));
+    if (run->job->command == LISTING && !of_file)
+        more_listing();
+    else
+        more_of(refusal)(run);
+    return (int)refusal;
+}
+
+int refuse_rendering(const struct run *run)
+{
+    say("%s: refused, %u: The rendering has greys above the file's maxval: the top of the range is above it.",
+        input_name(run->task.in), (unsigned)TZ_SAMPLE);
+    say_more("The file's maxval is %u, the top of the range %u: --range %u:%u keeps below it.", (unsigned)run->sizes.maxval,
+             (unsigned)run->settings.max, 0u, (unsigned)run->sizes.maxval);
+    return (int)TZ_SAMPLE;
+}
+
+int too_long(const struct run *run)
+{
+    say("%s is longer than %zu bytes, the largest film and 64 KiB of header: not read further", input_name(run->task.in),
+        MOST_BYTES);
+    return TOO_LONG;
+}

@@ -1,0 +1,240 @@
+#include "words.h"
+
+#include <stdlib.h>
+#include <string.h>
+
+#include "messages.h"
+
+/* ---- words to numbers ---- */
+
+/* Digits only, and within 32 bits; what the number may be is for the library to say. */
+static const char *number(const char *at, uint32_t *out)
+{
+    uint64_t sum = 0;
+    const char *first = at;
+    while (*at >= '0' && *at <= '9' && sum <= UINT32_MAX)
+        sum = sum * 10 + (uint64_t)(*at++ - '0');
+    if (at == first || sum > UINT32_MAX)
+        return NULL;
+    *out = (uint32_t)sum;
+    return at;
+}
+
+static int whole(const char *word, uint32_t *out)
+{
+    const char *end = number(word, out);
+    return end != NULL && *end == '\0';
+}
+
+static int pair(const char *word, char between, uint32_t *first, uint32_t *second)
+{
+    const char *end = number(word, first);
+    return end != NULL && *end == between && whole(end + 1, second);
+}
+
+static int factor(const char *word, tz_settings *s)
+{
+    char *end;
+    if (strcmp(word, "off") == 0) {
+        s->clip = 0;
+        s->factor = 0;
+        return 1;
+    }
+    s->clip = 1;
+    s->factor = strtof(word, &end);
+    return end != word && *end == '\0';
+}
+
+static int value(enum given which, const char *word, struct job *job)
+{
+    tz_settings *s = &job->settings;
+    tz_window *w = &job->window;
+    switch (which) {
+    case GRID:
+        return pair(word, 'x', &s->across, &s->down);
+    case BINS:
+        return whole(word, &s->bins);
+    case RANGE:
+        return pair(word, ':', &s->min, &s->max);
+    case CLIP:
+        return factor(word, s);
+    case AT:
+        return pair(word, ',', &w->left, &w->top);
+    case SIZE:
+        return pair(word, 'x', &w->width, &w->height);
+    case RECORD:
+        job->record = word;
+        return *word != '\0';
+    case INTO:
+        job->into = word;
+        return *word != '\0';
+    case BYTES: /* these have none */
+    case RECORDS:
+    case QUIET:
+        return 1;
+    }
+    return 0;
+}
+
+/* ---- options ---- */
+
+static const struct option {
+    const char *name;
+    enum given which;
+    int has_value;
+} options[] = {
+    {"--grid", GRID, 1},     {"--bins", BINS, 1},     {"--range", RANGE, 1}, {"--clip", CLIP, 1},
+    {"--at", AT, 1},         {"--size", SIZE, 1},     {"--bytes", BYTES, 0}, {"--record", RECORD, 1},
+    {"--into", INTO, 1},     {"--records", RECORDS, 0}, {"--quiet", QUIET, 0},
+};
+
+/* The option that a word names, alone or with `=value` behind it. */
+static const struct option *option_of(const char *word)
+{
+    for (unsigned i = 0; i < sizeof options / sizeof options[0]; i++) {
+        size_t length = strlen(options[i].name);
+        if (strncmp(word, options[i].name, length) == 0 && (word[length] == '\0' || word[length] == '='))
+            return &options[i];
+    }
+    return NULL;
+}
+
+/* Which options a command takes. */
+static unsigned taken(enum command command)
+{
+    unsigned settings = GRID | BINS | RANGE | CLIP | BYTES | RECORD;
+    unsigned of_command = command == ENHANCE ? settings | INTO | RECORDS : command == WINDOW ? settings | AT | SIZE : 0;
+    return of_command | QUIET;
+}
+
+/* Takes the option at word `at`, which is its last word then. */
+static int take_option(char **argv, int *at, struct job *job)
+{
+    const struct option *option = option_of(argv[*at]);
+    if (option == NULL || (option->which & taken(job->command)) == 0)
+        return bad_words("this command has no such option", argv[*at]);
+    if ((option->which & job->given) != 0)
+        return bad_words("this option is given twice", option->name);
+    job->given |= option->which;
+    const char *word = strchr(argv[*at], '=');
+    if (!option->has_value)
+        return word == NULL ? 0 : bad_words("this option takes no value", argv[*at]);
+    word = word != NULL ? word + 1 : argv[++*at];
+    if (word == NULL)
+        return bad_words("a value is missing behind", option->name);
+    if (value(option->which, word, job))
+        return 0;
+    say("%s does not take this value", option->name);
+    return bad_words("not understood", word);
+}
+
+/* ---- names ---- */
+
+static int has(const struct job *job, enum given which) { return (job->given & which) != 0; }
+
+const char *last_part(const char *path)
+{
+    const char *slash = strrchr(path, '/');
+    return slash == NULL ? path : slash + 1;
+}
+
+static int by_last_part(const void *a, const void *b)
+{
+    return strcmp(last_part(*(char *const *)a), last_part(*(char *const *)b));
+}
+
+static int ends_in(const char *word, const char *end)
+{
+    size_t length = strlen(word), tail = strlen(end);
+    return length >= tail && strcmp(word + length - tail, end) == 0;
+}
+
+/* Films that go into one folder need names, and none the name that another's rendering or record has. They are looked at
+   in the order of their names, and rendered in the order that was given. */
+static int check_films(const struct job *job)
+{
+    char **sorted = malloc((size_t)job->count * sizeof *sorted);
+    int code = sorted == NULL ? no_memory() : 0;
+    if (code == 0) {
+        memcpy(sorted, job->names, (size_t)job->count * sizeof *sorted);
+        qsort(sorted, (size_t)job->count, sizeof *sorted, by_last_part);
+    }
+    for (int i = 0; i < job->count && code == 0; i++) {
+        if (strcmp(sorted[i], "-") == 0)
+            code = bad_words("standard input has no name that --into could give its rendering", "");
+        else if (has(job, RECORDS) && ends_in(sorted[i], ".json"))
+            code = bad_words("with --records a film's name must not end in .json", sorted[i]);
+        else if (i > 0 && by_last_part(&sorted[i - 1], &sorted[i]) == 0)
+            code = bad_words("two films would have the same name in that folder", sorted[i]);
+    }
+    free(sorted);
+    return code;
+}
+
+static int check_names(const struct job *job)
+{
+    int wanted = job->command == ENHANCE || job->command == WINDOW ? 2 : 1;
+    if (has(job, INTO) && has(job, RECORD))
+        return bad_words("with --into it is --records, which writes a record beside each rendering", "");
+    if (has(job, INTO))
+        return job->count > 0 ? check_films(job) : bad_words("a film is missing", "");
+    if (has(job, RECORDS))
+        return bad_words("--records goes with --into; one film's record is written by --record FILE", "");
+    if (job->count < wanted)
+        return bad_words("a file name is missing", "");
+    if (job->count > wanted && job->command == ENHANCE)
+        return bad_words("one word too many (several films want --into FOLDER)", job->names[wanted]);
+    return job->count > wanted ? bad_words("one word too many", job->names[wanted]) : 0;
+}
+
+/* ---- the command line ---- */
+
+/* Help and version are given wherever they are asked for, up to a word `--`. */
+static int asks(int argc, char **argv, enum command *command)
+{
+    for (int i = 1; i < argc && strcmp(argv[i], "--") != 0; i++) {
+        int help = strcmp(argv[i], "-h") == 0 || strcmp(argv[i], "--help") == 0 || strcmp(argv[i], "help") == 0;
+        if (help || strcmp(argv[i], "--version") == 0) {
+            *command = help ? HELP : VERSION;
+            return 1;
+        }
+    }
+    return 0;
+}
+
+static int command_of(const char *word, enum command *command)
+{
+    static const char *const names[] = {"enhance", "window", "listing", "info"};
+    for (unsigned i = 0; i < sizeof names / sizeof names[0]; i++)
+        if (strcmp(word, names[i]) == 0) {
+            *command = (enum command)i;
+            return 1;
+        }
+    return 0;
+}
+
+int words(int argc, char **argv, struct job *job)
+{
+    int names_only = 0, code = 0;
+    if (asks(argc, argv, &job->command))
+        return 0;
+    if (argc < 2)
+        return bad_words("a command is missing", "");
+    if (!command_of(argv[1], &job->command))
+        return bad_words("no such command", argv[1]);
+    job->names = argv; /* the names are moved up to its front, which is read already */
+    for (int i = 2; i < argc && code == 0; i++) {
+        /* '-' alone is a name: standard input or output */
+        if (names_only || argv[i][0] != '-' || argv[i][1] == '\0')
+            job->names[job->count++] = argv[i];
+        else if (strcmp(argv[i], "--") == 0)
+            names_only = 1;
+        else
+            code = take_option(argv, &i, job);
+    }
+    if (code == 0)
+        code = check_names(job);
+    if (code == 0 && job->command == WINDOW && (~job->given & (AT | SIZE)) != 0)
+        return bad_words("a window wants --at and --size", "");
+    return code;
+}

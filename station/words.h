@@ -1,0 +1,31 @@
+/* The command line's words, read into a job. */
+#ifndef TZ_WORDS_H
+#define TZ_WORDS_H
+
+#include "tzofnadir.h"
+
+enum command { ENHANCE, WINDOW, LISTING, INFO, HELP, VERSION };
+
+/* The options, each a bit. */
+enum given {
+    GRID = 1, BINS = 2, RANGE = 4, CLIP = 8, AT = 16, SIZE = 32, BYTES = 64, RECORD = 128, INTO = 256, RECORDS = 512,
+    QUIET = 1024
+};
+
+struct job {
+    enum command command;
+    char **names; /* of files: IN and OUT, or with --into each film */
+    int count;
+    const char *into, *record;
+    tz_settings settings;
+    tz_window window;
+    unsigned given; /* which options were there */
+};
+
+/* The part of a path behind its last slash: the name that a film rendered into a folder has there. */
+const char *last_part(const char *path);
+
+/* 0, or the status of a message. */
+int words(int argc, char **argv, struct job *job);
+
+#endif
