@@ -84,7 +84,7 @@ module _ (w h : ℕ) (pic : List ℕ) (s : Settings) (cs : List ℕ) (free : fir
   asks : CountsAsk w h pic s (length cs)
   asks = count-ready w h pic s (length cs) free
 
-  -- none of 1 to 9 applies
+  -- none of 1 to 9 and 31 applies
   picture-free : first (pictureRows w h (length pic) s) ≡ 0
   unfolding countRows
   picture-free = first-both (pictureRows w h (length pic) s) _ (picture-numbered w h (length pic) s) free .0
@@ -97,18 +97,18 @@ module _ (w h : ℕ) (pic : List ℕ) (s : Settings) (cs : List ℕ) (free : fir
   unfolding pictureRows
   rest-free = first-both (gridRows w h s) (rangeRows s) (grid-numbered w h s) (first-both (sizeRows w h (length pic)) _ (size-numbered w h (length pic)) picture-free .1)
 
-  -- so of 7 to 10 only 10 is left
+  -- so of 7 to 9, 31 and 10 only 10 is left
   greys-left : first (greyRows s) ≡ first (clipRows s)
   greys-left = ap first (grey-parts s) ∙ first-or (rangeRows s) (clipRows s) (range-numbered s) ∙ ap (λ n. n or first (clipRows s)) (rest-free .1)
 
-  -- of 1 and 3 to 10 too
+  -- of 1, 3 to 9, 31 and 10 too
   tiling-left : first (tilingRows w h s) ≡ first (clipRows s)
   unfolding tilingRows
   tiling-left =
       first-or (sideRows w h) (gridRows w h s ++ greyRows s) (side-numbered w h)
       ∙ ap₂ (λ n m. n or m) (size-both w h (length pic) sizes-free .0) (first-or (gridRows w h s) (greyRows s) (grid-numbered w h s) ∙ ap₂ (λ n m. n or m) (rest-free .0) greys-left)
 
-  -- and of 1 to 10
+  -- and of 1 to 9, 31 and 10
   setting-left : first (settingRows w h (length pic) s) ≡ first (clipRows s)
   setting-left =
       ap first (setting-parts w h (length pic) s)

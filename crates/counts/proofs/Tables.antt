@@ -6,13 +6,13 @@ use mathlib.Core.List.{List, [], _∷_, _++_}
 use mathlib.Core.Logic.{_≢_, ⊎-elim}
 use mathlib.Core.Path.{_≡_, refl, sym, ap, ap₂, _∙_}
 use native.Mathlib.Omega.{arith}
-use lib.Dec.{ltb, eqb}
+use lib.Dec.{ltb}
 use lib.ListN.{length}
-use borrow.Author.Tests.{lt-ltb, le-ltb, ltb-false, eqb-false, not-true, not-false}
+use borrow.Author.Tests.{lt-ltb, le-ltb, ltb-false, not-false}
 use Rattle.lists.specs.Lists.{all}
 use Rattle.lists.proofs.Orders.{lt-or-ge}
 use Rattle.refuse.specs.Refuse.{first, numbersOf, Numbered}
-use Rattle.refuse.proofs.Walk.{first-none, first-both, first-hit, first-skip, numbers-append, each-append, each-first, front, behind}
+use Rattle.refuse.proofs.Walk.{first-none, first-both, first-hit, first-skip, numbers-append, each-append, first-never, front, behind}
 use Rattle.scan.specs.Scan.{within}
 use Rattle.settings.specs.declared.Settings.{Settings}
 use Rattle.settings.specs.Settings.{binsOf, entriesOf, clipBad, sideRows, sizeRows, gridRows, rangeRows, greyRows, roomRows, Tiled}
@@ -46,12 +46,9 @@ map-numbers w h s cs room scratch =
 -- counting "never looks at the clip": 10 is not among them
 pub count-never-10 : (w h : ℕ) (pic : List ℕ) (s : Settings) (size : ℕ) → first (countRows w h pic s size) ≢ 10
 unfolding all
-count-never-10 w h pic s size q =
-    eqb-false (first (countRows w h pic s size)) 10
-    (not-true _
-    (each-first (λ n. not (eqb n 10)) (countRows w h pic s size) refl
-    (rw (count-numbers w h pic s size, picture-numbers w h (length pic) s, size-numbers w h (length pic), grid-numbers w h s, range-numbers s) refl)))
-    q
+count-never-10 w h pic s size =
+    first-never 10 (countRows w h pic s size) refl
+    (rw (count-numbers w h pic s size, picture-numbers w h (length pic) s, size-numbers w h (length pic), grid-numbers w h s, range-numbers s) refl)
 
 -- ---- the numbers are above 0
 
@@ -133,7 +130,7 @@ sum-row w h s cs false e = ap (λ b. cond (not b) 34 0) e
 
 -- ---- what is known where none applies
 
--- none of 1 to 9
+-- none of 1 to 9 and 31
 pub picture-tiled : (w h size : ℕ) (s : Settings) → first (pictureRows w h size s) ≡ 0 → Tiled w h s × (size ≡ w * h)
 unfolding pictureRows
 picture-tiled w h size s e =
@@ -142,7 +139,7 @@ picture-tiled w h size s e =
     let c = size-both w h size (a .0) in
     (tiled w h s (c .0) (b .0) (b .1), whole-length w h size (c .1))
 
--- none of 1 and 3 to 10
+-- none of 1, 3 to 9, 31 and 10
 pub tiling-tiled : (w h : ℕ) (s : Settings) → first (tilingRows w h s) ≡ 0 → Tiled w h s × (clipBad (s .clip) ≡ false)
 unfolding tilingRows
 tiling-tiled w h s e =

@@ -64,7 +64,7 @@ pictureRows w h size s = sizeRows w h size ++ (gridRows w h s ++ rangeRows s)
 unfoldable pub countRows : ℕ → ℕ → List ℕ → Settings → ℕ → List Row
 countRows w h pic s size = pictureRows w h (length pic) s ++ (countsRows s size ++ outsideRows pic s)
 
--- 1 and 3 to 10 with 31 after 9
+-- 1 and 3 to 10, "with 31 after 9": mapping is handed no picture
 unfoldable pub tilingRows : ℕ → ℕ → Settings → List Row
 tilingRows w h s = sideRows w h ++ (gridRows w h s ++ greyRows s)
 

@@ -30,7 +30,7 @@ fn counts_refusal(s: Settings, size: usize) -> u32
     0
 }
 
-// The first of the refusals 1 to 9 that applies, else 0.
+// The first of the refusals 1 to 9 and 31 that applies, else 0.
 fn picture_refusal(width: u32, height: u32, size: usize, s: Settings) -> u32
     ensures { λ r. ⌜ r ≡ first (pictureRows width height size s) ⌝ }
 {
@@ -157,7 +157,7 @@ fn all_add_up(width: u32, height: u32, s: Settings, counts: &[u32]) -> bool
     true
 }
 
-// The first of the refusals 1 and 3 to 10 that applies, else 0.
+// The first of the refusals 1, 3 to 9, 31 and 10 that applies, else 0.
 fn tiling_refusal(width: u32, height: u32, s: Settings) -> u32
     ensures { λ r. ⌜ r ≡ first (tilingRows width height s) ⌝ }
 {

@@ -1,4 +1,4 @@
--- The rows 1 to 11 part by part, for calls that ask some of the parts: their numbers, what is free where a table of several is, and what of the settings each reads.
+-- The rows that all calls share, part by part, for calls that ask some of the parts: their numbers, what is free where a table of several is, and what of the settings each reads.
 -- Assumes nothing.
 use Prim.Native.Nat.{ℕ}
 use mathlib.Core.List.{[], _∷_, _++_}
@@ -24,7 +24,7 @@ pub clip-numbers : (s : Settings) → numbersOf (clipRows s) ≡ 10 ∷ []
 unfolding numbersOf clipRows
 clip-numbers s = refl
 
--- above 0: of 7 to 10
+-- above 0: of 7 to 9, 31 and 10
 pub grey-numbered : (s : Settings) → Numbered (greyRows s)
 unfolding all greyRows
 grey-numbered s = each-append (ltb 0) (rangeRows s) (clipRows s) (range-numbered s) (rw (clip-numbers s) refl)
@@ -36,12 +36,12 @@ room-numbered s room = rw (room-numbers s room) refl
 
 -- ---- the parts
 
--- 7 to 9, and 10
+-- 7 to 9 and 31, and 10
 pub grey-parts : (s : Settings) → greyRows s ≡ rangeRows s ++ clipRows s
 unfolding greyRows
 grey-parts s = refl
 
--- 1 and 2, 3 to 6, and 7 to 10
+-- 1 and 2, 3 to 6, and 7 to 9, 31 and 10
 pub setting-parts : (w h size : ℕ) (s : Settings) → settingRows w h size s ≡ sizeRows w h size ++ (gridRows w h s ++ greyRows s)
 unfolding settingRows
 setting-parts w h size s = refl
@@ -53,12 +53,12 @@ pub size-both : (w h size : ℕ) → first (sizeRows w h size) ≡ 0 → (first 
 unfolding sizeRows
 size-both w h size e = first-both (sideRows w h) (lengthRows w h size) (side-numbered w h) e
 
--- 7 to 9, and 10
+-- 7 to 9 and 31, and 10
 pub grey-both : (s : Settings) → first (greyRows s) ≡ 0 → (first (rangeRows s) ≡ 0) × (first (clipRows s) ≡ 0)
 unfolding greyRows
 grey-both s e = first-both (rangeRows s) (clipRows s) (range-numbered s) e
 
--- 1 and 2, 3 to 6, and 7 to 10
+-- 1 and 2, 3 to 6, and 7 to 9, 31 and 10
 pub setting-all : (w h size : ℕ) (s : Settings) → first (settingRows w h size s) ≡ 0
     → (first (sizeRows w h size) ≡ 0) × (first (gridRows w h s) ≡ 0) × (first (greyRows s) ≡ 0)
 unfolding settingRows
@@ -79,7 +79,7 @@ pub grid-alike : (w h : ℕ) (s s′ : Settings) → s .across ≡ s′ .across 
 unfolding gridRows
 grid-alike w h s s′ across down = rw (across, down) refl
 
--- 7 to 9: Min, Max and the bins as they are given
+-- 7 to 9 and 31: Min, Max and the bins as they are given
 range-given : (s s′ : Settings) → s .bins ≡ s′ .bins → s .min ≡ s′ .min → s .max ≡ s′ .max → rangeRows s ≡ rangeRows s′
 unfolding rangeRows binsOf
 range-given s s′ bins min max = rw (bins, min, max) refl

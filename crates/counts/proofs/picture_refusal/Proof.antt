@@ -1,4 +1,4 @@
--- `picture_refusal` gives the first of 1 to 9 that applies.
+-- `picture_refusal` gives the first of 1 to 9 and 31 that applies.
 -- Assumes nothing.
 use Rattle.refuse.proofs.Walk.{front, behind}
 use Rattle.settings.proofs.Ready.{size-numbered, grid-numbered}

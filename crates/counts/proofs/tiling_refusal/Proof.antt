@@ -1,4 +1,4 @@
--- `tiling_refusal` gives the first of 1 and 3 to 10 that applies.
+-- `tiling_refusal` gives the first of 1, 3 to 9, 31 and 10 that applies.
 -- Assumes nothing.
 use Rattle.refuse.proofs.Walk.{front, behind}
 use Rattle.settings.proofs.Ready.{side-numbered, grid-numbered}
