@@ -7,7 +7,7 @@ use mathlib.Core.Bool.{Bool, true, false, not, cond}
 use mathlib.Core.List.{List, [], _∷_, _++_}
 use lib.Dec.{ltb, eqb}
 use lib.ListN.{length, take, drop}
-use Rattle.lists.specs.Lists.{joined, every, total, onto, over, filled, all}
+use Rattle.lists.specs.Lists.{joined, every, total, onto, filled, all}
 use Rattle.refuse.specs.Refuse.{Row, row, first, unless, Says, accepted, refused}
 use Rattle.limit.specs.declared.Clip.{Clip}
 use Rattle.scan.specs.Scan.{within}
@@ -16,7 +16,7 @@ use Rattle.tile.specs.Tile.{countsMapping}
 use Rattle.settings.specs.declared.Settings.{Settings}
 use Rattle.settings.specs.Settings.{binsOf, entriesOf, recordOf, clipBad, clipOne, sideRows, sizeRows, gridRows, rangeRows, greyRows, roomRows, Tiled}
 use Rattle.prepare.specs.declared.Prepared.the-variants as Prepared
-use Rattle.prepare.specs.Prepare.{tileOf, pixelsIn, footOf, Ended, ending}
+use Rattle.prepare.specs.Prepare.{tileOf, pixelsIn, footOf, Ended, ending, Placed, AllPlaced}
 use Rattle.counts.specs.declared.Counted.{Counted}
 use Rattle.counts.specs.declared.Counted.the-variants as Counted
 
@@ -184,13 +184,10 @@ pub record CopyAsks (b k size scratch : ℕ) : Type 0 where
   pub small : k * b + b ≤ 1048576
   pub room : b ≤ scratch
 
--- what `map_one` leaves: the mapping in its place; the scratch behind its first B entries as it was
-pub record OneMapped (w h : ℕ) (s : Settings) (cs : List ℕ) (k : ℕ) (m₀ m t₀ t : List ℕ) : Type 0 where
-  pub map : m ≡ over m₀ (k * binsOf s) (mappingFrom w h s cs k)
-  pub behind : drop (binsOf s) t ≡ drop (binsOf s) t₀
-  pub size : length t ≡ length t₀
+-- what `map_one` leaves
+abbrev pub OneMapped : ℕ → ℕ → Settings → List ℕ → ℕ → List ℕ → List ℕ → List ℕ → List ℕ → Type 0
+OneMapped w h s cs k = Placed s k (mappingFrom w h s cs k)
 
 -- what `map_all` leaves
-pub record AllMapped (w h : ℕ) (s : Settings) (cs m₀ m t₀ t : List ℕ) : Type 0 where
-  pub map : m ≡ onto m₀ (mappingsFrom w h s cs)
-  pub scratch : t ≡ filled (λ k. 0) t₀ (binsOf s)
+abbrev pub AllMapped : ℕ → ℕ → Settings → List ℕ → List ℕ → List ℕ → List ℕ → List ℕ → Type 0
+AllMapped w h s cs = AllPlaced s (mappingsFrom w h s cs)

@@ -183,13 +183,21 @@ pub record TileAsks (w h : ℕ) (pic : List ℕ) (s : Settings) (k room scratch 
   pub film : TilesAsk w h pic s room scratch
   pub tile : k < s .across * s .down
 
--- what `map_tile` leaves: the mapping in its place; the scratch behind its first B entries as it was
-pub record TileDone (w h : ℕ) (pic : List ℕ) (s : Settings) (k : ℕ) (m₀ m t₀ t : List ℕ) : Type 0 where
-  pub map : m ≡ over m₀ (k * binsOf s) (tileMap w h pic s k)
+-- what laying down a mapping as tile k's leaves: the mapping in its place; the scratch behind its first B entries as it was
+pub record Placed (s : Settings) (k : ℕ) (mapping m₀ m t₀ t : List ℕ) : Type 0 where
+  pub map : m ≡ over m₀ (k * binsOf s) mapping
   pub behind : drop (binsOf s) t ≡ drop (binsOf s) t₀
   pub size : length t ≡ length t₀
 
--- what `map_tiles` leaves
-pub record TilesDone (w h : ℕ) (pic : List ℕ) (s : Settings) (m₀ m t₀ t : List ℕ) : Type 0 where
-  pub map : m ≡ onto m₀ (mappings w h pic s)
+-- what laying down all of them leaves: the mappings in front, and the scratch's first B entries zero
+pub record AllPlaced (s : Settings) (mapped m₀ m t₀ t : List ℕ) : Type 0 where
+  pub map : m ≡ onto m₀ mapped
   pub scratch : t ≡ filled (λ k. 0) t₀ (binsOf s)
+
+-- what `map_tile` leaves
+abbrev pub TileDone : ℕ → ℕ → List ℕ → Settings → ℕ → List ℕ → List ℕ → List ℕ → List ℕ → Type 0
+TileDone w h pic s k = Placed s k (tileMap w h pic s k)
+
+-- what `map_tiles` leaves
+abbrev pub TilesDone : ℕ → ℕ → List ℕ → Settings → List ℕ → List ℕ → List ℕ → List ℕ → Type 0
+TilesDone w h pic s = AllPlaced s (mappings w h pic s)
