@@ -11,3 +11,4 @@ pub mod Windows
 pub mod Maps
 pub mod Inverses
 pub mod Steps
+pub mod Puts
