@@ -1,6 +1,4 @@
 pub mod Pixels
-pub mod Patches
-pub mod Stretches
 pub mod Runs
 pub mod Sections
 pub mod Rows

@@ -13,13 +13,14 @@ use Rattle.binning.specs.Binning.{binOf}
 use Rattle.blend.specs.declared.Place.{Place}
 use Rattle.blend.specs.Blend.{greyOf, sidesOf, moved, Sound, Inverse}
 use Rattle.blend.proofs.Laws.{moved-sound, grey-moved, sound-wider}
+use Rattle.weave.specs.Weave.{patchOf, oneBin, steadyAt, Stretch}
+use Rattle.weave.proofs.Patches.{patch-read, patch-next, patch-same, patch-fills}
+use Rattle.weave.proofs.Stretches.{one-bin-same}
 use Rattle.settings.specs.declared.Settings.{Settings}
 use Rattle.settings.specs.Settings.{binsOf}
-use Rattle.render.specs.Render.{mappedAt, pixelOf, cornersOf, sideOf, runOf, weighedRun, binnedOf, patchOf, oneBin, steadyAt, cornersAt, CornerAsks, Stretch, WeighPartAsks, WeighAsks, RunAsks}
+use Rattle.render.specs.Render.{mappedAt, pixelOf, cornersOf, sideOf, runOf, weighedRun, binnedOf, cornersAt, CornerAsks, WeighPartAsks, WeighAsks, RunAsks}
 use Rattle.render.proofs.Bins.{bins-length, held-is, held-in}
-use Rattle.render.proofs.Patches.{patch-read, patch-next, patch-same, patch-fills}
 use Rattle.render.proofs.Pixels.{corners-small, corners-sides, pixel-corners}
-use Rattle.render.proofs.Stretches.{one-bin-same}
 
 -- where one tile is used alone its weights may move
 pub alone-moved : (s : Settings) (m : List ℕ) (row column : Place) (j v : ℕ) → column .upper ≡ column .lower → j ≤ column .lowerweight → pixelOf s m (moved column j) row v ≡ pixelOf s m column row v

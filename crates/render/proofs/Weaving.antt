@@ -1,98 +1,31 @@
--- The turns of `weave_part`, `weave` and `weave_row`, and that a row by pairs is the row.
+-- The turns of `weave_row`, and that a row by pairs is the row.
 -- Assumes nothing.
 use Prim.Native.Nat.{ℕ, _+_, _-_, _*_, _≤_, _<_}
 use mathlib.Core.List.{List}
-use mathlib.Core.Bool.{true}
 use mathlib.Core.Path.{_≡_, sym, ap, ap₂, _∙_}
 use lib.Arith.{digits-lt}
-use lib.ListN.{length, take, drop, getD, set}
+use lib.ListN.{length, take, drop, getD}
 use borrow.Rule.Slice.PartMut.{putMid}
 use native.Mathlib.Nat.{mul-assoc, add-mul, mul-le-mul}
 use native.Mathlib.Omega.{arith}
 use Rattle.lists.specs.Lists.{tab, filled}
 use Rattle.lists.proofs.Tabs.{tab-cong}
 use Rattle.lists.proofs.Fills.{filled-end, length-filled}
-use Rattle.lists.proofs.Windows.{getD-part, block, getD-block, length-block, getD-behind, filled-whole}
+use Rattle.lists.proofs.Windows.{getD-part, block, getD-block, length-block, filled-whole}
 use Rattle.lists.proofs.Blocks.{block-fits}
 use Rattle.lists.proofs.Tallies.{getD-filled}
 use Rattle.blend.specs.declared.Place.{Place}
-use Rattle.blend.specs.Blend.{pairOf, sidesOf, moved, Sound, Inverse}
-use Rattle.blend.proofs.Laws.{sides-most, sides-grey, sides-moved, sound-wider}
+use Rattle.blend.specs.Blend.{pairOf, sidesOf, moved, Sound}
+use Rattle.blend.proofs.Laws.{sides-grey, sides-moved, sound-wider}
+use Rattle.weave.specs.Weave.{wovenOf, WeaveAsks}
+use Rattle.weave.proofs.Weaving.{woven-is}
 use Rattle.settings.specs.declared.Settings.{Settings}
 use Rattle.settings.specs.Settings.{binsOf}
 use Rattle.render.specs.declared.Section.{Section}
-use Rattle.render.specs.Render.{mappedAt, pixelOf, rowOf, rowEntries, pairAt, binnedOf, patchOf, oneBin, steadyAt, strandAt, wovenOf, wovenAt, wovenRun, wovenRow, RowAsks, Sectioned, Stretch, WeavePartAsks, WeaveAsks, WeaveRunAsks, WeaveRowAsks}
+use Rattle.render.specs.Render.{mappedAt, pixelOf, rowOf, rowEntries, pairAt, binnedOf, wovenAt, wovenRun, wovenRow, RowAsks, Sectioned, WeaveRunAsks, WeaveRowAsks}
 use Rattle.render.proofs.Bins.{binned, bins-length, held-is, held-in}
 use Rattle.render.proofs.Pairs.{pair-at-most}
-use Rattle.render.proofs.Patches.{patch-read, patch-next, patch-same, patch-fills}
 use Rattle.render.proofs.Sections.{place-among, placed, ahead-is, ahead-length, section-next}
-use Rattle.render.proofs.Stretches.{one-bin-same, stretch-sound}
-
--- ---- pixels from bins and pairs
-
--- the grey of the run's pixel i
-abbrev pub woven : Place → Place → List ℕ → List ℕ → List ℕ → ℕ → ℕ
-woven column row l r ks i = sidesOf (moved column i) row (getD l (getD ks i 0) 0) (getD r (getD ks i 0) 0)
-
-module _ {column row : Place} {by at end n : ℕ} {l r ks : List ℕ} (lies : Stretch column row by at end n) (asks : WeavePartAsks row l r at end ks) {i : ℕ} (m : at ≤ i) (h : i < end)
-    {px : List ℕ} (e : px ≡ patchOf (strandAt column row l r) ks at i) where
-  -- the bin as it was read
-  weave-read : getD px i 0 ≡ getD ks i 0
-  weave-read = patch-read (strandAt column row l r) ks at i e
-
-  -- its pairs are there
-  pub left-there : getD px i 0 < length l
-  left-there = rw weave-read (asks .onleft i m h)
-
-  pub right-there : getD px i 0 < length r
-  right-there = rw weave-read (asks .onright i m h)
-
-  module _ {p : Place} {v : ℕ} (place : p ≡ moved column i) (k : v ≡ sidesOf p row (getD l (getD px i 0) 0) (getD r (getD px i 0) 0)) where
-    weave-is : v ≡ strandAt column row l r i (getD px i 0)
-    weave-is = k ∙ ap (λ p. sidesOf p row (getD l (getD px i 0) 0) (getD r (getD px i 0) 0)) place
-
-    -- the grey is small
-    pub weave-small : v ≤ 4095
-    weave-small = omega (arith, weave-is, sides-most (stretch-sound lies h) (lies .row) (asks .left (getD px i 0) left-there) (asks .right (getD px i 0) right-there))
-
-    -- one pixel more
-    pub weave-next : i < length ks → set px i v ≡ patchOf (strandAt column row l r) ks at (i + 1)
-    weave-next q = patch-next (strandAt column row l r) ks at i e m q weave-is
-
--- eight pixels of one bin, by its pairs
-pub strand-steady : (column row : Place) (l r ks : List ℕ) (at : ℕ) {ys : List ℕ} → oneBin ks at 8 ≡ true
-    → ys ≡ patchOf (steadyAt column row (getD l (getD ks at 0) 0) (getD r (getD ks at 0) 0)) ks at (at + 8) → ys ≡ patchOf (strandAt column row l r) ks at (at + 8)
-strand-steady column row l r ks at q e =
-    e ∙ patch-same (steadyAt column row (getD l (getD ks at 0) 0) (getD r (getD ks at 0) 0)) (strandAt column row l r) ks
-    (λ i m h. ap (λ k. sidesOf (moved column i) row (getD l k 0) (getD r k 0)) (sym (one-bin-same ks at q i m h)))
-
-module _ {column row : Place} {l r ks : List ℕ} (asks : WeaveAsks column row l r ks) {by : ℕ} (f : Inverse (column .span * row .span) by)
-    {px : List ℕ} {at : ℕ} (e : px ≡ filled (woven column row l r ks) ks at) {end : ℕ} (m : at ≤ end) (h : end ≤ length ks) where
-  -- where a stretch lies
-  pub weave-lies : {n : ℕ} → n ≡ length ks → Stretch column row by at end n
-  weave-lies q = record { column = asks .column; row = asks .row; factor = f; order = m; room = omega (arith, asks .room); inside = omega arith }
-
-  -- and what it asks
-  pub weave-asks : WeavePartAsks row l r at end px
-  weave-asks =
-      record {
-        onleft = λ i p q. rw (ahead i p) (asks .onleft i (omega arith));
-        onright = λ i p q. rw (ahead i p) (asks .onright i (omega arith));
-        left = asks .left;
-        right = asks .right;
-      }
-    where
-      ahead : (i : ℕ) → at ≤ i → getD px i 0 ≡ getD ks i 0
-      ahead i p = ap (λ t. getD t i 0) e ∙ getD-behind (woven column row l r ks) ks at i p
-
-  -- one stretch more
-  pub weave-stretch : {ys : List ℕ} → ys ≡ patchOf (strandAt column row l r) px at end → ys ≡ filled (woven column row l r ks) ks end
-  weave-stretch q = patch-fills (strandAt column row l r) ks e m q
-
--- the whole run
-pub weave-end : (column row : Place) (l r ks : List ℕ) {px : List ℕ} → px ≡ filled (woven column row l r ks) ks (length ks) → px ≡ wovenOf column row l r ks
-unfolding wovenOf
-weave-end column row l r ks e = e ∙ filled-whole (woven column row l r ks) ks
 
 -- ---- pixels from bins and the pairs of the row
 
@@ -139,8 +72,8 @@ module _ {s : Settings} {ps : List ℕ} {column row : Place} {ks : List ℕ} (as
 
   -- and what it comes to
   pub run-woven : {px : List ℕ} → px ≡ wovenOf column row (block ps (column .lower) b) (block ps (column .upper) b) ks → px ≡ wovenRun s ps column row ks
-  unfolding wovenOf wovenRun wovenAt
-  run-woven e = e ∙ tab-cong (length ks) (λ i l. ap₂ (sidesOf (moved column i) row) (pair-in (asks .bins i l) (column .lower)) (pair-in (asks .bins i l) (column .upper)))
+  unfolding wovenRun wovenAt
+  run-woven e = e ∙ woven-is column row _ _ ks ∙ tab-cong (length ks) (λ i l. ap₂ (sidesOf (moved column i) row) (pair-in (asks .bins i l) (column .lower)) (pair-in (asks .bins i l) (column .upper)))
     where
       pair-in : {k : ℕ} → k < binsOf s → (t : ℕ) → getD (block ps t b) k 0 ≡ getD ps (t * binsOf s + k) 0
       pair-in {k} l t = getD-block ps t b k (omega arith) ∙ ap (λ n. getD ps (t * n + k) 0) q

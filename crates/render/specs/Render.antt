@@ -1,19 +1,18 @@
 -- Document 01, "From mappings to grey": pixels of the rendered film, from mappings that lie tile by tile in a map buffer.
 -- w and h are the film's width and height, m the map buffer.
 -- Assumes nothing.
-use Prim.Native.Nat.{ℕ, zero, suc, _+_, _-_, _*_, _/_, _≤_, _<_}
-use mathlib.Core.Bool.{Bool, true, _&&_, cond}
+use Prim.Native.Nat.{ℕ, _+_, _-_, _*_, _/_, _≤_, _<_}
+use mathlib.Core.Bool.{true}
 use mathlib.Core.List.{List}
 use mathlib.Core.Path.{_≡_}
-use lib.Dec.{ltb, eqb}
 use lib.ListN.{length, getD, take}
-use Rattle.lists.specs.Lists.{tab, joined, all, filled}
+use Rattle.lists.specs.Lists.{tab, joined, all}
 use Rattle.scan.specs.Scan.{within}
 use Rattle.binning.specs.Binning.{binOf, factorOf}
 use Rattle.tally.specs.Tally.{Scale}
 use Rattle.tally.specs.declared.Rect.{Rect}
 use Rattle.blend.specs.declared.Place.{Place}
-use Rattle.blend.specs.Blend.{placeOf, greyOf, pairOf, sidesOf, Sound, Inverse, moved, Run}
+use Rattle.blend.specs.Blend.{placeOf, greyOf, pairOf, sidesOf, Sound, moved, Run}
 use Rattle.settings.specs.declared.Settings.{Settings}
 use Rattle.settings.specs.declared.Window.{Window}
 use Rattle.settings.specs.Settings.{binsOf, entriesOf}
@@ -72,26 +71,7 @@ weighedRun s m column row ks = tab (length ks) (λ i. cornersOf s m (moved colum
 unfoldable pub sideOf : Settings → List ℕ → Place → ℕ → ℕ → ℕ
 sideOf s m row i k = pairOf row (mappedAt s m (row .lower) i k) (mappedAt s m (row .upper) i k)
 
--- ---- by stretches
-
--- d with its entries from `at` up to `end` replaced, entry i by f of i and of what it held
-unfoldable pub patchOf : (ℕ → ℕ → ℕ) → List ℕ → ℕ → ℕ → List ℕ
-patchOf f d at end = filled (λ i. cond (ltb i at) (getD d i 0) (f i (getD d i 0))) d end
-
--- whether the n entries from `at` on all are entry `at`
-unfoldable pub oneBin : List ℕ → ℕ → ℕ → Bool
-oneBin ks at zero = true
-oneBin ks at (suc n) = oneBin ks at n && eqb (getD ks (at + n) 0) (getD ks at 0)
-
--- the grey of pixel i of a run whose bin's pairs are l and r, whatever its bin k
-abbrev pub steadyAt : Place → Place → ℕ → ℕ → ℕ → ℕ → ℕ
-steadyAt column row l r i k = sidesOf (moved column i) row l r
-
--- the grey of pixel i of a run, of bin k, from the pairs of each bin on the left and on the right
-abbrev pub strandAt : Place → Place → List ℕ → List ℕ → ℕ → ℕ → ℕ
-strandAt column row l r i k = sidesOf (moved column i) row (getD l k 0) (getD r k 0)
-
--- the same from the mappings
+-- the grey of pixel i of such a run, of bin k
 abbrev pub cornersAt : Settings → List ℕ → Place → Place → ℕ → ℕ → ℕ
 cornersAt s m column row i k = cornersOf s m (moved column i) row k
 
@@ -112,10 +92,6 @@ pairsOf row low high = tab (length low) (λ n. pairOf row (getD low n 0) (getD h
 -- the bins of greys vs
 unfoldable pub binnedOf : Settings → List ℕ → List ℕ
 binnedOf s vs = tab (length vs) (λ i. binOf (s .min) (s .max) (binsOf s) (getD vs i 0))
-
--- pixels of bins ks between the same tiles, from the pairs of each bin on the left and on the right
-unfoldable pub wovenOf : Place → Place → List ℕ → List ℕ → List ℕ → List ℕ
-wovenOf column row l r ks = tab (length ks) (λ i. sidesOf (moved column i) row (getD l (getD ks i 0) 0) (getD r (getD ks i 0) 0))
 
 -- the grey of a pixel of bin k from the pairs of the whole row, which lie tile by tile
 unfoldable pub wovenAt : Settings → List ℕ → Place → Place → ℕ → ℕ
@@ -196,15 +172,6 @@ pub record CornerAsks (s : Settings) (m : List ℕ) (atcolumn atrow : Place) (k 
   pub row : Sound (s .down) 2048 atrow
   pub bin : k < binsOf s
 
--- pixels from `at` up to `end` of n between the same tiles: sound places, what stands for the division, and no more pixels than the weight can move by
-pub record Stretch (atcolumn atrow : Place) (by at end n : ℕ) : Type 0 where
-  pub column : Sound 16 2048 atcolumn
-  pub row : Sound 16 2048 atrow
-  pub factor : Inverse (atcolumn .span * atrow .span) by
-  pub order : at ≤ end
-  pub room : end ≤ atcolumn .lowerweight
-  pub inside : end ≤ n
-
 -- what `weigh_part` asks: as a pixel of its bin, of each pixel from `at` up to `end`
 pub record WeighPartAsks (s : Settings) (m : List ℕ) (atcolumn atrow : Place) (at end : ℕ) (ks : List ℕ) : Type 0 where
   pub maps : Maps s m
@@ -248,23 +215,6 @@ pub record BinsAsks (s : Settings) (vs : List ℕ) (factor : ℕ) : Type 0 where
   pub scale : Scale (s .min) (s .max) (binsOf s)
   pub greys : all (within (s .min) (s .max)) vs ≡ true
   pub by : factor ≡ factorOf (s .min) (s .max) (binsOf s)
-
--- what `weave_part` asks: two pairs for each bin from `at` up to `end`, no larger than pairs are
-pub record WeavePartAsks (atrow : Place) (l r : List ℕ) (at end : ℕ) (ks : List ℕ) : Type 0 where
-  pub onleft : (i : ℕ) → at ≤ i → i < end → getD ks i 0 < length l
-  pub onright : (i : ℕ) → at ≤ i → i < end → getD ks i 0 < length r
-  pub left : (k : ℕ) → k < length l → getD l k 0 ≤ atrow .span * 4095
-  pub right : (k : ℕ) → k < length r → getD r k 0 ≤ atrow .span * 4095
-
--- what `weave` asks: sound places, no more pixels than the weight can move by, and for each bin two pairs, no larger than pairs are
-pub record WeaveAsks (atcolumn atrow : Place) (l r ks : List ℕ) : Type 0 where
-  pub column : Sound 16 2048 atcolumn
-  pub row : Sound 16 2048 atrow
-  pub room : length ks ≤ atcolumn .lowerweight
-  pub onleft : (i : ℕ) → i < length ks → getD ks i 0 < length l
-  pub onright : (i : ℕ) → i < length ks → getD ks i 0 < length r
-  pub left : (k : ℕ) → k < length l → getD l k 0 ≤ atrow .span * 4095
-  pub right : (k : ℕ) → k < length r → getD r k 0 ≤ atrow .span * 4095
 
 -- the pairs of a row of tiles: room for each bin of each tile, and no pair larger than pairs are
 pub record Pairs (s : Settings) (ps : List ℕ) (atrow : Place) : Type 0 where

@@ -7,9 +7,10 @@ ghost use Rattle.lists.specs.Lists.{all, filled};
 ghost use Rattle.scan.specs.Scan.{within};
 ghost use Rattle.binning.specs.Binning.{factorOf};
 ghost use Rattle.tally.specs.Tally.{Scale};
-ghost use Rattle.blend.specs.Blend.{Sound, Inverse, moved};
+ghost use Rattle.blend.specs.Blend.{Sound, Inverse};
+ghost use Rattle.weave.specs.Weave.{patchOf, Stretch};
 ghost use Rattle.settings.specs.Settings.{binsOf};
-ghost use Rattle.render.specs.Render.{mappedAt, cornersOf, sideOf, rowPlace, rowOf, runOf, rowEntries, pairAt, pairsOf, binnedOf, wovenOf, wovenRun, wovenRow, renderOf, patchOf, oneBin, steadyAt, strandAt, cornersAt, weighedRun, Fits, Maps, Mapped, Shown, CornerAsks, RunAsks, RowAsks, Sectioned, PairAsks, BinsAsks, Stretch, WeighPartAsks, WeighAsks, WeavePartAsks, WeaveAsks, WeaveRunAsks, WeaveRowAsks};
+ghost use Rattle.render.specs.Render.{mappedAt, cornersOf, sideOf, rowPlace, rowOf, runOf, rowEntries, pairAt, pairsOf, binnedOf, wovenRun, wovenRow, renderOf, cornersAt, weighedRun, Fits, Maps, Mapped, Shown, CornerAsks, RunAsks, RowAsks, Sectioned, PairAsks, BinsAsks, WeighPartAsks, WeighAsks, WeaveRunAsks, WeaveRowAsks};
 use blend::Place;
 use settings::Settings;
 use settings::Window;
@@ -34,68 +35,6 @@ fn pixel(s: Settings, map: &[u16], column: Place, row: Place, by: u64, k: u32) -
     let c = mapped(s, map, row.upper, column.lower, k);
     let d = mapped(s, map, row.upper, column.upper, k);
     blend::grey_by(column, row, by, a, b, c, d)
-}
-
-// What stands for the division by the product of both spans.
-fn spans_factor(column: Place, row: Place) -> u64
-    requires { ⌜ Sound 16 2048 column × Sound 16 2048 row ⌝ }
-    ensures { λ r. ⌜ Inverse (column .span * row .span) r ⌝ }
-{
-    blend::factor((column.span as u64) * (row.span as u64))
-}
-
-// The place of the pixel i further along between the same tiles.
-fn along(column: Place, i: usize) -> Place
-    requires { ⌜ Sound 16 2048 column × (i ≤ column .lowerweight) ⌝ }
-    ensures { λ r. ⌜ r ≡ moved column i ⌝ }
-{
-    Place {
-        lower: column.lower,
-        upper: column.upper,
-        lowerweight: column.lowerweight - (i as u32),
-        upperweight: column.upperweight + (i as u32),
-        span: column.span,
-    }
-}
-
-// Whether the eight pixels from `at` on have one bin: no bit of any differs from the first one's. Each is looked at and the answer asked once: a test at every pixel cannot be foretold on a noisy film.
-fn one_bin(pixels: &[u16], at: usize) -> bool
-    requires { ⌜ at + 8 ≤ length (now pixels) ⌝ }
-    ensures { λ r. ⌜ r ≡ oneBin (now (pixels .entry)) at 8 ⌝ }
-{
-    let k = pixels[at];
-    let mut other = 0u16;
-    let mut j = 0;
-    while j < 8 {
-        other = other | (pixels[at + j] ^ k);
-        j += 1;
-    }
-    other == 0
-}
-
-// Renders the eight pixels from `at` on, which have one bin, whose pairs are `left` and `right`: their weighted sum is worked out once.
-fn move_eight(
-    pixels: &mut [u16],
-    at: usize,
-    left: u32,
-    right: u32,
-    column: Place,
-    row: Place,
-    by: u64,
-)
-    requires { ⌜ Stretch column row by at (at + 8) (length (now pixels)) × (left ≤ row .span * 4095) × (right ≤ row .span * 4095) ⌝ }
-    ensures { λ _. ⌜ now (pixels .exit) ≡ patchOf (steadyAt column row left right) (now (pixels .entry)) at (at + 8) ⌝ }
-{
-    let end = at + 8;
-    let first = along(column, at);
-    let mut sum = blend::sides(first, left, right);
-    let mut i = at;
-    while i < end {
-        pixels[i] = blend::quotient(sum, column, row, by) as u16;
-        // Order 4: "let the weighted sum move by the mapped differences where the bin stays the same".
-        sum = sum + (right as u64) - (left as u64);
-        i += 1;
-    }
 }
 
 // The pair of bin k in tile column i.
@@ -124,7 +63,7 @@ fn weigh_part(
 {
     let mut i = at;
     while i < end {
-        let place = along(column, i);
+        let place = weave::along(column, i);
         pixels[i] = pixel(s, map, place, row, by, pixels[i] as u32) as u16;
         i += 1;
     }
@@ -143,11 +82,11 @@ fn weigh_eight(
     requires { ⌜ Stretch column row by at (at + 8) (length (now pixels)) × WeighPartAsks s (now map) column row at (at + 8) (now pixels) ⌝ }
     ensures { λ _. ⌜ now (pixels .exit) ≡ patchOf (cornersAt s (now (map .entry)) column row) (now (pixels .entry)) at (at + 8) ⌝ }
 {
-    if one_bin(pixels, at) {
+    if weave::one_bin(pixels, at) {
         let k = pixels[at] as u32;
         let left = side(s, map, row, column.lower, k);
         let right = side(s, map, row, column.upper, k);
-        move_eight(pixels, at, left, right, column, row, by);
+        weave::move_eight(pixels, at, left, right, column, row, by);
         return;
     }
     weigh_part(pixels, at, at + 8, s, map, column, row, by);
@@ -158,7 +97,7 @@ fn weigh_bins(pixels: &mut [u16], s: Settings, map: &[u16], column: Place, row: 
     requires { ⌜ WeighAsks s (now map) column row (now pixels) ⌝ }
     ensures { λ _. ⌜ now (pixels .exit) ≡ weighedRun s (now (map .entry)) column row (now (pixels .entry)) ⌝ }
 {
-    let by = spans_factor(column, row);
+    let by = weave::spans_factor(column, row);
     let len = pixels.len();
     let many = len / 8;
     let mut n = 0;
@@ -318,66 +257,6 @@ fn pair_row(s: Settings, map: &[u16], row: Place, pairs: &mut [u32])
     pair_up(&map[a..ae], &map[c..ce], row, &mut pairs[..each]);
 }
 
-// Renders the pixels from `at` up to `end`, whose bins stand in their places, from the pairs on the left and on the right.
-fn weave_part(
-    pixels: &mut [u16],
-    at: usize,
-    end: usize,
-    left: &[u32],
-    right: &[u32],
-    column: Place,
-    row: Place,
-    by: u64,
-)
-    requires { ⌜ Stretch column row by at end (length (now pixels)) × WeavePartAsks row (now left) (now right) at end (now pixels) ⌝ }
-    ensures { λ _. ⌜ now (pixels .exit) ≡ patchOf (strandAt column row (now (left .entry)) (now (right .entry))) (now (pixels .entry)) at end ⌝ }
-{
-    let mut i = at;
-    while i < end {
-        let k = pixels[i] as usize;
-        let place = along(column, i);
-        pixels[i] = blend::grey_sides(place, row, by, left[k], right[k]) as u16;
-        i += 1;
-    }
-}
-
-// The same for eight pixels: where they have one bin the sum moves.
-fn weave_eight(
-    pixels: &mut [u16],
-    at: usize,
-    left: &[u32],
-    right: &[u32],
-    column: Place,
-    row: Place,
-    by: u64,
-)
-    requires { ⌜ Stretch column row by at (at + 8) (length (now pixels)) × WeavePartAsks row (now left) (now right) at (at + 8) (now pixels) ⌝ }
-    ensures { λ _. ⌜ now (pixels .exit) ≡ patchOf (strandAt column row (now (left .entry)) (now (right .entry))) (now (pixels .entry)) at (at + 8) ⌝ }
-{
-    if one_bin(pixels, at) {
-        let k = pixels[at] as usize;
-        move_eight(pixels, at, left[k], right[k], column, row, by);
-        return;
-    }
-    weave_part(pixels, at, at + 8, left, right, column, row, by);
-}
-
-// Renders pixels between the same tiles, whose bins stand in their places, from the pairs on the left and on the right: eight at a time, and the rest one by one.
-fn weave(pixels: &mut [u16], left: &[u32], right: &[u32], column: Place, row: Place)
-    requires { ⌜ WeaveAsks column row (now left) (now right) (now pixels) ⌝ }
-    ensures { λ _. ⌜ now (pixels .exit) ≡ wovenOf column row (now (left .entry)) (now (right .entry)) (now (pixels .entry)) ⌝ }
-{
-    let by = spans_factor(column, row);
-    let len = pixels.len();
-    let many = len / 8;
-    let mut n = 0;
-    while n < many {
-        weave_eight(pixels, n * 8, left, right, column, row, by);
-        n += 1;
-    }
-    weave_part(pixels, many * 8, len, left, right, column, row, by);
-}
-
 // The same from the pairs of the whole row. A tile's pairs are lent as a part: an offset added in the loop was measured to cost 0.4 ns a pixel.
 fn weave_run(pixels: &mut [u16], s: Settings, pairs: &[u32], column: Place, row: Place)
     requires { ⌜ WeaveRunAsks s (now pairs) column row (now pixels) ⌝ }
@@ -388,7 +267,7 @@ fn weave_run(pixels: &mut [u16], s: Settings, pairs: &[u32], column: Place, row:
     let le = l + bins;
     let r = (column.upper as usize) * bins;
     let re = r + bins;
-    weave(pixels, &pairs[l..le], &pairs[r..re], column, row);
+    weave::weave(pixels, &pairs[l..le], &pairs[r..re], column, row);
 }
 
 // Renders a row's pixels, whose bins stand in their places, from the row's pairs.

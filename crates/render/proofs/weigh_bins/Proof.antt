@@ -26,7 +26,7 @@ mul-weigh-eight : tie.Need-mul-weigh-eight Inv-loop μ-loop
 mul-weigh-eight c = omega arith
 
 weigh-eight-requires : tie.Need-weigh-eight-requires Inv-loop μ-loop
-weigh-eight-requires c κs = (run-lies (c .before .before .before .before .before .before .pre) (c .before .before .before .spans-factor .ensures) (c .before .before .loop .inv .2) (omega arith) (omega arith) (c .before .before .loop .inv .1), run-asks (c .before .before .before .before .before .before .pre) (c .before .before .before .spans-factor .ensures) (c .before .before .loop .inv .2) (omega arith) (omega arith))
+weigh-eight-requires c κs = (run-lies (c .before .before .before .before .before .before .pre) (c .before .before .before .spans-factor .ensures .1) (c .before .before .loop .inv .2) (omega arith) (omega arith) (c .before .before .loop .inv .1), run-asks (c .before .before .before .before .before .before .pre) (c .before .before .before .spans-factor .ensures .1) (c .before .before .loop .inv .2) (omega arith) (omega arith))
 
 add-n : tie.Need-add-n Inv-loop μ-loop
 add-n c = omega arith
@@ -35,19 +35,19 @@ loop-less : tie.Need-loop-less Inv-loop μ-loop
 loop-less c = omega arith
 
 loop-again : tie.Need-loop-again Inv-loop μ-loop
-loop-again c = (omega arith, omega arith, filled-end _ _ (run-stretch (c .before .before .before .before .before .before .before .before .before .pre) (c .before .before .before .before .before .before .spans-factor .ensures) (c .before .before .before .before .before .loop .inv .2) (omega arith) (omega arith) (c .before .before .weigh-eight .ensures)) (omega arith) (omega arith))
+loop-again c = (omega arith, omega arith, filled-end _ _ (run-stretch (c .before .before .before .before .before .before .before .before .before .pre) (c .before .before .before .before .before .before .spans-factor .ensures .1) (c .before .before .before .before .before .loop .inv .2) (omega arith) (omega arith) (c .before .before .weigh-eight .ensures)) (omega arith) (omega arith))
 
 mul-weigh-part : tie.Need-mul-weigh-part Inv-loop μ-loop
 mul-weigh-part c = omega arith
 
 weigh-part-requires : tie.Need-weigh-part-requires Inv-loop μ-loop
-weigh-part-requires c κs = (run-lies (c .before .before .before .before .before .before .pre) (c .before .before .before .spans-factor .ensures) (filled-end _ _ (c .before .before .loop .inv .2) (omega arith) (omega arith)) (omega arith) (omega arith) (c .before .before .loop .inv .1), run-asks (c .before .before .before .before .before .before .pre) (c .before .before .before .spans-factor .ensures) (filled-end _ _ (c .before .before .loop .inv .2) (omega arith) (omega arith)) (omega arith) (omega arith))
+weigh-part-requires c κs = (run-lies (c .before .before .before .before .before .before .pre) (c .before .before .before .spans-factor .ensures .1) (filled-end _ _ (c .before .before .loop .inv .2) (omega arith) (omega arith)) (omega arith) (omega arith) (c .before .before .loop .inv .1), run-asks (c .before .before .before .before .before .before .pre) (c .before .before .before .spans-factor .ensures .1) (filled-end _ _ (c .before .before .loop .inv .2) (omega arith) (omega arith)) (omega arith) (omega arith))
 
 same-length : tie.Need-same-length Inv-loop μ-loop
 same-length c = omega arith
 
 returns : tie.Need-returns Inv-loop μ-loop
-returns c = run-end _ _ _ _ _ (run-stretch (c .before .before .before .before .before .before .before .before .before .pre) (c .before .before .before .before .before .before .spans-factor .ensures) (filled-end _ _ (c .before .before .before .before .before .loop .inv .2) (omega arith) (omega arith)) (omega arith) (omega arith) (c .before .before .weigh-part .ensures))
+returns c = run-end _ _ _ _ _ (run-stretch (c .before .before .before .before .before .before .before .before .before .pre) (c .before .before .before .before .before .before .spans-factor .ensures .1) (filled-end _ _ (c .before .before .before .before .before .loop .inv .2) (omega arith) (omega arith)) (omega arith) (omega arith) (c .before .before .weigh-part .ensures))
 
 pub weigh-bins-spec : {M : Type 1} → statement M
 weigh-bins-spec =

@@ -9,8 +9,8 @@ use Rattle.render.proofs.weigh_eight.Statement.{statement}
 use Rattle.render.proofs.weigh_eight.Tie as tie
 use Rattle.render.proofs.weigh_eight.Reads as reads
 use Rattle.render.proofs.weigh_eight.Lts as lts
-use Rattle.render.proofs.move_eight.Reads as move-eight-reads
-use Rattle.render.proofs.one_bin.Reads as one-bin-reads
+use Rattle.weave.proofs.move_eight.Reads as move-eight-reads
+use Rattle.weave.proofs.one_bin.Reads as one-bin-reads
 use Rattle.render.proofs.side.Reads as side-reads
 use Rattle.render.proofs.weigh_part.Reads as weigh-part-reads
 

@@ -4,8 +4,9 @@ use Prim.Native.Nat.{_≤_, _-_}
 use mathlib.Core.Path.{_≡_, refl}
 use lib.ListN.{length, length-set}
 use native.Mathlib.Omega.{arith}
-use Rattle.render.specs.Render.{patchOf, cornersAt}
-use Rattle.render.proofs.Patches.{patch-none, patch-end}
+use Rattle.weave.specs.Weave.{patchOf}
+use Rattle.render.specs.Render.{cornersAt}
+use Rattle.weave.proofs.Patches.{patch-none, patch-end}
 use Rattle.render.proofs.Runs.{turn-asks, turn-small, turn-next}
 use Rattle.render.proofs.weigh_part.Statement.{statement}
 use Rattle.render.proofs.weigh_part.Tie as tie

@@ -1,13 +1,13 @@
--- `render::one_bin` meets its contract: no bit differs among the pixels looked at where they have one bin.
+-- `weave::one_bin` meets its contract: no bit differs among the pixels looked at where they have one bin.
 -- Assumes nothing.
 use Prim.Native.Nat.{_≤_, _-_}
 use mathlib.Core.Path.{_≡_}
 use lib.Dec.{eqb}
 use native.Mathlib.Omega.{arith}
-use Rattle.render.specs.Render.{oneBin}
-use Rattle.render.proofs.Stretches.{one-bin-none, one-bin-next, one-bin-end}
-use Rattle.render.proofs.one_bin.Statement.{statement}
-use Rattle.render.proofs.one_bin.Tie as tie
+use Rattle.weave.specs.Weave.{oneBin}
+use Rattle.weave.proofs.Stretches.{one-bin-none, one-bin-next, one-bin-end}
+use Rattle.weave.proofs.one_bin.Statement.{statement}
+use Rattle.weave.proofs.one_bin.Tie as tie
 
 abbrev Inv-loop : tie.InvT-loop
 Inv-loop pixels at k other₀ j₀ other j = (j ≤ 8) × (eqb other 0 ≡ oneBin pixels at j)

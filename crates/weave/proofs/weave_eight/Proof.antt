@@ -1,16 +1,16 @@
--- `render::weave_eight` meets its contract: eight pixels of one bin have that bin's pairs.
+-- `weave::weave_eight` meets its contract: eight pixels of one bin have that bin's pairs.
 -- Assumes nothing.
 use mathlib.Core.Path.{sym, _∙_}
 use native.Mathlib.Omega.{arith}
-use Rattle.render.proofs.Weaving.{strand-steady}
+use Rattle.weave.proofs.Weaving.{strand-steady}
 use borrow.Author.Needs.{needs}
-use Rattle.render.proofs.weave_eight.Statement.{statement}
-use Rattle.render.proofs.weave_eight.Tie as tie
-use Rattle.render.proofs.weave_eight.Reads as reads
-use Rattle.render.proofs.weave_eight.Lts as lts
-use Rattle.render.proofs.move_eight.Reads as move-eight-reads
-use Rattle.render.proofs.one_bin.Reads as one-bin-reads
-use Rattle.render.proofs.weave_part.Reads as weave-part-reads
+use Rattle.weave.proofs.weave_eight.Statement.{statement}
+use Rattle.weave.proofs.weave_eight.Tie as tie
+use Rattle.weave.proofs.weave_eight.Reads as reads
+use Rattle.weave.proofs.weave_eight.Lts as lts
+use Rattle.weave.proofs.move_eight.Reads as move-eight-reads
+use Rattle.weave.proofs.one_bin.Reads as one-bin-reads
+use Rattle.weave.proofs.weave_part.Reads as weave-part-reads
 
 one-bin-requires : tie.Need-one-bin-requires
 one-bin-requires c κs = search needs

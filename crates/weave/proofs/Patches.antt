@@ -1,52 +1,20 @@
 -- Laws of a part of a list that is replaced entry by entry, each from its index and what it held.
 -- Assumes nothing.
-use Prim.Native.Nat.{ℕ, _+_, _-_, _≤_, _<_}
-use mathlib.Core.Bool.{Bool, true, false, cond}
+use Prim.Native.Nat.{ℕ, _+_, _≤_, _<_}
+use mathlib.Core.Bool.{Bool, true, false}
 use mathlib.Core.List.{List, _++_}
 use mathlib.Core.Path.{_≡_, refl, sym, ap, _∙_}
 use lib.Dec.{ltb}
 use lib.ListN.{length, drop, getD, set, take-append-drop}
-use lib.Seq.{drop-drop, drop-append-add}
-use borrow.Author.Tests.{lt-ltb, le-ltb, ltb-true, ltb-false}
+use borrow.Author.Tests.{ltb-true, ltb-false}
 use native.Mathlib.Nat.{le-refl}
-use native.Mathlib.Omega.{arith}
-use Rattle.lists.specs.Lists.{tab, filled}
-use Rattle.lists.proofs.Tabs.{length-tab, tab-cong, tab-getD}
+use Rattle.lists.specs.Lists.{filled}
+use Rattle.lists.proofs.Tabs.{tab-cong, tab-getD}
 use Rattle.lists.proofs.Fills.{filled-step, filled-end}
 use Rattle.lists.proofs.Windows.{getD-behind}
 use Rattle.lists.proofs.Tallies.{getD-filled, filled-cong, filled-tab}
-use Rattle.render.specs.Render.{patchOf}
-
--- entry i, when it is replaced from `at` on
-abbrev put : (ℕ → ℕ → ℕ) → List ℕ → ℕ → ℕ → ℕ
-put f d at i = cond (ltb i at) (getD d i 0) (f i (getD d i 0))
-
-put-before : (f : ℕ → ℕ → ℕ) (d : List ℕ) {at i : ℕ} → i < at → put f d at i ≡ getD d i 0
-put-before f d {at} {i} l = rw (lt-ltb i at l) refl
-
-put-from : (f : ℕ → ℕ → ℕ) (d : List ℕ) {at i : ℕ} → at ≤ i → put f d at i ≡ f i (getD d i 0)
-put-from f d {at} {i} l = rw (le-ltb i at l) refl
-
--- a second filling of at least as many entries is the second alone
-filled-over : (f g : ℕ → ℕ) (d : List ℕ) {n m : ℕ} → n ≤ m → filled g (filled f d n) m ≡ filled g d m
-filled-over f g d {n} {m} l =
-    filled-tab g (filled f d n) m
-    ∙ ap (λ t. tab m g ++ drop m t) (filled-tab f d n)
-    ∙ ap (λ t. tab m g ++ t) behind
-    ∙ sym (filled-tab g d m)
-  where
-    far : m ≡ length (tab n f) + (m - n)
-    far = omega (arith, length-tab n f)
-
-    near : n + (m - n) ≡ m
-    near = omega arith
-
-    behind : drop m (tab n f ++ drop n d) ≡ drop m d
-    behind =
-        ap (λ k. drop k (tab n f ++ drop n d)) far
-        ∙ drop-append-add (tab n f) (drop n d) (m - n)
-        ∙ drop-drop (m - n) n d
-        ∙ ap (λ k. drop k d) near
+use Rattle.lists.proofs.Puts.{put, put-before, put-from, filled-over}
+use Rattle.weave.specs.Weave.{patchOf}
 
 -- a patch is a filling
 patch-is : (f : ℕ → ℕ → ℕ) (d : List ℕ) (at end : ℕ) → patchOf f d at end ≡ filled (put f d at) d end

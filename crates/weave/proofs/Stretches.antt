@@ -16,8 +16,8 @@ use Rattle.blend.specs.declared.Place.{Place}
 use Rattle.blend.specs.Blend.{pairOf, sidesOf, Sound, moved}
 use Rattle.blend.proofs.Laws.{moved-sound, sides-weighed, sides-most, side-small}
 use Rattle.blend.proofs.Moves.{left-holds, sum-moves, sides-are}
-use Rattle.render.specs.Render.{oneBin, patchOf, steadyAt, Stretch}
-use Rattle.render.proofs.Patches.{patch-next}
+use Rattle.weave.specs.Weave.{oneBin, patchOf, steadyAt, Stretch}
+use Rattle.weave.proofs.Patches.{patch-next}
 
 -- ---- one bin
 

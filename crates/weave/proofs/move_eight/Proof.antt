@@ -1,4 +1,4 @@
--- `render::move_eight` meets its contract: the sum is that of each pixel's place, and the pixels ahead are as they were.
+-- `weave::move_eight` meets its contract: the sum is that of each pixel's place, and the pixels ahead are as they were.
 -- Assumes nothing.
 use Prim.Native.Nat.{_≤_, _-_, _+_}
 use mathlib.Core.Path.{_≡_, refl, ap, _∙_}
@@ -6,11 +6,11 @@ use lib.ListN.{length, length-set}
 use native.Mathlib.Omega.{arith}
 use Rattle.blend.specs.Blend.{pairOf, moved}
 use Rattle.blend.proofs.Laws.{side-small}
-use Rattle.render.specs.Render.{patchOf, steadyAt}
-use Rattle.render.proofs.Patches.{patch-none, patch-end}
-use Rattle.render.proofs.Stretches.{stretch-sound, sum-fits, sum-room, sum-holds, sum-next, steady-small, steady-next}
-use Rattle.render.proofs.move_eight.Statement.{statement}
-use Rattle.render.proofs.move_eight.Tie as tie
+use Rattle.weave.specs.Weave.{patchOf, steadyAt}
+use Rattle.weave.proofs.Patches.{patch-none, patch-end}
+use Rattle.weave.proofs.Stretches.{stretch-sound, sum-fits, sum-room, sum-holds, sum-next, steady-small, steady-next}
+use Rattle.weave.proofs.move_eight.Statement.{statement}
+use Rattle.weave.proofs.move_eight.Tie as tie
 
 abbrev Inv-loop : tie.InvT-loop
 Inv-loop pixels₀ at left right column row by end sum₀ i₀ pixels sum i =

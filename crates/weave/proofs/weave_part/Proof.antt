@@ -1,15 +1,15 @@
--- `render::weave_part` meets its contract: the pixels passed are rendered, those ahead hold their bins.
+-- `weave::weave_part` meets its contract: the pixels passed are rendered, those ahead hold their bins.
 -- Assumes nothing.
 use Prim.Native.Nat.{_≤_, _-_}
 use mathlib.Core.Path.{_≡_, refl}
 use lib.ListN.{length, length-set}
 use native.Mathlib.Omega.{arith}
-use Rattle.render.specs.Render.{patchOf, strandAt}
-use Rattle.render.proofs.Patches.{patch-none, patch-end}
-use Rattle.render.proofs.Stretches.{stretch-sound}
-use Rattle.render.proofs.Weaving.{left-there, right-there, weave-small, weave-next}
-use Rattle.render.proofs.weave_part.Statement.{statement}
-use Rattle.render.proofs.weave_part.Tie as tie
+use Rattle.weave.specs.Weave.{patchOf, strandAt}
+use Rattle.weave.proofs.Patches.{patch-none, patch-end}
+use Rattle.weave.proofs.Stretches.{stretch-sound}
+use Rattle.weave.proofs.Weaving.{left-there, right-there, weave-small, weave-next}
+use Rattle.weave.proofs.weave_part.Statement.{statement}
+use Rattle.weave.proofs.weave_part.Tie as tie
 
 abbrev Inv-loop : tie.InvT-loop
 Inv-loop pixels₀ at end left right column row by i₀ pixels i = (at ≤ i) × (i ≤ end) × (length pixels ≡ length pixels₀) × (pixels ≡ patchOf (strandAt column row left right) pixels₀ at i)

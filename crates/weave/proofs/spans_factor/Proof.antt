@@ -1,10 +1,10 @@
--- `render::spans_factor` meets its contract: the product of two sound spans is above 0 and fits 64 bits.
+-- `weave::spans_factor` meets its contract: the product of two sound spans is above 0 and fits 64 bits.
 -- Assumes nothing.
 use native.Mathlib.Omega.{arith}
 use native.Mathlib.Nat.{mul-le-mul}
 use Rattle.blend.proofs.Laws.{spans-some}
-use Rattle.render.proofs.spans_factor.Statement.{statement}
-use Rattle.render.proofs.spans_factor.Tie as tie
+use Rattle.weave.proofs.spans_factor.Statement.{statement}
+use Rattle.weave.proofs.spans_factor.Tie as tie
 
 cast-factor : tie.Need-cast-factor
 cast-factor c = omega arith
@@ -19,7 +19,7 @@ factor-requires : tie.Need-factor-requires
 factor-requires c κs = spans-some (c .before .before .pre .0) (c .before .before .pre .1)
 
 returns : tie.Need-returns
-returns c = c .factor .ensures .1
+returns c = c .factor .ensures
 
 pub spans-factor-spec : {M : Type 1} → statement M
 spans-factor-spec =

@@ -1,0 +1,3 @@
+pub mod Patches
+pub mod Stretches
+pub mod Weaving
