@@ -12,21 +12,20 @@ use Rattle.lists.specs.Lists.{all, onto}
 use Rattle.lists.proofs.Tabs.{getD-tab, tab-cong}
 use Rattle.lists.proofs.Fills.{length-joined, joined-cong, take-onto}
 use Rattle.lists.proofs.Blocks.{getD-joined, block-fits}
-use Rattle.lists.proofs.Windows.{getD-front}
 use Rattle.lists.proofs.Alls.{all-at, all-joined, all-tab}
 use Rattle.scan.specs.Scan.{within}
 use Rattle.binning.specs.Binning.{binOf}
 use Rattle.tally.specs.Tally.{greysOf}
 use Rattle.tally.proofs.Greys.{getD-greys}
-use Rattle.blend.specs.declared.Place.{Place}
-use Rattle.blend.specs.Blend.{greyOf}
+use Rattle.blend.specs.Blend.{placeOf, greyOf}
 use Rattle.settings.specs.declared.Settings.{Settings}
 use Rattle.settings.specs.declared.Window.{Window}
 use Rattle.settings.specs.Settings.{binsOf, entriesOf, keptOf, Ready}
 use Rattle.settings.proofs.Like.{bins-kept}
 use Rattle.settings.proofs.Ready.{tiles-exact, tile-some, tile-most}
-use Rattle.render.specs.Render.{mappedAt, pixelOf, columnPlace, rowPlace, renderedOf, renderOf, whole, rectOf, Fits, Mapped, Shown, PixelAsks}
-use Rattle.render.proofs.Pixels.{entry-index, pixel-bin, pixel-within}
+use Rattle.weigh.proofs.Pixels.{corners-by}
+use Rattle.render.specs.Render.{pixelOf, columnPlace, rowPlace, renderedOf, renderOf, whole, rectOf, Fits, Mapped, Shown, PixelAsks}
+use Rattle.render.proofs.Pixels.{pixel-corners, pixel-fields, pixel-bin, pixel-within, pixel-front}
 use Rattle.render.proofs.Rows.{pixel-asks}
 use Rattle.render.proofs.Strips.{strip, length-strip, render-strips}
 
@@ -49,8 +48,11 @@ render-at w h s m win vs {j} {i} l k =
 -- the clip setting plays no part in rendering
 pub render-fields : (w h : ℕ) (s s′ : Settings) (m : List ℕ) (win : Window) (vs : List ℕ)
     → s′ .across ≡ s .across → s′ .down ≡ s .down → binsOf s′ ≡ binsOf s → s′ .min ≡ s .min → s′ .max ≡ s .max → renderOf w h s′ m win vs ≡ renderOf w h s m win vs
-unfolding renderOf renderedOf pixelOf mappedAt
-render-fields w h s s′ m win vs across down bins min max = rw (bins, across, down, min, max) refl
+unfolding renderOf renderedOf
+render-fields w h s s′ m win vs across down bins min max =
+    joined-cong (win .height)
+    (λ j l. tab-cong (win .width) (λ i k. pixel-fields s s′ m _ _ _ across bins min max
+    ∙ ap₂ (λ a d. pixelOf s m (placeOf (w / a) a (win .left + i)) (placeOf (h / d) d (win .top + j)) (getD vs (j * win .width + i) 0)) across down))
 
 -- and bins 0 are 128: with the settings as they are kept the pixels come out the same
 pub render-kept : (w h : ℕ) (s : Settings) (m : List ℕ) (win : Window) (vs : List ℕ) → renderOf w h (keptOf s) m win vs ≡ renderOf w h s m win vs
@@ -92,32 +94,7 @@ render-within {w} {h} {s} {m} {win} {vs} mapped shown =
 
 -- ---- only the mappings' entries of the map buffer are read
 
--- a mapped value is the same in buffers that agree in the mappings' entries
-pub mapped-front : (s : Settings) (m m′ : List ℕ) → take (entriesOf s) m ≡ take (entriesOf s) m′ → {j i k : ℕ} → j < s .down → i < s .across → k < binsOf s
-    → mappedAt s m j i k ≡ mappedAt s m′ j i k
-unfolding mappedAt
-mapped-front s m m′ e {j} {i} {k} h l q =
-    getD-front (entriesOf s) m m′ e ((j * s .across + i) * binsOf s + k) (entry-index {across = s .across} {down = s .down} h l q)
-
--- and so is a pixel
-pub pixel-front : {s : Settings} {m : List ℕ} {column row : Place} {v : ℕ} → PixelAsks s m column row v → (m′ : List ℕ) → take (entriesOf s) m ≡ take (entriesOf s) m′
-    → pixelOf s m column row v ≡ pixelOf s m′ column row v
-unfolding pixelOf
-pixel-front {s} {m} {column} {row} {v} asks m′ e =
-    let a : mappedAt s m (row .lower) (column .lower) k ≡ mappedAt s m′ (row .lower) (column .lower) k = same (asks .row .lower) (asks .column .lower) in
-    let b : mappedAt s m (row .lower) (column .upper) k ≡ mappedAt s m′ (row .lower) (column .upper) k = same (asks .row .lower) (asks .column .upper) in
-    let c : mappedAt s m (row .upper) (column .lower) k ≡ mappedAt s m′ (row .upper) (column .lower) k = same (asks .row .upper) (asks .column .lower) in
-    let d : mappedAt s m (row .upper) (column .upper) k ≡ mappedAt s m′ (row .upper) (column .upper) k = same (asks .row .upper) (asks .column .upper) in
-    ap₂ (λ x y. greyOf column row x y (mappedAt s m (row .upper) (column .lower) k) (mappedAt s m (row .upper) (column .upper) k)) a b
-    ∙ ap₂ (greyOf column row (mappedAt s m′ (row .lower) (column .lower) k) (mappedAt s m′ (row .lower) (column .upper) k)) c d
-  where
-    k : ℕ
-    k = binOf (s .min) (s .max) (binsOf s) v
-
-    same : {j i : ℕ} → j < s .down → i < s .across → mappedAt s m j i (binOf (s .min) (s .max) (binsOf s) v) ≡ mappedAt s m′ j i (binOf (s .min) (s .max) (binsOf s) v)
-    same h l = mapped-front s m m′ e h l (pixel-bin asks)
-
--- and so is a pixel of the film
+-- a pixel of the film is the same in buffers that agree in the mappings' entries
 pub rendered-front : {w h : ℕ} {s : Settings} {m : List ℕ} → Mapped w h s m → (m′ : List ℕ) → take (entriesOf s) m ≡ take (entriesOf s) m′
     → (x y v : ℕ) → x < w → y < h → within (s .min) (s .max) v ≡ true → renderedOf w h s m x y v ≡ renderedOf w h s m′ x y v
 unfolding renderedOf
@@ -163,13 +140,8 @@ pub rendered-by : {w h : ℕ} {s : Settings} {m : List ℕ} → Mapped w h s m �
     ≡ greyOf (columnPlace w s x) (rowPlace h s y)
     (value (rowPlace h s y .lower) (columnPlace w s x .lower)) (value (rowPlace h s y .lower) (columnPlace w s x .upper))
     (value (rowPlace h s y .upper) (columnPlace w s x .lower)) (value (rowPlace h s y .upper) (columnPlace w s x .upper))
-unfolding renderedOf pixelOf mappedAt
+unfolding renderedOf
 rendered-by {w} {h} {s} {m} mapped value {x} {y} v l k g same =
     let places : PixelAsks s m (columnPlace w s x) (rowPlace h s y) v = pixel-asks mapped l k g in
-    let bin = pixel-bin places in
-    rw (
-      same _ _ (places .row .lower) (places .column .lower) bin,
-      same _ _ (places .row .lower) (places .column .upper) bin,
-      same _ _ (places .row .upper) (places .column .lower) bin,
-      same _ _ (places .row .upper) (places .column .upper) bin,
-    ) refl
+    pixel-corners s m (columnPlace w s x) (rowPlace h s y) v
+    ∙ corners-by s m (binOf (s .min) (s .max) (binsOf s) v) value (places .column) (places .row) (λ j i p q. same j i p q (pixel-bin places))

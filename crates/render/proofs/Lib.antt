@@ -4,6 +4,4 @@ pub mod Sections
 pub mod Rows
 pub mod Strips
 pub mod Laws
-pub mod Bins
-pub mod Pairs
 pub mod Weaving

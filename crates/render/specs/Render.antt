@@ -5,22 +5,19 @@ use Prim.Native.Nat.{ℕ, _+_, _-_, _*_, _/_, _≤_, _<_}
 use mathlib.Core.Bool.{true}
 use mathlib.Core.List.{List}
 use mathlib.Core.Path.{_≡_}
-use lib.ListN.{length, getD, take}
+use lib.ListN.{length, getD}
 use Rattle.lists.specs.Lists.{tab, joined, all}
 use Rattle.scan.specs.Scan.{within}
-use Rattle.binning.specs.Binning.{binOf, factorOf}
-use Rattle.tally.specs.Tally.{Scale}
+use Rattle.binning.specs.Binning.{binOf}
 use Rattle.tally.specs.declared.Rect.{Rect}
 use Rattle.blend.specs.declared.Place.{Place}
-use Rattle.blend.specs.Blend.{placeOf, greyOf, pairOf, sidesOf, Sound, moved, Run}
+use Rattle.blend.specs.Blend.{placeOf, greyOf, Sound, moved, Run}
 use Rattle.settings.specs.declared.Settings.{Settings}
 use Rattle.settings.specs.declared.Window.{Window}
-use Rattle.settings.specs.Settings.{binsOf, entriesOf}
+use Rattle.settings.specs.Settings.{binsOf}
+use Rattle.weigh.specs.Weigh.{mappedAt, Maps}
+use Rattle.pairs.specs.Pairs.{wovenAt, Pairs}
 use Rattle.render.specs.declared.Section.{Section}
-
--- the mapped value of bin k of the tile in tile row j and tile column i: "tiles row by row, bins upward"
-unfoldable pub mappedAt : Settings → List ℕ → ℕ → ℕ → ℕ → ℕ
-mappedAt s m j i k = getD m ((j * s .across + i) * binsOf s + k) 0
 
 -- "With A, B', C, D the four tiles' mapped values (upper left, upper right, lower left, lower right) of the pixel's bin": v is the pixel's grey
 unfoldable pub pixelOf : Settings → List ℕ → Place → Place → ℕ → ℕ
@@ -52,56 +49,9 @@ rowOf w s m left row vs = tab (length vs) (λ i. pixelOf s m (columnPlace w s (l
 unfoldable pub runOf : Settings → List ℕ → Place → Place → List ℕ → List ℕ
 runOf s m column row vs = tab (length vs) (λ i. pixelOf s m (moved column i) row (getD vs i 0))
 
--- ---- from bins
-
--- the grey of a pixel of bin k at these places
-unfoldable pub cornersOf : Settings → List ℕ → Place → Place → ℕ → ℕ
-cornersOf s m column row k =
-    greyOf column row
-    (mappedAt s m (row .lower) (column .lower) k)
-    (mappedAt s m (row .lower) (column .upper) k)
-    (mappedAt s m (row .upper) (column .lower) k)
-    (mappedAt s m (row .upper) (column .upper) k)
-
--- such pixels between the same tiles, of bins ks
-unfoldable pub weighedRun : Settings → List ℕ → Place → Place → List ℕ → List ℕ
-weighedRun s m column row ks = tab (length ks) (λ i. cornersOf s m (moved column i) row (getD ks i 0))
-
--- the pair of bin k in tile column i: the mapped values above and below, each by the row's weight
-unfoldable pub sideOf : Settings → List ℕ → Place → ℕ → ℕ → ℕ
-sideOf s m row i k = pairOf row (mappedAt s m (row .lower) i k) (mappedAt s m (row .upper) i k)
-
--- the grey of pixel i of such a run, of bin k
-abbrev pub cornersAt : Settings → List ℕ → Place → Place → ℕ → ℕ → ℕ
-cornersAt s m column row i k = cornersOf s m (moved column i) row k
-
 -- ---- by pairs
 
--- the entries of a row of tiles
-abbrev pub rowEntries : Settings → ℕ
-rowEntries s = s .across * binsOf s
-
--- entry n of the pairs at a row's place: the mapped values n entries into the tiles above and below, each by the row's weight
-unfoldable pub pairAt : Settings → List ℕ → Place → ℕ → ℕ
-pairAt s m row n = pairOf row (getD m (row .lower * rowEntries s + n) 0) (getD m (row .upper * rowEntries s + n) 0)
-
--- the pairs of two lists, entry by entry
-unfoldable pub pairsOf : Place → List ℕ → List ℕ → List ℕ
-pairsOf row low high = tab (length low) (λ n. pairOf row (getD low n 0) (getD high n 0))
-
--- the bins of greys vs
-unfoldable pub binnedOf : Settings → List ℕ → List ℕ
-binnedOf s vs = tab (length vs) (λ i. binOf (s .min) (s .max) (binsOf s) (getD vs i 0))
-
--- the grey of a pixel of bin k from the pairs of the whole row, which lie tile by tile
-unfoldable pub wovenAt : Settings → List ℕ → Place → Place → ℕ → ℕ
-wovenAt s ps column row k = sidesOf column row (getD ps (column .lower * binsOf s + k) 0) (getD ps (column .upper * binsOf s + k) 0)
-
--- such pixels between the same tiles, of bins ks
-unfoldable pub wovenRun : Settings → List ℕ → Place → Place → List ℕ → List ℕ
-wovenRun s ps column row ks = tab (length ks) (λ i. wovenAt s ps (moved column i) row (getD ks i 0))
-
--- a row of such pixels from column `left` on
+-- a row of pixels of bins ks from column `left` on, from the pairs of the row
 unfoldable pub wovenRow : ℕ → Settings → List ℕ → ℕ → Place → List ℕ → List ℕ
 wovenRow w s ps left row ks = tab (length ks) (λ i. wovenAt s ps (columnPlace w s (left + i)) row (getD ks i 0))
 
@@ -128,14 +78,6 @@ pub record Fits (side grid : ℕ) : Type 0 where
   pub some : 0 < side / grid
   pub most : side / grid ≤ 2048
   pub whole : side ≡ side / grid * grid
-
--- settings and mappings: grid, range and bins within document 01's bounds, and mapped values from Min to Max
-pub record Maps (s : Settings) (m : List ℕ) : Type 0 where
-  pub across : s .across ≤ 16
-  pub down : s .down ≤ 16
-  pub scale : Scale (s .min) (s .max) (binsOf s)
-  pub room : entriesOf s ≤ length m
-  pub greys : all (within (s .min) (s .max)) (take (entriesOf s) m) ≡ true
 
 -- settings and mappings from which a film's pixels can be rendered
 pub record Mapped (w h : ℕ) (s : Settings) (m : List ℕ) : Type 0 where
@@ -165,28 +107,6 @@ pub record RunAsks (s : Settings) (m : List ℕ) (atcolumn atrow : Place) (vs : 
   pub room : length vs ≤ atcolumn .lowerweight
   pub greys : all (within (s .min) (s .max)) vs ≡ true
 
--- what a pixel of bin k asks
-pub record CornerAsks (s : Settings) (m : List ℕ) (atcolumn atrow : Place) (k : ℕ) : Type 0 where
-  pub maps : Maps s m
-  pub column : Sound (s .across) 2048 atcolumn
-  pub row : Sound (s .down) 2048 atrow
-  pub bin : k < binsOf s
-
--- what `weigh_part` asks: as a pixel of its bin, of each pixel from `at` up to `end`
-pub record WeighPartAsks (s : Settings) (m : List ℕ) (atcolumn atrow : Place) (at end : ℕ) (ks : List ℕ) : Type 0 where
-  pub maps : Maps s m
-  pub column : Sound (s .across) 2048 atcolumn
-  pub row : Sound (s .down) 2048 atrow
-  pub bins : (i : ℕ) → at ≤ i → i < end → getD ks i 0 < binsOf s
-
--- what `weigh_bins` asks: the same of all pixels, and no more of them than the weight can move by
-pub record WeighAsks (s : Settings) (m : List ℕ) (atcolumn atrow : Place) (ks : List ℕ) : Type 0 where
-  pub maps : Maps s m
-  pub column : Sound (s .across) 2048 atcolumn
-  pub row : Sound (s .down) 2048 atrow
-  pub room : length ks ≤ atcolumn .lowerweight
-  pub bins : (i : ℕ) → i < length ks → getD ks i 0 < binsOf s
-
 -- what a row asks: a place among the tiles, pixels inside the film from column `left` on, and greys from Min to Max
 pub record RowAsks (w : ℕ) (s : Settings) (m : List ℕ) (left : ℕ) (atrow : Place) (vs : List ℕ) : Type 0 where
   pub maps : Maps s m
@@ -201,35 +121,6 @@ pub record Sectioned (w grid left at n : ℕ) (r : Section) : Type 0 where
   pub start : at < r .end
   pub end : r .end ≤ n
   pub run : Run (w / grid) grid (left + at) (r .column) (r .end - at)
-
--- what `pair_up` asks: two lists of one length, whose values are mapped values
-pub record PairAsks (atrow : Place) (low high : List ℕ) (n : ℕ) : Type 0 where
-  pub row : Sound 16 2048 atrow
-  pub lowlength : length low ≡ n
-  pub highlength : length high ≡ n
-  pub lows : (k : ℕ) → k < n → getD low k 0 ≤ 4095
-  pub highs : (k : ℕ) → k < n → getD high k 0 ≤ 4095
-
--- what bins in the places of greys ask
-pub record BinsAsks (s : Settings) (vs : List ℕ) (factor : ℕ) : Type 0 where
-  pub scale : Scale (s .min) (s .max) (binsOf s)
-  pub greys : all (within (s .min) (s .max)) vs ≡ true
-  pub by : factor ≡ factorOf (s .min) (s .max) (binsOf s)
-
--- the pairs of a row of tiles: room for each bin of each tile, and no pair larger than pairs are
-pub record Pairs (s : Settings) (ps : List ℕ) (atrow : Place) : Type 0 where
-  pub across : s .across ≤ 16
-  pub few : binsOf s ≤ 4096
-  pub row : Sound 16 2048 atrow
-  pub room : rowEntries s ≤ length ps
-  pub small : (n : ℕ) → n < rowEntries s → getD ps n 0 ≤ atrow .span * 4095
-
--- what `weave_run` asks: a place among the tiles, bins, and no more pixels than the weight can move by
-pub record WeaveRunAsks (s : Settings) (ps : List ℕ) (atcolumn atrow : Place) (ks : List ℕ) : Type 0 where
-  pub pairs : Pairs s ps atrow
-  pub column : Sound (s .across) 2048 atcolumn
-  pub room : length ks ≤ atcolumn .lowerweight
-  pub bins : (i : ℕ) → i < length ks → getD ks i 0 < binsOf s
 
 -- what `weave_row` asks: pixels inside the film from column `left` on, and bins
 pub record WeaveRowAsks (w : ℕ) (s : Settings) (ps : List ℕ) (left : ℕ) (atrow : Place) (ks : List ℕ) : Type 0 where

@@ -6,8 +6,8 @@ use Rattle.render.proofs.weigh_run.Statement.{statement}
 use Rattle.render.proofs.weigh_run.Tie as tie
 use Rattle.render.proofs.weigh_run.Reads as reads
 use Rattle.render.proofs.weigh_run.Lts as lts
-use Rattle.render.proofs.bins_by.Reads as bins-by-reads
-use Rattle.render.proofs.weigh_bins.Reads as weigh-bins-reads
+use Rattle.pairs.proofs.bins_by.Reads as bins-by-reads
+use Rattle.weigh.proofs.weigh_bins.Reads as weigh-bins-reads
 
 bins-by-requires : tie.Need-bins-by-requires
 bins-by-requires c κs = search needs
