@@ -110,7 +110,7 @@ fn pairs_pay(s: Settings, wide: usize, room: usize) -> bool
     entries / 8 <= wide
 }
 
-// Renders pixels of row y in place, from column `left` on; the pairs are room to work in.
+// Renders pixels of row y in place, from column `left` on; the pairs are room to work in, which keeps its length.
 pub fn render_row(
     pixels: &mut [u16],
     left: u32,
@@ -122,7 +122,7 @@ pub fn render_row(
     pairs: &mut [u32],
 )
     requires { ⌜ Fits height (s .down) × (y < height) × RowAsks width s (now map) left (rowPlace height s y) (now pixels) ⌝ }
-    ensures { λ _. ⌜ now (pixels .exit) ≡ rowOf width s (now (map .entry)) left (rowPlace height s y) (now (pixels .entry)) ⌝ }
+    ensures { λ _. ⌜ (now (pixels .exit) ≡ rowOf width s (now (map .entry)) left (rowPlace height s y) (now (pixels .entry))) × (length (now (pairs .exit)) ≡ length (now (pairs .entry))) ⌝ }
 {
     let row = blend::locate(height / s.down, s.down, y);
     if pairs_pay(s, pixels.len(), pairs.len()) {

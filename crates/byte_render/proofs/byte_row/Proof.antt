@@ -23,10 +23,10 @@ slice-reshare-prefix-narrow : tie.Need-slice-reshare-prefix-narrow
 slice-reshare-prefix-narrow c = search needs
 
 slice-aggregate-narrow : tie.Need-slice-aggregate-narrow
-slice-aggregate-narrow c = back-size (c .before .before .before .before .before .before .before .before .before .before .before .before .before .before .before .before .before .pre) _ (c .before .before .before .before .before .before .before .before .before .before .widen .ensures) (c .before .before .before .before .before .render-row .ensures)
+slice-aggregate-narrow c = back-size (c .before .before .before .before .before .before .before .before .before .before .before .before .before .before .before .before .before .pre) _ (c .before .before .before .before .before .before .before .before .before .before .widen .ensures) (c .before .before .before .before .before .render-row .ensures .0)
 
 narrow-requires : tie.Need-narrow-requires
-narrow-requires c κs = (le-of-eq (sym (back-size (c .before .before .before .before .before .before .before .before .before .before .before .before .before .before .before .before .before .before .pre) _ (c .before .before .before .before .before .before .before .before .before .before .before .widen .ensures) (c .before .before .before .before .before .before .render-row .ensures))), line-bytes (c .before .before .before .before .before .before .before .before .before .before .before .before .before .before .before .before .before .before .pre) _ (c .before .before .before .before .before .before .before .before .before .before .before .widen .ensures) (c .before .before .before .before .before .before .render-row .ensures))
+narrow-requires c κs = (le-of-eq (sym (back-size (c .before .before .before .before .before .before .before .before .before .before .before .before .before .before .before .before .before .before .pre) _ (c .before .before .before .before .before .before .before .before .before .before .before .widen .ensures) (c .before .before .before .before .before .before .render-row .ensures .0))), line-bytes (c .before .before .before .before .before .before .before .before .before .before .before .before .before .before .before .before .before .before .pre) _ (c .before .before .before .before .before .before .before .before .before .before .before .widen .ensures) (c .before .before .before .before .before .before .render-row .ensures .0))
 
 same-length : tie.Need-same-length
 same-length c = search needs
@@ -38,7 +38,7 @@ same-length-3 : tie.Need-same-length-3
 same-length-3 c = search needs
 
 returns : tie.Need-returns
-returns c = line-back (c .before .before .before .before .before .before .before .before .before .before .before .before .before .before .before .before .before .before .before .before .before .pre) _ (c .before .before .before .before .before .before .before .before .before .before .before .before .before .before .widen .ensures) (c .before .before .before .before .before .before .before .before .before .render-row .ensures) (c .before .before .narrow .ensures)
+returns c = line-back (c .before .before .before .before .before .before .before .before .before .before .before .before .before .before .before .before .before .before .before .before .before .pre) _ (c .before .before .before .before .before .before .before .before .before .before .before .before .before .before .widen .ensures) (c .before .before .before .before .before .before .before .before .before .render-row .ensures .0) (c .before .before .narrow .ensures)
 
 pub byte-row-spec : {M : Type 1} → statement M
 byte-row-spec =

@@ -1,4 +1,4 @@
--- `render::render_row` meets its contract: either way gives the row.
+-- `render::render_row` meets its contract: either way gives the row, and the room keeps its length.
 -- Assumes nothing.
 use mathlib.Core.Path.{ap, _∙_}
 use native.Mathlib.Omega.{arith}
@@ -26,7 +26,7 @@ same-length-2 : tie.Need-same-length-2
 same-length-2 c = omega arith
 
 returns : tie.Need-returns
-returns c = c .before .before .before .before .paired-row .ensures ∙ ap (λ p. rowOf (c .before .before .before .before .before .before .before .before .before .before .before .before .before .before .args .width) (c .before .before .before .before .before .before .before .before .before .before .before .before .before .before .args .s) (c .before .before .before .before .before .before .before .before .before .before .before .before .before .before .args .map .now) (c .before .before .before .before .before .before .before .before .before .before .before .before .before .before .args .left) p (c .before .before .before .before .before .before .before .before .before .before .before .before .before .before .args .pixels .now)) (c .before .before .before .before .before .before .before .before .before .locate .ensures)
+returns c = (c .before .before .before .before .paired-row .ensures ∙ ap (λ p. rowOf (c .before .before .before .before .before .before .before .before .before .before .before .before .before .before .args .width) (c .before .before .before .before .before .before .before .before .before .before .before .before .before .before .args .s) (c .before .before .before .before .before .before .before .before .before .before .before .before .before .before .args .map .now) (c .before .before .before .before .before .before .before .before .before .before .before .before .before .before .args .left) p (c .before .before .before .before .before .before .before .before .before .before .before .before .before .before .args .pixels .now)) (c .before .before .before .before .before .before .before .before .before .locate .ensures), omega arith)
 
 weighed-row-requires : tie.Need-weighed-row-requires
 weighed-row-requires c κs = rw (c .before .before .before .locate .ensures) (c .before .before .before .before .before .before .before .before .pre .2)
@@ -35,7 +35,7 @@ same-length-3 : tie.Need-same-length-3
 same-length-3 c = omega arith
 
 returns-2 : tie.Need-returns-2
-returns-2 c = c .before .before .weighed-row .ensures ∙ ap (λ p. rowOf (c .before .before .before .before .before .before .before .before .before .before .before .args .width) (c .before .before .before .before .before .before .before .before .before .before .before .args .s) (c .before .before .before .before .before .before .before .before .before .before .before .args .map .now) (c .before .before .before .before .before .before .before .before .before .before .before .args .left) p (c .before .before .before .before .before .before .before .before .before .before .before .args .pixels .now)) (c .before .before .before .before .before .before .locate .ensures)
+returns-2 c = (c .before .before .weighed-row .ensures ∙ ap (λ p. rowOf (c .before .before .before .before .before .before .before .before .before .before .before .args .width) (c .before .before .before .before .before .before .before .before .before .before .before .args .s) (c .before .before .before .before .before .before .before .before .before .before .before .args .map .now) (c .before .before .before .before .before .before .before .before .before .before .before .args .left) p (c .before .before .before .before .before .before .before .before .before .before .before .args .pixels .now)) (c .before .before .before .before .before .before .locate .ensures), omega arith)
 
 pub render-row-spec : {M : Type 1} → statement M
 render-row-spec =

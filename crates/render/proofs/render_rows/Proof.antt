@@ -59,7 +59,7 @@ loop-less c = omega arith
 -- one row more
 next : (c : tie.After-slice-known4 Inv-loop μ-loop) → putMid (c .before .before .before .before .before .before .before .before .before .before .loop .j * c .before .before .before .before .before .before .before .before .before .before .before .before .before .before .before .args .win .width) (c .before .before .before .before .before .before .before .before .before .before .loop .j * c .before .before .before .before .before .before .before .before .before .before .before .before .before .before .before .args .win .width + c .before .before .before .before .before .before .before .before .before .before .before .before .before .before .before .args .win .width - c .before .before .before .before .before .before .before .before .before .before .loop .j * c .before .before .before .before .before .before .before .before .before .before .before .before .before .before .before .args .win .width) (c .before .before .before .before .before .before .before .before .before .before .loop .pixels) (c .before .before .before .before .render-row .last .0)
     ≡ blocks (c .before .before .before .before .before .before .before .before .before .before .before .before .before .before .before .args .win .width) (strip (c .before .before .before .before .before .before .before .before .before .before .before .before .before .before .before .args .width) (c .before .before .before .before .before .before .before .before .before .before .before .before .before .before .before .args .height) (c .before .before .before .before .before .before .before .before .before .before .before .before .before .before .before .args .s) (c .before .before .before .before .before .before .before .before .before .before .before .before .before .before .before .args .map .now) (c .before .before .before .before .before .before .before .before .before .before .before .before .before .before .before .args .win) (c .before .before .before .before .before .before .before .before .before .before .before .before .before .before .before .args .pixels .now)) (c .before .before .before .before .before .before .before .before .before .before .before .before .before .before .before .args .pixels .now) (c .before .before .before .before .before .before .before .before .before .before .loop .j + 1)
-next c = strips-next (c .before .before .before .before .before .before .before .before .before .before .before .before .before .before .before .pre) (c .before .before .before .before .before .before .before .before .before .before .loop .inv .3) (c .before .before .before .before .before .before .before .before .if1 .taken) (c .before .before .before .before .render-row .ensures)
+next c = strips-next (c .before .before .before .before .before .before .before .before .before .before .before .before .before .before .before .pre) (c .before .before .before .before .before .before .before .before .before .before .loop .inv .3) (c .before .before .before .before .before .before .before .before .if1 .taken) (c .before .before .before .before .render-row .ensures .0)
 
 loop-again : tie.Need-loop-again Inv-loop μ-loop
 loop-again c = (omega arith, strips-length (c .before .before .before .before .before .before .before .before .before .before .before .before .before .before .before .pre) (next c) (omega arith), omega arith, next c)
