@@ -41,22 +41,6 @@ or-none a b = go (eqb a 0) (eqb b 0) refl refl
     go false q h k = ne-eqb (bitOr a b) 0 (λ z. eqb-false a 0 h (omega (arith, z, or-add-and a b, and-le-l a b, and-le-r a b)))
 
 module _ (ks : List ℕ) (at : ℕ) where
-  pub one-bin-none : eqb 0 0 ≡ oneBin ks at 0
-  unfolding oneBin
-  one-bin-none = refl
-
-  -- one entry more is looked at
-  pub one-bin-next : (n other : ℕ) → eqb other 0 ≡ oneBin ks at n → eqb (bitOr other (bitXor (getD ks (at + n) 0) (getD ks at 0))) 0 ≡ oneBin ks at (n + 1)
-  unfolding oneBin
-  one-bin-next n other e =
-      or-none other (bitXor (getD ks (at + n) 0) (getD ks at 0))
-      ∙ ap₂ (λ a b. a && b) e (xor-none (getD ks (at + n) 0) (getD ks at 0))
-      ∙ ap (oneBin ks at) (sym (add-one n))
-
-  -- all eight
-  pub one-bin-end : (n : ℕ) {b : Bool} → b ≡ oneBin ks at n → n ≤ 8 → 8 ≤ n → b ≡ oneBin ks at 8
-  one-bin-end n e l h = let q : n ≡ 8 = omega arith in e ∙ ap (oneBin ks at) q
-
   -- each entry looked at is the first one
   same : (n : ℕ) → oneBin ks at n ≡ true → (j : ℕ) → j < n → getD ks (at + j) 0 ≡ getD ks at 0
   unfolding oneBin
@@ -69,6 +53,30 @@ module _ (ks : List ℕ) (at : ℕ) where
           let k : at + j ≡ at + n = ap (λ i. at + i) (eqb-true j n q) in
           ap (λ i. getD ks i 0) k ∙ eqb-true _ _ (and-right (oneBin ks at n) (eqb (getD ks (at + n) 0) (getD ks at 0)) e)
       last false q before = let r : j ≡ n → ⊥ = eqb-false j n q in before (omega arith)
+
+  -- the first entry is its own bin's
+  pub one-bin-first : eqb 0 0 ≡ oneBin ks at (0 + 1)
+  unfolding oneBin
+  one-bin-first = sym (eq-eqb (getD ks (at + 0) 0) (getD ks at 0) (let k : at + 0 ≡ at = omega arith in ap (λ i. getD ks i 0) k))
+
+  -- one entry more is looked at: where all before it are the first one, its neighbour is that too
+  pub one-bin-next : (n other : ℕ) → eqb other 0 ≡ oneBin ks at (n + 1) → eqb (bitOr other (bitXor (getD ks (at + n + 1) 0) (getD ks (at + n) 0))) 0 ≡ oneBin ks at (n + 1 + 1)
+  unfolding oneBin
+  one-bin-next n other e =
+      or-none other (bitXor (getD ks (at + n + 1) 0) (getD ks (at + n) 0))
+      ∙ ap₂ (λ a b. a && b) e (xor-none (getD ks (at + n + 1) 0) (getD ks (at + n) 0))
+      ∙ held (oneBin ks at (n + 1)) refl
+      ∙ ap (oneBin ks at) (sym (add-one (n + 1)))
+    where
+      held : (b : Bool) → oneBin ks at (n + 1) ≡ b → (b && eqb (getD ks (at + n + 1) 0) (getD ks (at + n) 0)) ≡ (b && eqb (getD ks (at + (n + 1)) 0) (getD ks at 0))
+      held true q =
+          let k : at + n + 1 ≡ at + (n + 1) = omega arith in
+          ap₂ eqb (ap (λ i. getD ks i 0) k) (same (n + 1) q n (omega arith))
+      held false q = refl
+
+  -- all eight
+  pub one-bin-end : (n : ℕ) {b : Bool} → b ≡ oneBin ks at n → n ≤ 8 → 8 ≤ n → b ≡ oneBin ks at 8
+  one-bin-end n e l h = let q : n ≡ 8 = omega arith in e ∙ ap (oneBin ks at) q
 
   pub one-bin-same : oneBin ks at 8 ≡ true → (i : ℕ) → at ≤ i → i < at + 8 → getD ks i 0 ≡ getD ks at 0
   one-bin-same e i l h = let k : i ≡ at + (i - at) = omega arith in ap (λ j. getD ks j 0) k ∙ same 8 e (i - at) (omega arith)
