@@ -1,6 +1,6 @@
--- What the tiles of a film of bytes and its rendering ask: what the wide ones ask, and that the line, the bytes and the function's own room suffice.
+-- What the tiles of a film of bytes and its rendering ask: what the wide ones ask, and that the bytes and the functions' own room suffice.
 -- Assumes nothing.
-use Prim.Native.Nat.{ℕ, _+_, _-_, _*_, _≤_, _<_}
+use Prim.Native.Nat.{ℕ, _+_, _-_, _*_, _<_}
 use mathlib.Core.List.{List}
 use mathlib.Core.Path.{_≡_}
 use native.Mathlib.Nat.{mul-le-mul, le-of-eq}
@@ -24,29 +24,28 @@ pub wide-tiles : {w h : ℕ} {pic : List ℕ} {s : Settings} {room scratch : ℕ
 wide-tiles asks = record { work = asks .film .work; changes = asks .changes }
 
 -- and one of them
-pub wide-tile : {w h : ℕ} {pic : List ℕ} {s : Settings} {k room scratch line : ℕ} → ByteTileAsks w h pic s k room scratch line → TileAsks w h pic s k room scratch
+pub wide-tile : {w h : ℕ} {pic : List ℕ} {s : Settings} {k room scratch : ℕ} → ByteTileAsks w h pic s k room scratch → TileAsks w h pic s k room scratch
 wide-tile asks = record { film = wide-tiles (asks .tiles); tile = asks .tile }
 
 -- what the mapping of tile k asks, its rectangle and the bins as they were worked out
-pub byte-tile-asks : (m : List ℕ) {w h : ℕ} {pic : List ℕ} {s : Settings} {k scratch line : ℕ} → ByteTileAsks w h pic s k (length m) scratch line
+pub byte-tile-asks : (m : List ℕ) {w h : ℕ} {pic : List ℕ} {s : Settings} {k scratch : ℕ} → ByteTileAsks w h pic s k (length m) scratch
     → {r : Rect} {b : ℕ} → r ≡ tileOf w h s k → b ≡ binsOf s
-    → tile.ByteTileAsks pic w r (s .min) (s .max) b (s .clip) line scratch (length (take (k * b + b - k * b) (drop (k * b) m)))
-byte-tile-asks m {w} {h} {pic} {s} {k} {scratch} {line} asks {r} {b} p q =
+    → tile.ByteTileAsks pic w r (s .min) (s .max) b (s .clip) scratch (length (take (k * b + b - k * b) (drop (k * b) m)))
+byte-tile-asks m {w} {h} {pic} {s} {k} {scratch} asks {r} {b} p q =
     let ready : Ready w h (length pic) s (length m) = asks .tiles .film .work .ready in
     record {
       tile = tile-asks m (wide-tile asks) p q;
       few = omega (arith, asks .tiles .film .profile .few);
       bytes = omega (arith, asks .tiles .film .profile .max);
-      wide = rw p (omega (arith, tile-inside (ready .tiled) (asks .tile) (ready .whole) .across, ready .tiled .widest, asks .fitting));
-      long = omega (arith, asks .tiles .film .profile .few, asks .fitting);
+      wide = rw p (omega (arith, tile-inside (ready .tiled) (asks .tile) (ready .whole) .across, ready .tiled .widest));
     }
 
 -- what tile k asks, before it in `map_tiles`
 pub laid-bytes : {w h : ℕ} {pic : List ℕ} {s : Settings} {m₀ t₀ : List ℕ} → ByteTilesAsk w h pic s (length m₀) (length t₀)
-    → {m t : List ℕ} {k line : ℕ} → Laid w h pic s m₀ m t₀ t k → k < s .across * s .down → 4096 ≤ line
-    → ByteTileAsks w h pic s k (length m) (length t) line
-laid-bytes asks {m} {t} {k} laid l fits =
-    rw (laid-length (wide-tiles asks) laid (omega arith), laid .size) record { tiles = asks; tile = l; fitting = fits }
+    → {m t : List ℕ} {k : ℕ} → Laid w h pic s m₀ m t₀ t k → k < s .across * s .down
+    → ByteTileAsks w h pic s k (length m) (length t)
+laid-bytes asks {m} {t} {k} laid l =
+    rw (laid-length (wide-tiles asks) laid (omega arith), laid .size) record { tiles = asks; tile = l }
 
 -- what rendering from the mappings asks
 pub asks-from : {w h : ℕ} {pic : List ℕ} {s : Settings} {m t n u : List ℕ} → ByteTilesAsk w h pic s (length m) (length t) → TilesDone w h pic s m n t u

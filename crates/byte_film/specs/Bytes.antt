@@ -1,7 +1,7 @@
 -- Order 1, byte films: what prepare and enhance on bytes answer and leave. A byte is its number, so these are the wide calls' own outcomes behind the byte
 -- calls' table. w and h are the film's width and height, pic its bytes, m the map buffer and t the scratch as lent.
 -- Assumes nothing.
-use Prim.Native.Nat.{ℕ, _*_, _≤_, _<_}
+use Prim.Native.Nat.{ℕ, _*_, _<_}
 use mathlib.Core.Bool.{false}
 use mathlib.Core.List.{List, _++_}
 use mathlib.Core.Path.{_≡_}
@@ -41,8 +41,7 @@ pub record ByteTilesAsk (w h : ℕ) (pic : List ℕ) (s : Settings) (room scratc
   pub film : ByteWork w h pic s room scratch
   pub changes : clipOne (s .clip) ≡ false
 
--- what `map_tile` asks: that, of one of the tiles, and a line of 4096 entries
-pub record ByteTileAsks (w h : ℕ) (pic : List ℕ) (s : Settings) (k room scratch line : ℕ) : Type 0 where
+-- what `map_tile` asks: that, of one of the tiles
+pub record ByteTileAsks (w h : ℕ) (pic : List ℕ) (s : Settings) (k room scratch : ℕ) : Type 0 where
   pub tiles : ByteTilesAsk w h pic s room scratch
   pub tile : k < s .across * s .down
-  pub fitting : 4096 ≤ line

@@ -1,6 +1,5 @@
 // The calls prepare and enhance on bytes: the film, its mappings and its rendering as bytes, by the wide calls' own rules.
 ghost use mathlib.Core.Path.{_≡_};
-ghost use Prim.Native.Nat.{_≤_};
 ghost use lib.ListN.{length};
 ghost use Rattle.refuse.specs.Refuse.{first};
 ghost use Rattle.prepare.specs.Prepare.{ending, overing, TileDone, TilesDone};
@@ -25,18 +24,17 @@ fn refusal(width: u32, height: u32, picture: &[u8], s: Settings, room: usize, sc
     0
 }
 
-// Makes the mapping of tile k, in its place in the map buffer; rows go through the line.
+// Makes the mapping of tile k, in its place in the map buffer.
 fn map_tile(
     picture: &[u8],
     width: u32,
     height: u32,
     s: Settings,
     k: usize,
-    line: &mut [u16],
     map: &mut [u8],
     scratch: &mut [u32],
 )
-    requires { ⌜ ByteTileAsks width height (now picture) s k (length (now map)) (length (now scratch)) (length (now line)) ⌝ }
+    requires { ⌜ ByteTileAsks width height (now picture) s k (length (now map)) (length (now scratch)) ⌝ }
     ensures { λ _. ⌜ TileDone width height (now (picture .entry)) s k (now (map .entry)) (now (map .exit)) (now (scratch .entry)) (now (scratch .exit)) ⌝ }
 {
     let rect = prepare::tile_rect(width, height, s.across, s.down, k);
@@ -53,7 +51,6 @@ fn map_tile(
         s.max,
         bins,
         clip,
-        line,
         scratch,
         &mut map[a..e],
     );
@@ -65,37 +62,20 @@ fn map_tiles(
     width: u32,
     height: u32,
     s: Settings,
-    line: &mut [u16],
-    map: &mut [u8],
-    scratch: &mut [u32],
-)
-    requires { ⌜ ByteTilesAsk width height (now picture) s (length (now map)) (length (now scratch)) × (4096 ≤ length (now line)) ⌝ }
-    ensures { λ _. ⌜ TilesDone width height (now (picture .entry)) s (now (map .entry)) (now (map .exit)) (now (scratch .entry)) (now (scratch .exit)) ⌝ }
-{
-    let tiles = (s.across * s.down) as usize;
-    let mut k = 0;
-    while k < tiles {
-        map_tile(picture, width, height, s, k, line, map, scratch);
-        k += 1;
-    }
-    let each = settings::bins(s) as usize;
-    lists::clear(scratch, each);
-}
-
-// The mappings of a film of bytes, with the line that its rows go through.
-fn map_film(
-    picture: &[u8],
-    width: u32,
-    height: u32,
-    s: Settings,
     map: &mut [u8],
     scratch: &mut [u32],
 )
     requires { ⌜ ByteTilesAsk width height (now picture) s (length (now map)) (length (now scratch)) ⌝ }
     ensures { λ _. ⌜ TilesDone width height (now (picture .entry)) s (now (map .entry)) (now (map .exit)) (now (scratch .entry)) (now (scratch .exit)) ⌝ }
 {
-    let mut line = [0u16; 4096];
-    map_tiles(picture, width, height, s, &mut line, map, scratch);
+    let tiles = (s.across * s.down) as usize;
+    let mut k = 0;
+    while k < tiles {
+        map_tile(picture, width, height, s, k, map, scratch);
+        k += 1;
+    }
+    let each = settings::bins(s) as usize;
+    lists::clear(scratch, each);
 }
 
 // The mappings of a film of bytes in the map buffer, with the record of what they were made for and the footer.
@@ -126,7 +106,7 @@ pub fn prepare_bytes(
     if settings::clip_one(clip) {
         return Prepared::Done(record, foot);
     }
-    map_film(picture, width, height, s, map, scratch);
+    map_tiles(picture, width, height, s, map, scratch);
     Prepared::Done(record, foot)
 }
 
@@ -151,7 +131,7 @@ pub fn enhance_bytes(
     if unchanged {
         return Enhanced::Done(foot);
     }
-    map_film(&picture[..], width, height, s, map, scratch);
+    map_tiles(&picture[..], width, height, s, map, scratch);
     let whole = Window {
         left: 0,
         top: 0,

@@ -30,7 +30,7 @@ fn byte_row(
 }
 
 // Renders a window's bytes in place, row by row; the line and the pairs are room to work in.
-pub fn render(
+fn render(
     pixels: &mut [u8],
     win: Window,
     width: u32,

@@ -4,7 +4,7 @@ use Prim.Native.Nat.{ℕ, _+_, _-_, _*_, _≤_, _<_}
 use mathlib.Core.Bool.{true}
 use mathlib.Core.List.{List, _++_}
 use mathlib.Core.Path.{_≡_, refl, sym, ap, subst, _∙_}
-use lib.ListN.{length, take, drop, getD}
+use lib.ListN.{length, take, drop, getD, length-append}
 use lib.Seq.{take-at, length-take-le}
 use native.Mathlib.Omega.{arith}
 use borrow.Author.Tests.{lt-ltb}
@@ -54,11 +54,11 @@ row-fits {pic} {stride} {r} asks h y l = omega (arith, ap length (inside-part pi
 pub within-bytes : (lo hi : ℕ) (vs : List ℕ) → hi ≤ 255 → all (within lo hi) vs ≡ true → all isByte vs ≡ true
 within-bytes lo hi vs h e = all-from isByte vs 0 (λ i l. lt-ltb (getD vs i 0) 256 (omega (arith, within-high lo hi (getD vs i 0) (all-at (within lo hi) vs e i 0 l))))
 
-module _ {pic : List ℕ} {stride : ℕ} {r : Rect} {lo hi b : ℕ} {clip : Clip} {line scratch out : ℕ} (asks : ByteTileAsks pic stride r lo hi b clip line scratch out)
-    (d : List ℕ) {s : List ℕ} (e : s ≡ onto d (countsOf lo hi b (greysOf pic stride r))) (l : List ℕ) (k : length l ≡ line) where
+module _ {pic : List ℕ} {stride : ℕ} {r : Rect} {lo hi b : ℕ} {clip : Clip} {scratch out : ℕ} (asks : ByteTileAsks pic stride r lo hi b clip scratch out)
+    (d : List ℕ) {s : List ℕ} (e : s ≡ onto d (countsOf lo hi b (greysOf pic stride r))) (l : List ℕ) (k : length l ≡ 256) where
   -- the front of the line has room for the mapping
   pub line-room : b ≡ length (take b l)
-  line-room = sym (length-take-le b l (omega (arith, asks .long)))
+  line-room = sym (length-take-le b l (omega (arith, asks .few)))
 
   -- what clipping and mapping the counts into it asks
   pub byte-asks : FromAsks clip (r .width * r .height) lo hi (take b s) (length (take b l))
@@ -69,10 +69,15 @@ module _ {pic : List ℕ} {stride : ℕ} {r : Rect} {lo hi b : ℕ} {clip : Clip
     mapping-size = length-counts-mapping lo hi clip (r .width * r .height) (take b s) ∙ sym (tile-part (asks .tile) d e)
 
     -- then it holds the mapping
+    mapped : o ≡ countsMapping lo hi clip (r .width * r .height) (take b s)
+    mapped = h ∙ onto-whole (take b l) _ (omega (arith, mapping-size, line-room))
+
     line-mapping : take b (o ++ drop b l) ≡ countsMapping lo hi clip (r .width * r .height) (take b s)
-    line-mapping =
-        let same : o ≡ countsMapping lo hi clip (r .width * r .height) (take b s) = h ∙ onto-whole (take b l) _ (omega (arith, mapping-size, line-room)) in
-        take-at o (drop b l) b (ap length same ∙ mapping-size) ∙ same
+    line-mapping = take-at o (drop b l) b (ap length mapped ∙ mapping-size) ∙ mapped
+
+    -- in its front
+    pub mapping-front : b ≤ length (o ++ drop b l)
+    mapping-front = omega (arith, length-append o (drop b l), ap length mapped, mapping-size)
 
     pub mapping-part : b ≡ length (take b (o ++ drop b l))
     mapping-part = sym (ap length line-mapping ∙ mapping-size)

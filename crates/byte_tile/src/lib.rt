@@ -57,7 +57,7 @@ fn count_rows(
     }
 }
 
-// The counts of a rectangle of bytes, in the first `bins` entries; entries behind keep their contents. Four counts, which are added up at the end.
+// The counts of a rectangle of bytes, in the first `bins` entries; entries behind keep their contents. Owns the line and three of the four counts, which are added up at the end.
 pub fn count(
     picture: &[u8],
     stride: usize,
@@ -65,14 +65,14 @@ pub fn count(
     min: u32,
     max: u32,
     bins: u32,
-    line: &mut [u16],
     counts: &mut [u32],
 )
-    requires { ⌜ CountAsks (now picture) stride rect min max bins (length (now counts)) × (bins ≤ 256) × (rect .width ≤ length (now line)) ⌝ }
+    requires { ⌜ CountAsks (now picture) stride rect min max bins (length (now counts)) × (bins ≤ 256) × (rect .width ≤ 4096) ⌝ }
     ensures { λ _. ⌜ now (counts .exit) ≡ onto (now (counts .entry)) (countsOf min max bins (greysOf (now (picture .entry)) stride rect)) ⌝ }
 {
     lists::clear(counts, bins as usize);
     let factor = binning::bin_factor(min, max, bins);
+    let mut line = [0u16; 4096];
     let mut b = [0u32; 256];
     let mut c = [0u32; 256];
     let mut d = [0u32; 256];
@@ -84,7 +84,7 @@ pub fn count(
         max,
         bins,
         factor,
-        line,
+        &mut line,
         counts,
         &mut b,
         &mut c,
@@ -93,7 +93,7 @@ pub fn count(
     tally::add_up(counts, &b, &c, &d, bins as usize);
 }
 
-// A tile's mapping from its bytes: counted, then clipped and mapped into the line, then made bytes. The counts stay in the front of the scratch.
+// A tile's mapping from its bytes: counted, then clipped and mapped into a line of its own, then made bytes. The counts stay in the front of the scratch.
 pub fn mapping(
     picture: &[u8],
     stride: usize,
@@ -102,16 +102,16 @@ pub fn mapping(
     max: u32,
     bins: u32,
     clip: Clip,
-    line: &mut [u16],
     scratch: &mut [u32],
     out: &mut [u8],
 )
-    requires { ⌜ ByteTileAsks (now picture) stride rect min max bins clip (length (now line)) (length (now scratch)) (length (now out)) ⌝ }
+    requires { ⌜ ByteTileAsks (now picture) stride rect min max bins clip (length (now scratch)) (length (now out)) ⌝ }
     ensures { λ _. ⌜ TileMapped min max bins clip (greysOf (now (picture .entry)) stride rect) (now (scratch .entry)) (now (scratch .exit)) (now (out .entry)) (now (out .exit)) ⌝ }
 {
     let pixels = (rect.width * rect.height) as u32;
     let entries = bins as usize;
-    count(picture, stride, rect, min, max, bins, line, scratch);
+    count(picture, stride, rect, min, max, bins, scratch);
+    let mut line = [0u16; 256];
     tile::from_counts(
         clip,
         pixels,

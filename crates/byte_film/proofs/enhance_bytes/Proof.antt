@@ -9,7 +9,7 @@ use Rattle.byte_film.proofs.enhance_bytes.Statement.{statement}
 use Rattle.byte_film.proofs.enhance_bytes.Tie as tie
 use Rattle.byte_film.proofs.enhance_bytes.Reads as reads
 use Rattle.byte_film.proofs.enhance_bytes.Lts as lts
-use Rattle.byte_film.proofs.map_film.Reads as map-film-reads
+use Rattle.byte_film.proofs.map_tiles.Reads as map-tiles-reads
 use Rattle.byte_film.proofs.refusal.Reads as refusal-reads
 use Rattle.byte_render.proofs.render_from.Reads as render-from-reads
 use Rattle.prepare.proofs.foot.Reads as foot-reads
@@ -38,12 +38,12 @@ returns-2 c =
     film-well _ _ _ _ _ _ (c .before .before .before .before .refusal .ensures) (c .before .before .before .if1 .left)
     (λ e. over-one _ _ _ _ _ _ e (c .before .before .before .if1 .left) (c .before .before .foot .ensures) (c .before .clip-one .ensures) (c .if2 .taken))
 
-map-film-requires : tie.Need-map-film-requires
-map-film-requires c κs = bytes-tiles _ _ _ _ _ _ (c .before .before .before .before .before .before .before .refusal .ensures) (c .before .before .before .before .before .before .if1 .left) (c .before .before .before .before .clip-one .ensures) (c .before .before .before .if2 .left)
+map-tiles-requires : tie.Need-map-tiles-requires
+map-tiles-requires c κs = bytes-tiles _ _ _ _ _ _ (c .before .before .before .before .before .before .before .refusal .ensures) (c .before .before .before .before .before .before .if1 .left) (c .before .before .before .before .clip-one .ensures) (c .before .before .before .if2 .left)
 
 render-from-requires : tie.Need-render-from-requires
 render-from-requires c κs =
-    asks-from (bytes-tiles _ _ _ _ _ _ (c .before .before .before .before .before .before .before .before .before .before .before .before .before .before .refusal .ensures) (c .before .before .before .before .before .before .before .before .before .before .before .before .before .if1 .left) (c .before .before .before .before .before .before .before .before .before .before .before .clip-one .ensures) (c .before .before .before .before .before .before .before .before .before .before .if2 .left)) (c .before .before .before .before .before .before .map-film .ensures)
+    asks-from (bytes-tiles _ _ _ _ _ _ (c .before .before .before .before .before .before .before .before .before .before .before .before .before .before .refusal .ensures) (c .before .before .before .before .before .before .before .before .before .before .before .before .before .if1 .left) (c .before .before .before .before .before .before .before .before .before .before .before .clip-one .ensures) (c .before .before .before .before .before .before .before .before .before .before .if2 .left)) (c .before .before .before .before .before .before .map-tiles .ensures)
 
 same-length-3 : tie.Need-same-length-3
 same-length-3 c = search needs
@@ -57,7 +57,7 @@ same-length-5 c = search needs
 returns-3 : tie.Need-returns-3
 returns-3 c =
     film-well _ _ _ _ _ _ (c .before .before .before .before .before .before .before .before .before .before .before .before .before .before .before .before .before .refusal .ensures) (c .before .before .before .before .before .before .before .before .before .before .before .before .before .before .before .before .if1 .left)
-    (λ e. over-well _ _ _ _ _ _ e (c .before .before .before .before .before .before .before .before .before .before .before .before .before .before .before .before .if1 .left) (c .before .before .before .before .before .before .before .before .before .before .before .before .before .before .before .foot .ensures) (c .before .before .before .before .before .before .before .before .before .before .before .before .before .before .clip-one .ensures) (c .before .before .before .before .before .before .before .before .before .before .before .before .before .if2 .left) (c .before .before .before .before .before .before .before .before .before .map-film .ensures) (c .before .before .render-from .ensures))
+    (λ e. over-well _ _ _ _ _ _ e (c .before .before .before .before .before .before .before .before .before .before .before .before .before .before .before .before .if1 .left) (c .before .before .before .before .before .before .before .before .before .before .before .before .before .before .before .foot .ensures) (c .before .before .before .before .before .before .before .before .before .before .before .before .before .before .clip-one .ensures) (c .before .before .before .before .before .before .before .before .before .before .before .before .before .if2 .left) (c .before .before .before .before .before .before .before .before .before .map-tiles .ensures) (c .before .before .render-from .ensures))
 
 pub enhance-bytes-spec : {M : Type 1} → statement M
 enhance-bytes-spec =
@@ -70,7 +70,7 @@ enhance-bytes-spec =
     clip-one-requires
     same-length-2
     returns-2
-    map-film-requires
+    map-tiles-requires
     render-from-requires
     same-length-3
     same-length-4

@@ -14,7 +14,7 @@ use Rattle.prepare.proofs.tile_rect.Reads as tile-rect-reads
 use Rattle.settings.proofs.bins.Reads as bins-reads
 
 tile-rect-requires : tie.Need-tile-rect-requires
-tile-rect-requires c κs = rect-asks (c .before .before .before .before .pre .tiles .film .work .ready .tiled) (c .before .before .before .before .pre .tile)
+tile-rect-requires c κs = rect-asks (c .before .before .before .pre .tiles .film .work .ready .tiled) (c .before .before .before .pre .tile)
 
 bins-requires : tie.Need-bins-requires
 bins-requires c κs = search needs
@@ -23,10 +23,10 @@ cast-each : tie.Need-cast-each
 cast-each c = search needs
 
 mul-a : tie.Need-mul-a
-mul-a c = omega (arith, tile-small (wide-tile (c .before .before .before .before .before .before .pre)) (c .bins .ensures))
+mul-a c = omega (arith, tile-small (wide-tile (c .before .before .before .before .before .pre)) (c .bins .ensures))
 
 add-e : tie.Need-add-e
-add-e c = omega (arith, tile-small (wide-tile (c .before .before .before .before .before .before .pre)) (c .bins .ensures))
+add-e c = omega (arith, tile-small (wide-tile (c .before .before .before .before .before .pre)) (c .bins .ensures))
 
 sub-mapping : tie.Need-sub-mapping
 sub-mapping c = search needs
@@ -35,10 +35,10 @@ part-mapping-start : tie.Need-part-mapping-start
 part-mapping-start c = search needs
 
 part-mapping-end : tie.Need-part-mapping-end
-part-mapping-end c = tile-room (wide-tile (c .before .before .before .before .before .before .before .before .pre)) (c .before .before .bins .ensures)
+part-mapping-end c = tile-room (wide-tile (c .before .before .before .before .before .before .pre)) (c .before .bins .ensures)
 
 mapping-requires : tie.Need-mapping-requires
-mapping-requires c κs = byte-tile-asks (c .before .before .before .before .before .before .before .before .before .args .map .now) (c .before .before .before .before .before .before .before .before .before .pre) (c .before .before .before .before .tile-rect .ensures) (c .before .before .before .bins .ensures)
+mapping-requires c κs = byte-tile-asks (c .before .before .before .before .before .before .before .args .map .now) (c .before .before .before .before .before .before .before .pre) (c .before .before .before .tile-rect .ensures) (c .before .before .bins .ensures)
 
 same-length : tie.Need-same-length
 same-length c = search needs
@@ -46,11 +46,8 @@ same-length c = search needs
 same-length-2 : tie.Need-same-length-2
 same-length-2 c = search needs
 
-same-length-3 : tie.Need-same-length-3
-same-length-3 c = search needs
-
 returns : tie.Need-returns
-returns c = tile-done (wide-tile (c .before .before .before .before .before .before .before .before .before .before .before .before .before .before .before .before .pre)) (c .before .before .before .before .before .before .before .before .before .before .before .tile-rect .ensures) (c .before .before .before .before .before .before .before .before .before .before .bins .ensures) (c .before .before .before .before .before .before .mapping .ensures)
+returns c = tile-done (wide-tile (c .before .before .before .before .before .before .before .before .before .before .before .before .pre)) (c .before .before .before .before .before .before .before .before .tile-rect .ensures) (c .before .before .before .before .before .before .before .bins .ensures) (c .before .before .before .before .mapping .ensures)
 
 pub map-tile-spec : {M : Type 1} → statement M
 map-tile-spec =
@@ -67,5 +64,4 @@ map-tile-spec =
     mapping-requires
     same-length
     same-length-2
-    same-length-3
     returns)

@@ -1,9 +1,7 @@
 -- `map_tiles` lays the mappings of all tiles, and clears the scratch.
 -- Assumes nothing.
 use Prim.Native.Nat.{_-_, _≤_}
-use mathlib.Core.Path.{_≡_, refl}
 use native.Mathlib.Omega.{arith}
-use lib.ListN.{length}
 use borrow.Author.Needs.{needs}
 use Rattle.prepare.proofs.Tiles.{tiles-most}
 use Rattle.prepare.proofs.Turns.{Laid, laid-first, laid-length, laid-next, laid-end}
@@ -17,32 +15,31 @@ use Rattle.lists.proofs.clear.Reads as clear-reads
 use Rattle.settings.proofs.bins.Reads as bins-reads
 
 abbrev Inv-loop : tie.InvT-loop
-Inv-loop picture width height s line₀ map₀ scratch₀ tiles k₀ line map scratch k =
-    (k ≤ tiles) × (length line ≡ length line₀) × Laid width height picture s map₀ map scratch₀ scratch k
+Inv-loop picture width height s map₀ scratch₀ tiles k₀ map scratch k = (k ≤ tiles) × Laid width height picture s map₀ map scratch₀ scratch k
 
 abbrev μ-loop : tie.MeasureT-loop
-μ-loop picture width height s line₀ map₀ scratch₀ tiles k₀ line map scratch k = tiles - k
+μ-loop picture width height s map₀ scratch₀ tiles k₀ map scratch k = tiles - k
 
 mul-tiles : tie.Need-mul-tiles Inv-loop μ-loop
-mul-tiles c = omega (arith, tiles-most (c .before .before .before .before .before .pre .0 .film .work .ready .tiled))
+mul-tiles c = omega (arith, tiles-most (c .before .before .before .before .pre .film .work .ready .tiled))
 
 cast-tiles : tie.Need-cast-tiles Inv-loop μ-loop
-cast-tiles c = omega (arith, tiles-most (c .before .before .before .before .before .pre .0 .film .work .ready .tiled))
+cast-tiles c = omega (arith, tiles-most (c .before .before .before .before .pre .film .work .ready .tiled))
 
 loop-holds : tie.Need-loop-holds Inv-loop μ-loop
-loop-holds c = (search needs, refl, laid-first)
+loop-holds c = (search needs, laid-first)
 
 map-tile-requires : tie.Need-map-tile-requires Inv-loop μ-loop
-map-tile-requires c κs = laid-bytes (c .before .before .before .before .before .before .before .before .before .before .pre .0) (c .before .before .before .before .loop .inv .2) (search needs) (search needs)
+map-tile-requires c κs = laid-bytes (c .before .before .before .before .before .before .before .before .pre) (c .before .before .before .loop .inv .1) (search needs)
 
 add-k : tie.Need-add-k Inv-loop μ-loop
-add-k c = omega (arith, tiles-most (c .before .before .before .before .before .before .before .before .before .before .before .before .before .before .before .before .before .pre .0 .film .work .ready .tiled))
+add-k c = omega (arith, tiles-most (c .before .before .before .before .before .before .before .before .before .before .before .before .before .pre .film .work .ready .tiled))
 
 loop-less : tie.Need-loop-less Inv-loop μ-loop
 loop-less c = search needs
 
 loop-again : tie.Need-loop-again Inv-loop μ-loop
-loop-again c = (search needs, search needs, laid-next (wide-tiles (c .before .before .before .before .before .before .before .before .before .before .before .before .before .before .before .before .before .pre .0)) (c .before .before .before .before .before .before .before .before .before .before .before .loop .inv .2) (c .before .before .before .before .before .before .map-tile .ensures))
+loop-again c = (search needs, laid-next (wide-tiles (c .before .before .before .before .before .before .before .before .before .before .before .before .before .pre)) (c .before .before .before .before .before .before .before .before .loop .inv .1) (c .before .before .before .before .map-tile .ensures))
 
 bins-requires : tie.Need-bins-requires Inv-loop μ-loop
 bins-requires c κs = search needs
@@ -51,19 +48,16 @@ cast-each : tie.Need-cast-each Inv-loop μ-loop
 cast-each c = search needs
 
 clear-requires : tie.Need-clear-requires Inv-loop μ-loop
-clear-requires c κs = omega (arith, c .before .bins .ensures, c .before .before .before .loop .inv .2 .size, c .before .before .before .before .before .before .before .before .before .pre .0 .film .work .bins)
+clear-requires c κs = omega (arith, c .before .bins .ensures, c .before .before .before .loop .inv .1 .size, c .before .before .before .before .before .before .before .before .pre .film .work .bins)
 
 same-length : tie.Need-same-length Inv-loop μ-loop
-same-length c = search needs
+same-length c = laid-length (wide-tiles (c .before .before .before .before .before .before .before .before .before .before .before .pre)) (c .before .before .before .before .before .before .loop .inv .1) (search needs)
 
 same-length-2 : tie.Need-same-length-2 Inv-loop μ-loop
-same-length-2 c = laid-length (wide-tiles (c .before .before .before .before .before .before .before .before .before .before .before .before .pre .0)) (c .before .before .before .before .before .before .loop .inv .2) (search needs)
-
-same-length-3 : tie.Need-same-length-3 Inv-loop μ-loop
-same-length-3 c = search needs
+same-length-2 c = search needs
 
 returns : tie.Need-returns Inv-loop μ-loop
-returns c = laid-end (wide-tiles (c .before .before .before .before .before .before .before .before .before .before .before .before .pre .0)) (c .before .before .before .before .before .before .loop .inv .2) (search needs) (search needs) (c .before .before .before .before .bins .ensures) (c .before .before .clear .ensures)
+returns c = laid-end (wide-tiles (c .before .before .before .before .before .before .before .before .before .before .before .pre)) (c .before .before .before .before .before .before .loop .inv .1) (search needs) (search needs) (c .before .before .before .before .bins .ensures) (c .before .before .clear .ensures)
 
 pub map-tiles-spec : {M : Type 1} → statement M
 map-tiles-spec =
@@ -83,5 +77,4 @@ map-tiles-spec =
     clear-requires
     same-length
     same-length-2
-    same-length-3
     returns)

@@ -8,7 +8,7 @@ use Rattle.byte_film.proofs.prepare_bytes.Statement.{statement}
 use Rattle.byte_film.proofs.prepare_bytes.Tie as tie
 use Rattle.byte_film.proofs.prepare_bytes.Reads as reads
 use Rattle.byte_film.proofs.prepare_bytes.Lts as lts
-use Rattle.byte_film.proofs.map_film.Reads as map-film-reads
+use Rattle.byte_film.proofs.map_tiles.Reads as map-tiles-reads
 use Rattle.byte_film.proofs.refusal.Reads as refusal-reads
 use Rattle.prepare.proofs.foot.Reads as foot-reads
 use Rattle.settings.proofs.clip_one.Reads as clip-one-reads
@@ -34,8 +34,8 @@ returns-2 c =
     bytes-well _ _ _ _ _ _ _ (c .before .before .before .before .before .refusal .ensures) (c .before .before .before .before .if1 .left)
     (λ e. ends-one _ _ _ _ _ _ _ e (c .before .before .before .before .if1 .left) (c .before .before .before .foot .ensures) (c .before .before .kept .ensures) (c .before .clip-one .ensures) (c .if2 .taken))
 
-map-film-requires : tie.Need-map-film-requires
-map-film-requires c κs = bytes-tiles _ _ _ _ _ _ (c .before .before .before .before .before .before .before .refusal .ensures) (c .before .before .before .before .before .before .if1 .left) (c .before .before .before .clip-one .ensures) (c .before .before .if2 .left)
+map-tiles-requires : tie.Need-map-tiles-requires
+map-tiles-requires c κs = bytes-tiles _ _ _ _ _ _ (c .before .before .before .before .before .before .before .refusal .ensures) (c .before .before .before .before .before .before .if1 .left) (c .before .before .before .clip-one .ensures) (c .before .before .if2 .left)
 
 same-length : tie.Need-same-length
 same-length c = search needs
@@ -46,7 +46,7 @@ same-length-2 c = search needs
 returns-3 : tie.Need-returns-3
 returns-3 c =
     bytes-well _ _ _ _ _ _ _ (c .before .before .before .before .before .before .before .before .before .before .before .before .refusal .ensures) (c .before .before .before .before .before .before .before .before .before .before .before .if1 .left)
-    (λ e. ends-well _ _ _ _ _ _ _ e (c .before .before .before .before .before .before .before .before .before .before .before .if1 .left) (c .before .before .before .before .before .before .before .before .before .before .foot .ensures) (c .before .before .before .before .before .before .before .before .before .kept .ensures) (c .before .before .before .before .before .before .before .before .clip-one .ensures) (c .before .before .before .before .before .before .before .if2 .left) (c .before .before .before .before .map-film .ensures))
+    (λ e. ends-well _ _ _ _ _ _ _ e (c .before .before .before .before .before .before .before .before .before .before .before .if1 .left) (c .before .before .before .before .before .before .before .before .before .before .foot .ensures) (c .before .before .before .before .before .before .before .before .before .kept .ensures) (c .before .before .before .before .before .before .before .before .clip-one .ensures) (c .before .before .before .before .before .before .before .if2 .left) (c .before .before .before .before .map-tiles .ensures))
 
 pub prepare-bytes-spec : {M : Type 1} → statement M
 prepare-bytes-spec =
@@ -58,7 +58,7 @@ prepare-bytes-spec =
     kept-requires
     clip-one-requires
     returns-2
-    map-film-requires
+    map-tiles-requires
     same-length
     same-length-2
     returns-3)

@@ -21,8 +21,11 @@ slice-aggregate-count-rows-2 c = search needs
 slice-aggregate-count-rows-3 : tie.Need-slice-aggregate-count-rows-3
 slice-aggregate-count-rows-3 c = search needs
 
+slice-aggregate-count-rows-4 : tie.Need-slice-aggregate-count-rows-4
+slice-aggregate-count-rows-4 c = search needs
+
 count-rows-requires : tie.Need-count-rows-requires
-count-rows-requires c κs = (ways-asks (clear-asks _ (c .before .before .before .before .before .before .before .before .before .before .before .before .before .pre .0) (c .before .before .before .before .before .bin-factor .ensures) (c .before .before .before .before .before .before .before .before .clear .ensures)) (c .before .before .before .before .before .before .before .before .before .before .before .before .before .pre .1), c .before .before .before .before .before .before .before .before .before .before .before .before .before .pre .2)
+count-rows-requires c κs = (ways-asks (clear-asks _ (c .before .before .before .before .before .before .before .before .before .before .before .before .pre .0) (c .before .before .before .before .before .bin-factor .ensures) (c .before .before .before .before .before .before .before .before .clear .ensures)) (c .before .before .before .before .before .before .before .before .before .before .before .before .pre .1), c .before .before .before .before .before .before .before .before .before .before .before .before .pre .2)
 
 slice-aggregate-add-up : tie.Need-slice-aggregate-add-up
 slice-aggregate-add-up c = search needs
@@ -34,16 +37,13 @@ slice-aggregate-add-up-3 : tie.Need-slice-aggregate-add-up-3
 slice-aggregate-add-up-3 c = search needs
 
 add-up-requires : tie.Need-add-up-requires
-add-up-requires c κs = ways-fit (clear-asks _ (c .before .before .before .before .before .before .before .before .before .before .before .before .before .before .before .before .before .before .before .before .before .before .before .before .before .pre .0) (c .before .before .before .before .before .before .before .before .before .before .before .before .before .before .before .before .before .bin-factor .ensures) (c .before .before .before .before .before .before .before .before .before .before .before .before .before .before .before .before .before .before .before .before .clear .ensures)) (c .before .before .before .before .before .before .before .before .before .before .before .before .before .before .before .before .before .before .before .before .before .before .before .before .before .pre .1) (c .before .before .before .before .before .before .before .before .before .before .before .count-rows .ensures)
+add-up-requires c κs = ways-fit (clear-asks _ (c .before .before .before .before .before .before .before .before .before .before .before .before .before .before .before .before .before .before .before .before .before .before .before .pre .0) (c .before .before .before .before .before .before .before .before .before .before .before .before .before .before .before .before .bin-factor .ensures) (c .before .before .before .before .before .before .before .before .before .before .before .before .before .before .before .before .before .before .before .clear .ensures)) (c .before .before .before .before .before .before .before .before .before .before .before .before .before .before .before .before .before .before .before .before .before .before .before .pre .1) (c .before .before .before .before .before .before .before .before .before .before .count-rows .ensures)
 
 same-length : tie.Need-same-length
 same-length c = search needs
 
-same-length-2 : tie.Need-same-length-2
-same-length-2 c = search needs
-
 returns : tie.Need-returns
-returns c = clear-counts _ _ _ _ _ (c .before .before .before .before .before .before .before .before .before .before .before .before .before .before .before .before .before .before .before .before .before .before .before .clear .ensures) (ways-end (clear-asks _ (c .before .before .before .before .before .before .before .before .before .before .before .before .before .before .before .before .before .before .before .before .before .before .before .before .before .before .before .before .pre .0) (c .before .before .before .before .before .before .before .before .before .before .before .before .before .before .before .before .before .before .before .before .bin-factor .ensures) (c .before .before .before .before .before .before .before .before .before .before .before .before .before .before .before .before .before .before .before .before .before .before .before .clear .ensures)) (c .before .before .before .before .before .before .before .before .before .before .before .before .before .before .before .before .before .before .before .before .before .before .before .before .before .before .before .before .pre .1) (c .before .before .before .before .before .before .before .before .before .before .before .before .before .before .count-rows .ensures) (c .before .before .add-up .ensures))
+returns c = clear-counts _ _ _ _ _ (c .before .before .before .before .before .before .before .before .before .before .before .before .before .before .before .before .before .before .before .before .before .before .clear .ensures) (ways-end (clear-asks _ (c .before .before .before .before .before .before .before .before .before .before .before .before .before .before .before .before .before .before .before .before .before .before .before .before .before .before .pre .0) (c .before .before .before .before .before .before .before .before .before .before .before .before .before .before .before .before .before .before .before .bin-factor .ensures) (c .before .before .before .before .before .before .before .before .before .before .before .before .before .before .before .before .before .before .before .before .before .before .clear .ensures)) (c .before .before .before .before .before .before .before .before .before .before .before .before .before .before .before .before .before .before .before .before .before .before .before .before .before .before .pre .1) (c .before .before .before .before .before .before .before .before .before .before .before .before .before .count-rows .ensures) (c .before .before .add-up .ensures))
 
 pub count-spec : {M : Type 1} → statement M
 count-spec =
@@ -54,11 +54,11 @@ count-spec =
     slice-aggregate-count-rows
     slice-aggregate-count-rows-2
     slice-aggregate-count-rows-3
+    slice-aggregate-count-rows-4
     count-rows-requires
     slice-aggregate-add-up
     slice-aggregate-add-up-2
     slice-aggregate-add-up-3
     add-up-requires
     same-length
-    same-length-2
     returns)

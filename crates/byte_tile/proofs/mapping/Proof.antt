@@ -1,8 +1,9 @@
 -- `byte_tile::mapping` meets its contract: the counts in the front of the scratch are clipped and mapped into the line, and the line's front is made bytes.
 -- Assumes nothing.
+use mathlib.Core.Path.{refl}
 use borrow.Author.Needs.{needs}
 use Rattle.tile.proofs.Tiles.{tile-part}
-use Rattle.byte_tile.proofs.Lines.{line-room, byte-asks, mapping-part, mapping-narrow, mapping-end}
+use Rattle.byte_tile.proofs.Lines.{line-room, byte-asks, mapping-front, mapping-part, mapping-narrow, mapping-end}
 use Rattle.byte_tile.proofs.mapping.Statement.{statement}
 use Rattle.byte_tile.proofs.mapping.Tie as tie
 
@@ -19,25 +20,25 @@ slice-relend-prefix-from-counts : tie.Need-slice-relend-prefix-from-counts
 slice-relend-prefix-from-counts c = search needs
 
 slice-aggregate-from-counts : tie.Need-slice-aggregate-from-counts
-slice-aggregate-from-counts c = tile-part (c .before .before .before .before .before .before .before .before .before .before .before .before .before .pre .tile) _ (c .before .before .before .before .before .count .ensures)
+slice-aggregate-from-counts c = tile-part (c .before .before .before .before .before .before .before .before .before .pre .tile) _ (c .before .before .before .count .ensures)
 
-slice-relend-prefix-from-counts-2 : tie.Need-slice-relend-prefix-from-counts-2
-slice-relend-prefix-from-counts-2 c = search needs
+array-borrow-prefix-line : tie.Need-array-borrow-prefix-line
+array-borrow-prefix-line c = search needs
 
 slice-aggregate-from-counts-2 : tie.Need-slice-aggregate-from-counts-2
-slice-aggregate-from-counts-2 c = line-room (c .before .before .before .before .before .before .before .before .before .before .before .before .before .before .pre) _ (c .before .before .before .before .before .before .count .ensures) (c .before .before .before .before .before .before .count .last .1 .1 .1 .1 .1 .1 .0) (search needs)
+slice-aggregate-from-counts-2 c = line-room (c .before .before .before .before .before .before .before .before .before .before .pre) _ (c .before .before .before .before .count .ensures) _ refl
 
 from-counts-requires : tie.Need-from-counts-requires
-from-counts-requires c κs = byte-asks (c .before .before .before .before .before .before .before .before .before .before .before .before .before .before .pre) _ (c .before .before .before .before .before .before .count .ensures) (c .before .before .before .before .before .before .count .last .1 .1 .1 .1 .1 .1 .0) (search needs)
+from-counts-requires c κs = byte-asks (c .before .before .before .before .before .before .before .before .before .before .pre) _ (c .before .before .before .before .count .ensures) _ refl
 
-slice-reshare-prefix-narrow : tie.Need-slice-reshare-prefix-narrow
-slice-reshare-prefix-narrow c = search needs
+array-share-prefix-line : tie.Need-array-share-prefix-line
+array-share-prefix-line c = mapping-front (c .before .before .before .before .before .before .before .before .before .before .before .before .before .before .pre) _ (c .before .before .before .before .before .before .before .before .count .ensures) _ refl (c .before .before .before .from-counts .ensures .1)
 
 slice-aggregate-narrow : tie.Need-slice-aggregate-narrow
-slice-aggregate-narrow c = mapping-part (c .before .before .before .before .before .before .before .before .before .before .before .before .before .before .before .before .before .before .before .before .pre) _ (c .before .before .before .before .before .before .before .before .before .before .before .before .count .ensures) (c .before .before .before .before .before .before .before .before .before .before .before .before .count .last .1 .1 .1 .1 .1 .1 .0) (search needs) (c .before .before .before .before .before .from-counts .ensures .1)
+slice-aggregate-narrow c = mapping-part (c .before .before .before .before .before .before .before .before .before .before .before .before .before .before .before .pre) _ (c .before .before .before .before .before .before .before .before .before .count .ensures) _ refl (c .before .before .before .before .from-counts .ensures .1)
 
 narrow-requires : tie.Need-narrow-requires
-narrow-requires c κs = mapping-narrow (c .before .before .before .before .before .before .before .before .before .before .before .before .before .before .before .before .before .before .before .before .before .pre) _ (c .before .before .before .before .before .before .before .before .before .before .before .before .before .count .ensures) (c .before .before .before .before .before .before .before .before .before .before .before .before .before .count .last .1 .1 .1 .1 .1 .1 .0) (search needs) (c .before .before .before .before .before .before .from-counts .ensures .1)
+narrow-requires c κs = mapping-narrow (c .before .before .before .before .before .before .before .before .before .before .before .before .before .before .before .before .pre) _ (c .before .before .before .before .before .before .before .before .before .before .count .ensures) _ refl (c .before .before .before .before .before .from-counts .ensures .1)
 
 same-length : tie.Need-same-length
 same-length c = search needs
@@ -45,11 +46,8 @@ same-length c = search needs
 same-length-2 : tie.Need-same-length-2
 same-length-2 c = search needs
 
-same-length-3 : tie.Need-same-length-3
-same-length-3 c = search needs
-
 returns : tie.Need-returns
-returns c = mapping-end (c .before .before .before .before .before .before .before .before .before .before .before .before .before .before .before .before .before .before .before .before .before .before .before .before .pre) _ (c .before .before .before .before .before .before .before .before .before .before .before .before .before .before .before .before .count .ensures) (c .before .before .before .before .before .before .before .before .before .before .before .before .before .before .before .before .count .last .1 .1 .1 .1 .1 .1 .0) (search needs) (c .before .before .before .before .before .before .before .before .before .from-counts .ensures .1) _ (c .before .before .before .before .before .before .before .before .before .from-counts .ensures .0) (c .before .before .narrow .ensures)
+returns c = mapping-end (c .before .before .before .before .before .before .before .before .before .before .before .before .before .before .before .before .before .before .before .pre) _ (c .before .before .before .before .before .before .before .before .before .before .before .before .before .count .ensures) _ refl (c .before .before .before .before .before .before .before .before .from-counts .ensures .1) _ (c .before .before .before .before .before .before .before .before .from-counts .ensures .0) (c .before .before .narrow .ensures)
 
 pub mapping-spec : {M : Type 1} → statement M
 mapping-spec =
@@ -60,13 +58,12 @@ mapping-spec =
     count-requires
     slice-relend-prefix-from-counts
     slice-aggregate-from-counts
-    slice-relend-prefix-from-counts-2
+    array-borrow-prefix-line
     slice-aggregate-from-counts-2
     from-counts-requires
-    slice-reshare-prefix-narrow
+    array-share-prefix-line
     slice-aggregate-narrow
     narrow-requires
     same-length
     same-length-2
-    same-length-3
     returns)
