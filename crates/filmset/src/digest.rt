@@ -1,15 +1,23 @@
 // The digest of a buffer: from 7 on, each entry and last the buffer's length are taken in.
-ghost use Prim.Native.Nat.{_≤_};
+
+ghost use mathlib.Core.Path.{_≡_};
+ghost use Prim.Native.Nat.{min};
+ghost use lib.ListN.{take};
+ghost use Rattle.filmset.specs.Filmset.{mixed, digestOf};
 
 const SPAN: u64 = 4294967296;
 
 // The digest h with one entry more.
-fn taken(h: u64, v: u64) -> u64 {
+fn taken(h: u64, v: u64) -> u64
+    ensures { λ r. ⌜ r ≡ mixed h v ⌝ }
+{
     ((h % SPAN) * 31 + v % SPAN + 1) % SPAN
 }
 
 // Of the first n entries, or of all where there are no more.
-pub fn first(entries: &[u16], n: u64) -> u64 {
+pub fn first(entries: &[u16], n: u64) -> u64
+    ensures { λ r. ⌜ r ≡ digestOf (take n (now (entries .entry))) ⌝ }
+{
     let end = least(n as usize, entries.len());
     let mut h = 7;
     let mut i = 0;
@@ -21,7 +29,7 @@ pub fn first(entries: &[u16], n: u64) -> u64 {
 }
 
 fn least(a: usize, b: usize) -> usize
-    ensures { λ r. ⌜ r ≤ b ⌝ }
+    ensures { λ r. ⌜ r ≡ min a b ⌝ }
 {
     if a < b {
         return a;
@@ -29,11 +37,15 @@ fn least(a: usize, b: usize) -> usize
     b
 }
 
-pub fn greys(entries: &[u16]) -> u64 {
+pub fn greys(entries: &[u16]) -> u64
+    ensures { λ r. ⌜ r ≡ digestOf (now (entries .entry)) ⌝ }
+{
     first(entries, entries.len() as u64)
 }
 
-pub fn words(entries: &[u32]) -> u64 {
+pub fn words(entries: &[u32]) -> u64
+    ensures { λ r. ⌜ r ≡ digestOf (now (entries .entry)) ⌝ }
+{
     let mut h = 7;
     let mut i = 0;
     while i < entries.len() {
@@ -43,7 +55,9 @@ pub fn words(entries: &[u32]) -> u64 {
     taken(h, entries.len() as u64)
 }
 
-pub fn bytes(entries: &[u8]) -> u64 {
+pub fn bytes(entries: &[u8]) -> u64
+    ensures { λ r. ⌜ r ≡ digestOf (now (entries .entry)) ⌝ }
+{
     let mut h = 7;
     let mut i = 0;
     while i < entries.len() {

@@ -9,7 +9,6 @@ use crate::whole::Row;
 use crate::whole::at;
 use crate::whole::front;
 use crate::whole::front_bytes;
-use crate::whole::part;
 use crate::whole::word;
 use pgm::Sizes;
 use pgm::Turned;
@@ -39,6 +38,40 @@ pub struct Turn {
     pub start: usize,
     pub room: u64,
     pub seen: u64,
+}
+
+// A part of a file's bytes, or no byte where it is no part.
+fn part(bytes: &[u8], start: usize, size: usize) -> &[u8] {
+    let end = std::num::wrapping_add_usize(start, size);
+    if start <= end {
+        if end <= bytes.len() {
+            return &bytes[start..end];
+        }
+    }
+    &bytes[..0]
+}
+
+// The bytes lent to write.
+fn out_room() -> [u8; 20000] {
+    let mut entries = [0u8; 20000];
+    let mut i = 0;
+    while i < 20000 {
+        entries[i] = (100 + i % 100) as u8;
+        i += 1;
+    }
+    entries
+}
+
+// The bytes of a file that a row lists from a column on.
+fn row_bytes(row: Row, first: usize) -> [u8; 32] {
+    let mut entries = [0u8; 32];
+    let mut i = 0;
+    while i < 32 {
+        let place = std::num::wrapping_add_usize(first, i);
+        entries[i] = (at(row, place) % 256) as u8;
+        i += 1;
+    }
+    entries
 }
 
 fn sizes_c(bytes: &[u8]) -> Found {
@@ -181,7 +214,7 @@ fn reading(by_c: bool, no: u64, room: u64, seen: u64, bytes: &[u8]) -> Shot {
 
 // A row of the files: no, target length, count and the bytes.
 pub fn file(by_c: bool, row: Row) {
-    let bytes = made::listed(row, column::FILE_BYTES);
+    let bytes = row_bytes(row, column::FILE_BYTES);
     reading(
         by_c,
         at(row, column::NO),
@@ -193,7 +226,7 @@ pub fn file(by_c: bool, row: Row) {
 
 // A row of the greys: no, target length, count, start, width, height, maxval and the bytes.
 pub fn greys(by_c: bool, row: Row) {
-    let bytes = made::listed(row, column::RASTER_BYTES);
+    let bytes = row_bytes(row, column::RASTER_BYTES);
     let t = Turn {
         letter: b'H',
         no: at(row, column::NO),
@@ -290,7 +323,7 @@ fn read_back(by_c: bool, row: Row, laid: Laid, picture: &[u16], out: &[u8]) {
 
 // Makes the out and writes the picture.
 fn written(by_c: bool, row: Row, picture: &[u16]) {
-    let mut out = made::out();
+    let mut out = out_room();
     let o = front_bytes(&mut out, at(row, column::BYTES_ROOM));
     let laid = write_by(by_c, row, picture, o);
     written_lines(at(row, column::NO), laid, picture, &o[..]);
@@ -321,7 +354,7 @@ fn list_by(by_c: bool, bytes: &[u8], out: &mut [u8]) -> Laid {
 
 // Makes the out and lists; the answer, and the digests of the bytes and of the out.
 fn listed(by_c: bool, row: Row, bytes: &[u8]) {
-    let mut out = made::out();
+    let mut out = out_room();
     let o = front_bytes(&mut out, at(row, column::ROOM));
     let laid = list_by(by_c, bytes, o);
     laid_line(b'L', at(row, column::NO), laid);
@@ -335,6 +368,6 @@ fn listed(by_c: bool, row: Row, bytes: &[u8]) {
 
 // A row of the listings: no, out length, count and the bytes.
 pub fn list(by_c: bool, row: Row) {
-    let bytes = made::listed(row, column::FILE_BYTES);
+    let bytes = row_bytes(row, column::FILE_BYTES);
     listed(by_c, row, part(&bytes, 0, at(row, column::COUNT) as usize));
 }

@@ -1,4 +1,7 @@
 // The films and the draws: prepare, draw and enhance.
+ghost use mathlib.Core.Path.{_≡_};
+ghost use lib.ListN.{length};
+ghost use Rattle.filmset.specs.Filmset.{isFilm, ownOf, windowOf, drawnNumber, placeOf, handedOf, joinedOf};
 use crate::column;
 use crate::digest;
 use crate::kept;
@@ -42,19 +45,25 @@ pub struct Shot {
 }
 
 // Whether a row is a film's: it is drawn whole, with nothing changed before.
-pub fn is_film(drawn: Row) -> bool {
+pub fn is_film(drawn: Row) -> bool
+    ensures { λ r. ⌜ r ≡ isFilm drawn ⌝ }
+{
     at(drawn, column::LETTER) == FILM
 }
 
 // The number in a column that draws alone have, or what stands for it where a film is drawn whole.
-pub fn own(drawn: Row, place: usize, whole: u64) -> u64 {
+pub fn own(drawn: Row, place: usize, whole: u64) -> u64
+    ensures { λ r. ⌜ r ≡ ownOf drawn place whole ⌝ }
+{
     if is_film(drawn) {
         return whole;
     }
     at(drawn, place)
 }
 
-pub fn window(drawn: Row) -> Window {
+pub fn window(drawn: Row) -> Window
+    ensures { λ r. ⌜ r ≡ windowOf drawn ⌝ }
+{
     Window {
         left: low(own(drawn, column::LEFT, 0)),
         top: low(own(drawn, column::TOP, 0)),
@@ -197,7 +206,9 @@ fn called_lines(letter: u8, no: u64, picture: &[u16], map: &[u16], scratch: &[u3
 }
 
 // Makes map and scratch and calls, and prints what comes of it under the letter.
-pub fn called(by_c: bool, letter: u8, row: Row, picture: &mut [u16]) -> Made {
+pub fn called(by_c: bool, letter: u8, row: Row, picture: &mut [u16]) -> Made
+    ensures { λ _. ⌜ length (now (picture .exit)) ≡ length (now (picture .entry)) ⌝ }
+{
     let mut map = [0; 65536];
     let mut scratch = made::scratch();
     let m = front(&mut map, at(row, column::MAP_ROOM));
@@ -235,7 +246,9 @@ fn draw_c(drawn: Row, t: Ten, kept: Ten, picture: &[u16], map: &[u16], out: &mut
     )
 }
 
-pub fn drawn_number(d: Drawn) -> u32 {
+pub fn drawn_number(d: Drawn) -> u32
+    ensures { λ r. ⌜ r ≡ drawnNumber d ⌝ }
+{
     match d {
         Drawn::Done => 0,
         Drawn::Refused(n) => n,
@@ -272,7 +285,9 @@ fn draw_by(
 }
 
 // The column of a record's field in a film's row: film, width and height stand before the picture's columns, the settings behind.
-fn place(field: u64) -> usize {
+fn place(field: u64) -> usize
+    ensures { λ r. ⌜ r ≡ placeOf field ⌝ }
+{
     if field < 3 {
         return (field + 2) as usize;
     }
@@ -280,7 +295,9 @@ fn place(field: u64) -> usize {
 }
 
 // The record that is handed to draw: the one that prepare left, or the made one with a field changed.
-pub fn handed(row: Row, drawn: Row, kept: Ten) -> Ten {
+pub fn handed(row: Row, drawn: Row, kept: Ten) -> Ten
+    ensures { λ r. ⌜ r ≡ handedOf row drawn kept ⌝ }
+{
     let field = own(drawn, column::FIELD, NO_FIELD);
     if NO_FIELD <= field {
         return kept;
@@ -343,7 +360,9 @@ fn drawn_of(
 }
 
 // What came of two calls, the second of which rendered.
-pub fn joined(number: u32, shot: Shot) -> Shot {
+pub fn joined(number: u32, shot: Shot) -> Shot
+    ensures { λ r. ⌜ r ≡ joinedOf number shot ⌝ }
+{
     if number == 0 {
         return shot;
     }
@@ -392,12 +411,16 @@ pub fn same(no: u64, a: Shot, b: Shot) {
 }
 
 // A row of the films, over rooms for the largest picture and the largest output.
-pub fn film(by_c: bool, row: Row, picture: &mut [u16], out: &mut [u16]) {
+pub fn film(by_c: bool, row: Row, picture: &mut [u16], out: &mut [u16])
+    ensures { λ _. ⌜ (length (now (picture .exit)) ≡ length (now (picture .entry))) × (length (now (out .exit)) ≡ length (now (out .entry))) ⌝ }
+{
     let drawn = shot_of(by_c, row, row, picture, out);
     same(at(row, column::NO), drawn, enhanced_of(by_c, row, picture));
 }
 
 // A row of the draws, with that of its film.
-pub fn draw(by_c: bool, row: Row, drawn: Row, picture: &mut [u16], out: &mut [u16]) {
+pub fn draw(by_c: bool, row: Row, drawn: Row, picture: &mut [u16], out: &mut [u16])
+    ensures { λ _. ⌜ (length (now (picture .exit)) ≡ length (now (picture .entry))) × (length (now (out .exit)) ≡ length (now (out .entry))) ⌝ }
+{
     shot_of(by_c, row, drawn, picture, out);
 }

@@ -1,4 +1,7 @@
 // The ten numbers of a film's record, and what the calls of prepare make of them.
+ghost use mathlib.Core.Path.{_≡_};
+ghost use lib.ListN.{getD};
+ghost use Rattle.filmset.specs.Filmset.{factorOf, tenOf, clipOf, settingsOf, recordOf, clipNumber, clipFactor, flatOf, nineOf, tenFrom, keptAs, keptPrepared, keptEnhanced};
 use crate::column;
 use crate::text;
 use crate::whole::Row;
@@ -30,7 +33,9 @@ pub struct Kept {
 }
 
 // The f32 of a bit pattern; one NaN stands for all.
-fn factor_of(bits: u32) -> f32 {
+fn factor_of(bits: u32) -> f32
+    ensures { λ r. ⌜ r ≡ factorOf bits ⌝ }
+{
     if 0x7f800000 < bits % 0x80000000 {
         return 0.0 / 0.0;
     }
@@ -38,7 +43,9 @@ fn factor_of(bits: u32) -> f32 {
 }
 
 // The made record of a film's row.
-pub fn made(row: Row) -> Ten {
+pub fn made(row: Row) -> Ten
+    ensures { λ r. ⌜ r ≡ tenOf row ⌝ }
+{
     Ten {
         film: word(row, column::FILM),
         width: word(row, column::WIDTH),
@@ -53,7 +60,9 @@ pub fn made(row: Row) -> Ten {
     }
 }
 
-fn clip_of(t: Ten) -> Clip {
+fn clip_of(t: Ten) -> Clip
+    ensures { λ r. ⌜ r ≡ clipOf t ⌝ }
+{
     if t.clip == 0 {
         return Clip::Off;
     }
@@ -61,7 +70,9 @@ fn clip_of(t: Ten) -> Clip {
 }
 
 // The settings among the ten.
-pub fn settings(t: Ten) -> Settings {
+pub fn settings(t: Ten) -> Settings
+    ensures { λ r. ⌜ r ≡ settingsOf t ⌝ }
+{
     let clip = clip_of(t);
     Settings {
         across: t.across,
@@ -73,7 +84,9 @@ pub fn settings(t: Ten) -> Settings {
     }
 }
 
-pub fn record(t: Ten) -> MapRecord {
+pub fn record(t: Ten) -> MapRecord
+    ensures { λ r. ⌜ r ≡ recordOf t ⌝ }
+{
     let settings = settings(t);
     MapRecord {
         film: t.film,
@@ -83,14 +96,18 @@ pub fn record(t: Ten) -> MapRecord {
     }
 }
 
-fn clip_number(c: Clip) -> u32 {
+fn clip_number(c: Clip) -> u32
+    ensures { λ r. ⌜ r ≡ clipNumber c ⌝ }
+{
     match c {
         Clip::Off => 0,
         Clip::Factor(_) => 1,
     }
 }
 
-fn clip_factor(c: Clip) -> f32 {
+fn clip_factor(c: Clip) -> f32
+    ensures { λ r. ⌜ r ≡ clipFactor c ⌝ }
+{
     match c {
         Clip::Off => 0.0,
         Clip::Factor(f) => f,
@@ -98,7 +115,9 @@ fn clip_factor(c: Clip) -> f32 {
 }
 
 // The ten numbers of a record.
-fn flat(r: MapRecord) -> Ten {
+fn flat(r: MapRecord) -> Ten
+    ensures { λ t. ⌜ t ≡ flatOf r ⌝ }
+{
     let s = r.settings;
     let c = s.clip;
     Ten {
@@ -148,7 +167,9 @@ pub fn line(letter: u8, no: u64, k: Kept, limit: u32, asked: f32, used: f64) {
 }
 
 // The ten but for the factor, in the order in which C has them.
-pub fn nine(t: Ten) -> [u32; 9] {
+pub fn nine(t: Ten) -> [u32; 9]
+    ensures { λ r. ⌜ r ≡ nineOf t ⌝ }
+{
     [
         t.film,
         t.width,
@@ -162,7 +183,9 @@ pub fn nine(t: Ten) -> [u32; 9] {
     ]
 }
 
-fn nth(numbers: [u32; 9], i: usize) -> u32 {
+fn nth(numbers: [u32; 9], i: usize) -> u32
+    ensures { λ r. ⌜ r ≡ getD numbers i 0 ⌝ }
+{
     if i < 9 {
         return numbers[i];
     }
@@ -170,7 +193,9 @@ fn nth(numbers: [u32; 9], i: usize) -> u32 {
 }
 
 // The ten of these nine and the factor.
-fn ten_of(n: [u32; 9], factor: f32) -> Ten {
+fn ten_of(n: [u32; 9], factor: f32) -> Ten
+    ensures { λ r. ⌜ r ≡ tenFrom n factor ⌝ }
+{
     Ten {
         film: nth(n, 0),
         width: nth(n, 1),
@@ -195,7 +220,9 @@ pub fn of_c(
     limit: u32,
     asked: f32,
     used: f64,
-) -> Kept {
+) -> Kept
+    ensures { λ r. ⌜ r ≡ keptAs number (tenFrom numbers factor) ⌝ }
+{
     let ten = ten_of(numbers, factor);
     let k = Kept { number, ten };
     line(letter, no, k, limit, asked, used);
@@ -203,7 +230,9 @@ pub fn of_c(
 }
 
 // What prepare answered, printed under the letter if that is not 0.
-pub fn of_prepared(letter: u8, no: u64, asked: Ten, p: Prepared) -> Kept {
+pub fn of_prepared(letter: u8, no: u64, asked: Ten, p: Prepared) -> Kept
+    ensures { λ r. ⌜ r ≡ keptPrepared asked p ⌝ }
+{
     match p {
         Prepared::Done(record, footer) => {
             let ten = flat(record);
@@ -220,7 +249,9 @@ pub fn of_prepared(letter: u8, no: u64, asked: Ten, p: Prepared) -> Kept {
 }
 
 // What enhance answered, printed.
-pub fn of_enhanced(no: u64, asked: Ten, e: Enhanced) -> Kept {
+pub fn of_enhanced(no: u64, asked: Ten, e: Enhanced) -> Kept
+    ensures { λ r. ⌜ r ≡ keptEnhanced asked e ⌝ }
+{
     match e {
         Enhanced::Done(footer) => {
             let k = Kept {

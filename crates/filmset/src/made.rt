@@ -1,10 +1,13 @@
 // What a lent buffer holds before the first call of a row, and the film rule.
+ghost use mathlib.Core.Path.{_≡_};
+ghost use Prim.Native.Nat.{_%_};
+ghost use lib.ListN.{getD, set, length};
+ghost use Rattle.lists.specs.Lists.{tab};
+ghost use Rattle.filmset.specs.Filmset.{fillOf, scratchOf};
 use crate::column;
 use crate::whole::Row;
 use crate::whole::at;
-use crate::whole::grey;
 use crate::whole::minus;
-use crate::whole::over;
 use crate::whole::plus;
 use crate::whole::rest;
 use crate::whole::times;
@@ -33,6 +36,21 @@ fn rule_of(row: Row) -> Rule {
         place: at(row, column::POKE_AT),
         value: at(row, column::POKE_VALUE),
     }
+}
+
+// The quotient, and 0 where b is 0.
+fn over(a: u64, b: u64) -> u64 {
+    if b == 0 {
+        return 0;
+    }
+    a / b
+}
+
+// A number as an entry of a picture.
+fn grey(n: u64) -> u16
+    ensures { λ r. ⌜ r ≡ n % 65536 ⌝ }
+{
+    (n % 65536) as u16
 }
 
 // The generator's next number.
@@ -109,7 +127,9 @@ fn pixel(r: Rule, g: u64, i: u64) -> u16 {
 }
 
 // Makes the picture. The kinds that draw no numbers leave the generator aside.
-pub fn picture(row: Row, entries: &mut [u16]) {
+pub fn picture(row: Row, entries: &mut [u16])
+    ensures { λ _. ⌜ length (now (entries .exit)) ≡ length (now (entries .entry)) ⌝ }
+{
     let r = rule_of(row);
     let mut g = r.seed;
     let mut i = 0;
@@ -121,7 +141,9 @@ pub fn picture(row: Row, entries: &mut [u16]) {
 }
 
 // Sets the entry at a place, if there is one.
-pub fn poke(entries: &mut [u16], place: u64, value: u64) {
+pub fn poke(entries: &mut [u16], place: u64, value: u64)
+    ensures { λ _. ⌜ now (entries .exit) ≡ set (now (entries .entry)) place (value % 65536) ⌝ }
+{
     let i = place as usize;
     if i < entries.len() {
         entries[i] = grey(value);
@@ -129,7 +151,9 @@ pub fn poke(entries: &mut [u16], place: u64, value: u64) {
 }
 
 // Entry i becomes base and what is left of first + i * pace by span.
-fn fill(entries: &mut [u16], base: u64, first: u64, pace: u64, span: u64) {
+fn fill(entries: &mut [u16], base: u64, first: u64, pace: u64, span: u64)
+    ensures { λ _. ⌜ now (entries .exit) ≡ tab (length (now (entries .entry))) (fillOf base first pace span) ⌝ }
+{
     let mut i = 0;
     while i < entries.len() {
         let way = plus(times(i as u64, pace), first);
@@ -139,7 +163,9 @@ fn fill(entries: &mut [u16], base: u64, first: u64, pace: u64, span: u64) {
 }
 
 // Fills a map: its entries go up by 7 again and again.
-pub fn map(row: Row, entries: &mut [u16]) {
+pub fn map(row: Row, entries: &mut [u16])
+    ensures { λ _. ⌜ now (entries .exit) ≡ tab (length (now (entries .entry))) (fillOf (getD row 21 0) 3 7 (getD row 22 0)) ⌝ }
+{
     fill(
         entries,
         at(row, column::FILL_BASE),
@@ -150,39 +176,20 @@ pub fn map(row: Row, entries: &mut [u16]) {
 }
 
 // Fills an output of draw or a target of greys: its entries run up from base again and again.
-pub fn output(entries: &mut [u16], base: u64) {
+pub fn output(entries: &mut [u16], base: u64)
+    ensures { λ _. ⌜ now (entries .exit) ≡ tab (length (now (entries .entry))) (fillOf base 0 1 1000) ⌝ }
+{
     fill(entries, base, 0, 1, 1000);
 }
 
 // A scratch of the longest length before a call.
-pub fn scratch() -> [u32; 4200] {
+pub fn scratch() -> [u32; 4200]
+    ensures { λ r. ⌜ r ≡ tab 4200 scratchOf ⌝ }
+{
     let mut entries = [0u32; 4200];
     let mut i = 0;
     while i < 4200 {
         entries[i] = (i % 1000 * 5 % 1000 + 1) as u32;
-        i += 1;
-    }
-    entries
-}
-
-// The bytes lent to write.
-pub fn out() -> [u8; 20000] {
-    let mut entries = [0u8; 20000];
-    let mut i = 0;
-    while i < 20000 {
-        entries[i] = (100 + i % 100) as u8;
-        i += 1;
-    }
-    entries
-}
-
-// The bytes of a file that a row lists from a column on.
-pub fn listed(row: Row, first: usize) -> [u8; 32] {
-    let mut entries = [0u8; 32];
-    let mut i = 0;
-    while i < 32 {
-        let place = std::num::wrapping_add_usize(first, i);
-        entries[i] = (at(row, place) % 256) as u8;
         i += 1;
     }
     entries

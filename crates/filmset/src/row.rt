@@ -1,5 +1,8 @@
 // The rows of the set as text: one a line, a capital and then numbers, each behind one blank, `0x` before those that are
 // hexadecimal. From `#` on a line is a note.
+ghost use mathlib.Core.Path.{_≡_};
+ghost use lib.ListN.{length};
+ghost use Rattle.filmset.specs.Filmset.{freshLine, digitOf, longerLine, fedLine, lookedLine, foundRow};
 use crate::column;
 use crate::file;
 use crate::film;
@@ -29,7 +32,9 @@ pub struct Line {
 }
 
 // Before a line.
-pub fn fresh() -> Line {
+pub fn fresh() -> Line
+    ensures { λ r. ⌜ r ≡ freshLine ⌝ }
+{
     Line {
         numbers: [0; 36],
         count: 0,
@@ -38,7 +43,9 @@ pub fn fresh() -> Line {
 }
 
 // The value of a digit; a capital stands for its own code.
-fn digit(b: u64) -> u64 {
+fn digit(b: u64) -> u64
+    ensures { λ r. ⌜ r ≡ digitOf b ⌝ }
+{
     if b < 65 {
         return minus(b, 48);
     }
@@ -49,7 +56,9 @@ fn digit(b: u64) -> u64 {
 }
 
 // The line with one digit more of its number.
-fn longer(line: Line, b: u8) -> Line {
+fn longer(line: Line, b: u8) -> Line
+    ensures { λ r. ⌜ r ≡ longerLine line b ⌝ }
+{
     let k = line.count;
     let n = line.numbers;
     Line {
@@ -60,7 +69,9 @@ fn longer(line: Line, b: u8) -> Line {
 }
 
 // The line with one byte more. Nothing is read behind its last number.
-pub fn fed(line: Line, b: u8) -> Line {
+pub fn fed(line: Line, b: u8) -> Line
+    ensures { λ r. ⌜ r ≡ fedLine line b ⌝ }
+{
     let numbers = line.numbers;
     let count = line.count;
     if 35 < count {
@@ -101,7 +112,9 @@ fn turn(by_c: bool, text: &[u8], r: Row, picture: &mut [u16], out: &mut [u16]) {
 }
 
 // Runs all rows of the set, over rooms for the largest picture and the largest output.
-pub fn rows(by_c: bool, text: &[u8], picture: &mut [u16], out: &mut [u16]) {
+pub fn rows(by_c: bool, text: &[u8], picture: &mut [u16], out: &mut [u16])
+    ensures { λ _. ⌜ (length (now (picture .exit)) ≡ length (now (picture .entry))) × (length (now (out .exit)) ≡ length (now (out .entry))) ⌝ }
+{
     let mut line = fresh();
     let mut i = 0;
     while i < text.len() {
@@ -121,7 +134,9 @@ fn taken(by_c: bool, text: &[u8], line: Line, b: u8, picture: &mut [u16], out: &
 }
 
 // Takes one byte of the set in while film `no` is looked for. Its line stays: no byte is read behind its end.
-fn looked(line: Line, no: u64, b: u8) -> Line {
+fn looked(line: Line, no: u64, b: u8) -> Line
+    ensures { λ r. ⌜ r ≡ lookedLine no line b ⌝ }
+{
     if b != b'\n' {
         return fed(line, b);
     }
@@ -140,7 +155,9 @@ fn looked(line: Line, no: u64, b: u8) -> Line {
 }
 
 // The row of film `no`; zeros where there is none.
-pub fn found(text: &[u8], no: u64) -> Row {
+pub fn found(text: &[u8], no: u64) -> Row
+    ensures { λ r. ⌜ r ≡ foundRow (now (text .entry)) no ⌝ }
+{
     let mut line = fresh();
     let mut i = 0;
     while i < text.len() {

@@ -1,4 +1,6 @@
 // The printed lines: a letter and the row's number, then further fields, each behind a tab.
+ghost use mathlib.Core.Path.{_≡_};
+ghost use mathlib.Core.Bool.{cond};
 use libc::STDOUT_FILENO;
 
 // The letter and the row's number.
@@ -115,7 +117,9 @@ pub fn small_bytes(letter: u8, no: u64, entries: &[u8]) {
 }
 
 // One of two letters.
-pub fn either(is_first: bool, first: u8, second: u8) -> u8 {
+pub fn either(is_first: bool, first: u8, second: u8) -> u8
+    ensures { λ r. ⌜ r ≡ cond «is_first» first second ⌝ }
+{
     if is_first {
         return first;
     }

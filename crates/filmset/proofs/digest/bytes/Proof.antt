@@ -1,19 +1,22 @@
--- `filmset::digest::bytes` is safe and ends: the place is within the buffer. The measure is the entries left. Assumes nothing.
+-- `filmset::digest::bytes` meets its contract: what is left, taken in, gives the whole digest. The measure is the entries left. Assumes nothing.
 use borrow.Author.Needs.{needs}
 use native.Mathlib.Omega.{arith}
 use Prim.Native.Nat.{_≤_, _-_}
 use lib.ListN.{length}
+use mathlib.Core.Path.{_≡_, refl}
+use Rattle.filmset.specs.Filmset.{run, mixed}
+use Rattle.filmset.proofs.Runs.{from, run-start, run-step, digest-end}
 use Rattle.filmset.proofs.digest.bytes.Statement.{statement}
 use Rattle.filmset.proofs.digest.bytes.Tie as tie
 
 abbrev Inv-loop : tie.InvT-loop
-Inv-loop entries h₀ i₀ h i = i ≤ length entries
+Inv-loop entries h₀ i₀ h i = (i ≤ length entries) × (from mixed entries h i ≡ run mixed 7 entries)
 
 abbrev μ-loop : tie.MeasureT-loop
 μ-loop entries h₀ i₀ h i = length entries - i
 
 loop-holds : tie.Need-loop-holds Inv-loop μ-loop
-loop-holds c = search needs
+loop-holds c = (search needs, run-start _ _ refl)
 
 shared-slice-read-taken : tie.Need-shared-slice-read-taken Inv-loop μ-loop
 shared-slice-read-taken c = search needs
@@ -31,13 +34,13 @@ loop-less : tie.Need-loop-less Inv-loop μ-loop
 loop-less c = search needs
 
 loop-again : tie.Need-loop-again Inv-loop μ-loop
-loop-again c = search needs
+loop-again c = (search needs, run-step _ _ _ _ (c .before .before .before .loop .inv .1) (search needs) (c .taken .ensures))
 
 taken-requires-2 : tie.Need-taken-requires-2 Inv-loop μ-loop
 taken-requires-2 c κs = search needs
 
 returns : tie.Need-returns Inv-loop μ-loop
-returns c = search needs
+returns c = digest-end _ _ _ (c .before .before .loop .inv .1) (search needs) (c .taken2 .ensures)
 
 pub bytes-spec : {M : Type 1} → statement M
 bytes-spec =

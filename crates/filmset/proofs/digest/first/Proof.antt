@@ -1,13 +1,16 @@
--- `filmset::digest::first` is safe and ends: the place is within the buffer. The measure is the entries left. Assumes nothing.
+-- `filmset::digest::first` meets its contract: what is left, taken in, gives the whole digest. The measure is the entries left. Assumes nothing.
 use borrow.Author.Needs.{needs}
 use native.Mathlib.Omega.{arith}
-use Prim.Native.Nat.{_≤_, _-_}
-use lib.ListN.{length}
+use Prim.Native.Nat.{_≤_, _-_, min}
+use lib.ListN.{length, take}
+use mathlib.Core.Path.{_≡_, refl}
+use Rattle.filmset.specs.Filmset.{run, mixed}
+use Rattle.filmset.proofs.Runs.{from-first, first-start, first-step, first-end}
 use Rattle.filmset.proofs.digest.first.Statement.{statement}
 use Rattle.filmset.proofs.digest.first.Tie as tie
 
 abbrev Inv-loop : tie.InvT-loop
-Inv-loop entries n end h₀ i₀ h i = (i ≤ end) × (end ≤ length entries)
+Inv-loop entries n end h₀ i₀ h i = (i ≤ end) × (end ≤ length entries) × (end ≡ min n (length entries)) × (from-first entries end h i ≡ run mixed 7 (take end entries))
 
 abbrev μ-loop : tie.MeasureT-loop
 μ-loop entries n end h₀ i₀ h i = end - i
@@ -16,7 +19,7 @@ least-requires : tie.Need-least-requires Inv-loop μ-loop
 least-requires c κs = search needs
 
 loop-holds : tie.Need-loop-holds Inv-loop μ-loop
-loop-holds c = search needs
+loop-holds c = (search needs, search needs, c .least .ensures, first-start _ _)
 
 mul-taken : tie.Need-mul-taken Inv-loop μ-loop
 mul-taken c = search needs
@@ -37,13 +40,13 @@ loop-less : tie.Need-loop-less Inv-loop μ-loop
 loop-less c = search needs
 
 loop-again : tie.Need-loop-again Inv-loop μ-loop
-loop-again c = search needs
+loop-again c = (search needs, search needs, search needs, first-step _ _ _ _ (c .before .before .before .loop .inv .3) (search needs) (search needs) (c .taken .ensures))
 
 taken-requires-2 : tie.Need-taken-requires-2 Inv-loop μ-loop
 taken-requires-2 c κs = search needs
 
 returns : tie.Need-returns Inv-loop μ-loop
-returns c = search needs
+returns c = first-end _ _ _ _ _ (c .before .before .loop .inv .3) (search needs) (search needs) (c .before .before .loop .inv .2) (c .taken2 .ensures)
 
 pub first-spec : {M : Type 1} → statement M
 first-spec =

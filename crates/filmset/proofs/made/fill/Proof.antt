@@ -1,19 +1,23 @@
--- `filmset::made::fill` is safe and ends: the place is within the buffer, which keeps its length. The measure is the entries left. Assumes nothing.
+-- `filmset::made::fill` meets its contract: the entries passed are filled. The measure is the entries left. Assumes nothing.
 use borrow.Author.Needs.{needs}
 use Prim.Native.Nat.{_≤_, _-_}
-use mathlib.Core.Path.{_≡_}
+use mathlib.Core.Path.{_≡_, refl, _∙_}
 use lib.ListN.{length, length-set}
+use Rattle.lists.specs.Lists.{filled}
+use Rattle.lists.proofs.Fills.{filled-none, filled-step, filled-end}
+use Rattle.filmset.specs.Filmset.{fillOf}
+use Rattle.filmset.proofs.Runs.{filled-full}
 use Rattle.filmset.proofs.made.fill.Statement.{statement}
 use Rattle.filmset.proofs.made.fill.Tie as tie
 
 abbrev Inv-loop : tie.InvT-loop
-Inv-loop entries₀ base first pace span i₀ entries i = (i ≤ length entries₀) × (length entries ≡ length entries₀)
+Inv-loop entries₀ base first pace span i₀ entries i = (i ≤ length entries₀) × (length entries ≡ length entries₀) × (entries ≡ filled (fillOf base first pace span) entries₀ i)
 
 abbrev μ-loop : tie.MeasureT-loop
 μ-loop entries₀ base first pace span i₀ entries i = length entries₀ - i
 
 loop-holds : tie.Need-loop-holds Inv-loop μ-loop
-loop-holds c = search needs
+loop-holds c = (search needs, refl, filled-none _ _)
 
 times-requires : tie.Need-times-requires Inv-loop μ-loop
 times-requires c κs = search needs
@@ -43,13 +47,14 @@ loop-less : tie.Need-loop-less Inv-loop μ-loop
 loop-less c = search needs
 
 loop-again : tie.Need-loop-again Inv-loop μ-loop
-loop-again c = (search needs, rw length-set (search needs))
+unfolding fillOf
+loop-again c = (search needs, rw length-set (search needs), filled-step _ _ (c .before .before .before .before .before .before .loop .inv .2) (search needs) (cc))
 
 same-length : tie.Need-same-length Inv-loop μ-loop
 same-length c = search needs
 
 returns : tie.Need-returns Inv-loop μ-loop
-returns c = search needs
+returns c = filled-end _ _ (c .before .loop .inv .2) (search needs) (search needs) ∙ filled-full _ _ _ refl
 
 pub fill-spec : {M : Type 1} → statement M
 fill-spec =

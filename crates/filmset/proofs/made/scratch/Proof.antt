@@ -1,17 +1,23 @@
--- `filmset::made::scratch` is safe and ends: the place is within the buffer. The measure is the entries left. Assumes nothing.
+-- `filmset::made::scratch` meets its contract: the entries passed are filled. The measure is the entries left. Assumes nothing.
 use borrow.Author.Needs.{needs}
-use Prim.Native.Nat.{_≤_, _-_}
+use Prim.Native.Nat.{ℕ, _≤_, _-_}
+use mathlib.Core.Path.{_≡_, refl, _∙_}
+use lib.ListN.{length, length-replicate}
+use Rattle.lists.specs.Lists.{filled}
+use Rattle.lists.proofs.Fills.{filled-none, filled-step, filled-end}
+use Rattle.filmset.specs.Filmset.{scratchOf}
+use Rattle.filmset.proofs.Runs.{filled-full}
 use Rattle.filmset.proofs.made.scratch.Statement.{statement}
 use Rattle.filmset.proofs.made.scratch.Tie as tie
 
 abbrev Inv-loop : tie.InvT-loop
-Inv-loop entries₀ i₀ entries i = i ≤ 4200
+Inv-loop entries₀ i₀ entries i = (i ≤ 4200) × (length entries₀ ≡ 4200) × (entries ≡ filled scratchOf entries₀ i)
 
 abbrev μ-loop : tie.MeasureT-loop
 μ-loop entries₀ i₀ entries i = 4200 - i
 
 loop-holds : tie.Need-loop-holds Inv-loop μ-loop
-loop-holds c = search needs
+loop-holds c = (search needs, length-replicate {A = ℕ} 4200 0, filled-none _ _)
 
 mul-entries : tie.Need-mul-entries Inv-loop μ-loop
 mul-entries c = search needs
@@ -35,10 +41,11 @@ loop-less : tie.Need-loop-less Inv-loop μ-loop
 loop-less c = search needs
 
 loop-again : tie.Need-loop-again Inv-loop μ-loop
-loop-again c = search needs
+unfolding scratchOf
+loop-again c = (search needs, search needs, filled-step _ _ (c .before .loop .inv .2) (search needs) refl)
 
 returns : tie.Need-returns Inv-loop μ-loop
-returns c = search needs
+returns c = filled-end _ _ (c .before .loop .inv .2) (search needs) (search needs) ∙ filled-full _ _ _ (c .before .loop .inv .1)
 
 pub scratch-spec : {M : Type 1} → statement M
 scratch-spec =

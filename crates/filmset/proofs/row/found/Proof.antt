@@ -1,12 +1,16 @@
--- `filmset::row::found` is safe and ends: the place is within the set. The measure is the bytes left. Assumes nothing.
+-- `filmset::row::found` meets its contract: what is left, looked through, gives the row. The measure is the bytes left. Assumes nothing.
 use borrow.Author.Needs.{needs}
 use Prim.Native.Nat.{_≤_, _-_}
 use lib.ListN.{length}
+use mathlib.Core.Path.{_≡_, refl, ap}
+use Rattle.filmset.specs.Filmset.{run, lookedLine, freshLine}
+use Rattle.filmset.proofs.Runs.{from, run-start, run-step, run-end}
+use Rattle.filmset.specs.declared.row.Line.{Line}
 use Rattle.filmset.proofs.row.found.Statement.{statement}
 use Rattle.filmset.proofs.row.found.Tie as tie
 
 abbrev Inv-loop : tie.InvT-loop
-Inv-loop text no' line₀ i₀ line i = i ≤ length text
+Inv-loop text no' line₀ i₀ line i = (i ≤ length text) × (from (lookedLine no') text line i ≡ run (lookedLine no') freshLine text)
 
 abbrev μ-loop : tie.MeasureT-loop
 μ-loop text no' line₀ i₀ line i = length text - i
@@ -15,7 +19,7 @@ fresh-requires : tie.Need-fresh-requires Inv-loop μ-loop
 fresh-requires c κs = search needs
 
 loop-holds : tie.Need-loop-holds Inv-loop μ-loop
-loop-holds c = search needs
+loop-holds c = (search needs, run-start _ _ (c .fresh .ensures))
 
 shared-slice-read-looked : tie.Need-shared-slice-read-looked Inv-loop μ-loop
 shared-slice-read-looked c = search needs
@@ -30,10 +34,10 @@ loop-less : tie.Need-loop-less Inv-loop μ-loop
 loop-less c = search needs
 
 loop-again : tie.Need-loop-again Inv-loop μ-loop
-loop-again c = search needs
+loop-again c = (search needs, run-step _ _ _ _ (c .before .before .before .loop .inv .1) (search needs) (c .looked .ensures))
 
 returns : tie.Need-returns Inv-loop μ-loop
-returns c = search needs
+returns c = ap (λ (l : Line). l .numbers) (run-end _ _ _ _ (c .before .before .loop .inv .1) (search needs))
 
 pub found-spec : {M : Type 1} → statement M
 found-spec =

@@ -1,20 +1,23 @@
--- `filmset::made::out` is safe and ends: the place is within the buffer. The measure is the entries left. Assumes nothing.
+-- `filmset::file::row_bytes` is safe and ends: the place is within the buffer. The measure is the entries left. Assumes nothing.
 use borrow.Author.Needs.{needs}
 use Prim.Native.Nat.{_≤_, _-_}
-use Rattle.filmset.proofs.made.out.Statement.{statement}
-use Rattle.filmset.proofs.made.out.Tie as tie
+use Rattle.filmset.proofs.file.row_bytes.Statement.{statement}
+use Rattle.filmset.proofs.file.row_bytes.Tie as tie
 
 abbrev Inv-loop : tie.InvT-loop
-Inv-loop entries₀ i₀ entries i = i ≤ 20000
+Inv-loop row first entries₀ i₀ entries i = i ≤ 32
 
 abbrev μ-loop : tie.MeasureT-loop
-μ-loop entries₀ i₀ entries i = 20000 - i
+μ-loop row first entries₀ i₀ entries i = 32 - i
 
 loop-holds : tie.Need-loop-holds Inv-loop μ-loop
 loop-holds c = search needs
 
-add-entries : tie.Need-add-entries Inv-loop μ-loop
-add-entries c = search needs
+wrapping-add-usize-requires : tie.Need-wrapping-add-usize-requires Inv-loop μ-loop
+wrapping-add-usize-requires c κs = search needs
+
+at-requires : tie.Need-at-requires Inv-loop μ-loop
+at-requires c κs = search needs
 
 cast-entries : tie.Need-cast-entries Inv-loop μ-loop
 cast-entries c = search needs
@@ -34,14 +37,15 @@ loop-again c = search needs
 returns : tie.Need-returns Inv-loop μ-loop
 returns c = search needs
 
-pub out-spec : {M : Type 1} → statement M
-out-spec =
+pub row-bytes-spec : {M : Type 1} → statement M
+row-bytes-spec =
     tie.close
     (tie.spec
     Inv-loop
     μ-loop
     loop-holds
-    add-entries
+    wrapping-add-usize-requires
+    at-requires
     cast-entries
     array-write-entries
     add-i

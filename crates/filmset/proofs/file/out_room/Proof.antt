@@ -1,23 +1,20 @@
--- `filmset::made::listed` is safe and ends: the place is within the buffer. The measure is the entries left. Assumes nothing.
+-- `filmset::file::out_room` is safe and ends: the place is within the buffer. The measure is the entries left. Assumes nothing.
 use borrow.Author.Needs.{needs}
 use Prim.Native.Nat.{_≤_, _-_}
-use Rattle.filmset.proofs.made.listed.Statement.{statement}
-use Rattle.filmset.proofs.made.listed.Tie as tie
+use Rattle.filmset.proofs.file.out_room.Statement.{statement}
+use Rattle.filmset.proofs.file.out_room.Tie as tie
 
 abbrev Inv-loop : tie.InvT-loop
-Inv-loop row first entries₀ i₀ entries i = i ≤ 32
+Inv-loop entries₀ i₀ entries i = i ≤ 20000
 
 abbrev μ-loop : tie.MeasureT-loop
-μ-loop row first entries₀ i₀ entries i = 32 - i
+μ-loop entries₀ i₀ entries i = 20000 - i
 
 loop-holds : tie.Need-loop-holds Inv-loop μ-loop
 loop-holds c = search needs
 
-wrapping-add-usize-requires : tie.Need-wrapping-add-usize-requires Inv-loop μ-loop
-wrapping-add-usize-requires c κs = search needs
-
-at-requires : tie.Need-at-requires Inv-loop μ-loop
-at-requires c κs = search needs
+add-entries : tie.Need-add-entries Inv-loop μ-loop
+add-entries c = search needs
 
 cast-entries : tie.Need-cast-entries Inv-loop μ-loop
 cast-entries c = search needs
@@ -37,15 +34,14 @@ loop-again c = search needs
 returns : tie.Need-returns Inv-loop μ-loop
 returns c = search needs
 
-pub listed-spec : {M : Type 1} → statement M
-listed-spec =
+pub out-room-spec : {M : Type 1} → statement M
+out-room-spec =
     tie.close
     (tie.spec
     Inv-loop
     μ-loop
     loop-holds
-    wrapping-add-usize-requires
-    at-requires
+    add-entries
     cast-entries
     array-write-entries
     add-i

@@ -1,0 +1,24 @@
+-- `filmset::film::place` meets its contract: the first three fields stand before the picture's columns. Assumes nothing.
+use borrow.Author.Needs.{needs}
+use mathlib.Core.Path.{refl}
+use borrow.Author.Tests.{lt-ltb, le-ltb}
+use Rattle.filmset.specs.Filmset.{placeOf}
+use Rattle.filmset.proofs.film.place.Statement.{statement}
+use Rattle.filmset.proofs.film.place.Tie as tie
+
+add-result : tie.Need-add-result
+add-result c = search needs
+
+returns : tie.Need-returns
+unfolding placeOf
+returns c = rw (lt-ltb _ _ (c .if1 .taken)) refl
+
+add-result-2 : tie.Need-add-result-2
+add-result-2 c = search needs
+
+returns-2 : tie.Need-returns-2
+unfolding placeOf
+returns-2 c = rw (le-ltb _ _ (c .if1 .left)) refl
+
+pub place-spec : {M : Type 1} → statement M
+place-spec = tie.close (tie.spec add-result returns add-result-2 returns-2)

@@ -1,0 +1,16 @@
+-- `filmset::kept::of_c` meets its contract: what the call for C left. Assumes nothing.
+use borrow.Author.Needs.{needs}
+use Rattle.filmset.proofs.kept.of_c.Statement.{statement}
+use Rattle.filmset.proofs.kept.of_c.Tie as tie
+
+ten-of-requires : tie.Need-ten-of-requires
+ten-of-requires c κs = search needs
+
+line-requires : tie.Need-line-requires
+line-requires c κs = search needs
+
+returns : tie.Need-returns
+returns c = cc
+
+pub of-c-spec : {M : Type 1} → statement M
+of-c-spec = tie.close (tie.spec ten-of-requires line-requires returns)

@@ -1,0 +1,16 @@
+-- `filmset::kept::record` meets its contract: the map record of the ten. Assumes nothing.
+use borrow.Author.Needs.{needs}
+use mathlib.Core.Path.{refl}
+use Rattle.filmset.specs.Filmset.{recordOf}
+use Rattle.filmset.proofs.kept.record.Statement.{statement}
+use Rattle.filmset.proofs.kept.record.Tie as tie
+
+settings-requires : tie.Need-settings-requires
+settings-requires c κs = search needs
+
+returns : tie.Need-returns
+unfolding recordOf
+returns c = rw (c .settings .ensures) refl
+
+pub record-spec : {M : Type 1} → statement M
+record-spec = tie.close (tie.spec settings-requires returns)

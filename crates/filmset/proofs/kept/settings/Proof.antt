@@ -1,0 +1,16 @@
+-- `filmset::kept::settings` meets its contract: the settings among the ten. Assumes nothing.
+use borrow.Author.Needs.{needs}
+use mathlib.Core.Path.{refl}
+use Rattle.filmset.specs.Filmset.{settingsOf}
+use Rattle.filmset.proofs.kept.settings.Statement.{statement}
+use Rattle.filmset.proofs.kept.settings.Tie as tie
+
+clip-of-requires : tie.Need-clip-of-requires
+clip-of-requires c κs = search needs
+
+returns : tie.Need-returns
+unfolding settingsOf
+returns c = rw (c .clip-of .ensures) refl
+
+pub settings-spec : {M : Type 1} → statement M
+settings-spec = tie.close (tie.spec clip-of-requires returns)

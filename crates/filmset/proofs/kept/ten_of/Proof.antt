@@ -1,0 +1,51 @@
+-- `filmset::kept::ten_of` meets its contract: the nine numbers in their order, and the factor. Assumes nothing.
+use borrow.Author.Needs.{needs}
+use Rattle.filmset.specs.Filmset.{tenFrom}
+use Rattle.filmset.proofs.kept.ten_of.Statement.{statement}
+use Rattle.filmset.proofs.kept.ten_of.Tie as tie
+
+nth-requires : tie.Need-nth-requires
+nth-requires c κs = search needs
+
+nth-requires-2 : tie.Need-nth-requires-2
+nth-requires-2 c κs = search needs
+
+nth-requires-3 : tie.Need-nth-requires-3
+nth-requires-3 c κs = search needs
+
+nth-requires-4 : tie.Need-nth-requires-4
+nth-requires-4 c κs = search needs
+
+nth-requires-5 : tie.Need-nth-requires-5
+nth-requires-5 c κs = search needs
+
+nth-requires-6 : tie.Need-nth-requires-6
+nth-requires-6 c κs = search needs
+
+nth-requires-7 : tie.Need-nth-requires-7
+nth-requires-7 c κs = search needs
+
+nth-requires-8 : tie.Need-nth-requires-8
+nth-requires-8 c κs = search needs
+
+nth-requires-9 : tie.Need-nth-requires-9
+nth-requires-9 c κs = search needs
+
+returns : tie.Need-returns
+unfolding tenFrom
+returns c = cc
+
+pub ten-of-spec : {M : Type 1} → statement M
+ten-of-spec =
+    tie.close
+    (tie.spec
+    nth-requires
+    nth-requires-2
+    nth-requires-3
+    nth-requires-4
+    nth-requires-5
+    nth-requires-6
+    nth-requires-7
+    nth-requires-8
+    nth-requires-9
+    returns)

@@ -1,0 +1,231 @@
+-- What the functions of the film set answer. A row is the list of its numbers, and a number that is not there reads as 0.
+-- Assumes nothing.
+use Prim.Native.Nat.{ℕ, _+_, _-_, _*_, _%_, _^_}
+use mathlib.Core.Bool.{Bool, cond, _&&_}
+use mathlib.Core.List.{List, [], _∷_}
+use lib.Dec.{eqb, ltb, leb}
+use lib.Ieee.{Float, nan, binary32, ofBits}
+use lib.ListN.{getD, set, length, replicate}
+use Rattle.limit.specs.declared.Clip.{Clip}
+use Rattle.limit.specs.declared.Clip.the-variants.{Off, Factor}
+use Rattle.settings.specs.declared.Settings.{Settings}
+use Rattle.settings.specs.declared.MapRecord.{MapRecord}
+use Rattle.settings.specs.declared.Window.{Window}
+use Rattle.prepare.specs.declared.Prepared.{Prepared}
+use Rattle.prepare.specs.declared.Prepared.the-variants as prepared
+use Rattle.prepare.specs.declared.Enhanced.{Enhanced}
+use Rattle.prepare.specs.declared.Enhanced.the-variants as enhanced
+use Rattle.draw.specs.declared.Drawn.{Drawn}
+use Rattle.draw.specs.declared.Drawn.the-variants as drawn
+use Rattle.filmset.specs.declared.row.Line.{Line}
+use Rattle.filmset.specs.declared.kept.Ten.{Ten}
+use Rattle.filmset.specs.declared.kept.Kept.{Kept}
+use Rattle.filmset.specs.declared.film.Shot.{Shot}
+
+-- f over the entries of a list, from a on
+unfoldable pub run : {A : Type 0} → (A → ℕ → A) → A → List ℕ → A
+run f a [] = a
+run f a (b ∷ bs) = run f (f a b) bs
+
+-- ---- whole numbers and columns
+
+-- the remainder of a by b, and 0 where b is 0
+unfoldable pub restOf : ℕ → ℕ → ℕ
+restOf a b = cond (eqb b 0) 0 (a % b)
+
+-- the number in a column of a row as one of 32 bits
+abbrev pub wordOf : List ℕ → ℕ → ℕ
+wordOf row column = getD row column 0 % 4294967296
+
+-- ---- digests
+
+-- the digest h with one entry more
+abbrev pub mixed : ℕ → ℕ → ℕ
+mixed h v = (h % 4294967296 * 31 + v % 4294967296 + 1) % 4294967296
+
+-- from 7 on, each entry and last the length
+unfoldable pub digestOf : List ℕ → ℕ
+digestOf s = mixed (run mixed 7 s) (length s)
+
+-- ---- lines
+
+-- before a line
+abbrev pub freshLine : Line
+freshLine = record { numbers = replicate 36 0; count = 0; base = 10 }
+
+-- the value of a digit; a capital stands for its own code
+unfoldable pub digitOf : ℕ → ℕ
+digitOf b = cond (ltb b 65) (b - 48) (cond (ltb b 97) b (b - 87))
+
+-- the line with one digit more of its number
+unfoldable pub longerLine : Line → ℕ → Line
+longerLine l b =
+    record {
+      numbers = set (l .numbers) (l .count) ((getD (l .numbers) (l .count) 0 % 4294967296 * (l .base % 4294967296) + digitOf b) % 2 ^ 64);
+      count = l .count;
+      base = l .base;
+    }
+
+-- the line with one byte more: `#` ends it, `x` makes its number hexadecimal, a blank ends the number
+unfoldable pub fedLine : Line → ℕ → Line
+fedLine l b =
+    cond (ltb 35 (l .count)) l
+    (cond (eqb b 35) (record { numbers = l .numbers; count = 36; base = 10 })
+    (cond (eqb b 120) (record { numbers = l .numbers; count = l .count; base = 16 })
+    (cond (eqb b 32) (record { numbers = l .numbers; count = l .count + 1; base = 10 })
+    (longerLine l b))))
+
+-- the line with one byte more while film `no` is looked for: its end is passed over where it is that film's
+unfoldable pub lookedLine : ℕ → Line → ℕ → Line
+lookedLine n l b =
+    cond (eqb b 10)
+    (cond (eqb (getD (l .numbers) 0 0) 70)
+    (cond (eqb (getD (l .numbers) 1 0) n) (record { numbers = l .numbers; count = 36; base = 10 }) freshLine) freshLine)
+    (fedLine l b)
+
+-- the row of film `no`, zeros where there is none
+abbrev pub foundRow : List ℕ → ℕ → List ℕ
+foundRow text n = run (lookedLine n) freshLine text .numbers
+
+-- ---- records
+
+-- the f32 of a bit pattern; one NaN stands for all
+unfoldable pub factorOf : ℕ → Float
+factorOf bits = cond (ltb 2139095040 (bits % 2147483648)) nan (ofBits binary32 bits)
+
+-- the made record of a film's row
+unfoldable pub tenOf : List ℕ → Ten
+tenOf row =
+    record {
+      film = wordOf row 2;
+      width = wordOf row 3;
+      height = wordOf row 4;
+      across = wordOf row 12;
+      down = wordOf row 13;
+      bins = wordOf row 14;
+      min = wordOf row 15;
+      max = wordOf row 16;
+      clip = wordOf row 17;
+      factor = factorOf (wordOf row 18);
+    }
+
+-- a clip of 0 is off, any other number is the factor
+unfoldable pub clipOf : Ten → Clip
+clipOf t = cond (eqb (t .clip) 0) Off (Factor (t .factor))
+
+-- the settings among the ten
+unfoldable pub settingsOf : Ten → Settings
+settingsOf t = record { across = t .across; down = t .down; bins = t .bins; min = t .min; max = t .max; clip = clipOf t }
+
+-- the map record of the ten
+unfoldable pub recordOf : Ten → MapRecord
+recordOf t = record { film = t .film; width = t .width; height = t .height; settings = settingsOf t }
+
+-- the number of a clip setting
+abbrev pub clipNumber : Clip → ℕ
+clipNumber Off = 0
+clipNumber (Factor f) = 1
+
+-- and its factor, 0.0 where it is off
+abbrev pub clipFactor : Clip → Float
+clipFactor Off = ofBits binary32 0
+clipFactor (Factor f) = f
+
+-- the ten numbers of a map record
+unfoldable pub flatOf : MapRecord → Ten
+flatOf r =
+    record {
+      film = r .film;
+      width = r .width;
+      height = r .height;
+      across = r .settings .across;
+      down = r .settings .down;
+      bins = r .settings .bins;
+      min = r .settings .min;
+      max = r .settings .max;
+      clip = clipNumber (r .settings .clip);
+      factor = clipFactor (r .settings .clip);
+    }
+
+-- the ten but for the factor, in the order in which C has them
+abbrev pub nineOf : Ten → List ℕ
+nineOf t =
+    t .film ∷ t .width ∷ t .height ∷ t .across ∷ t .down ∷ t .bins ∷ t .min ∷ t .max ∷ t .clip ∷ []
+
+-- the ten of these nine and the factor
+unfoldable pub tenFrom : List ℕ → Float → Ten
+tenFrom n f =
+    record {
+      film = getD n 0 0;
+      width = getD n 1 0;
+      height = getD n 2 0;
+      across = getD n 3 0;
+      down = getD n 4 0;
+      bins = getD n 5 0;
+      min = getD n 6 0;
+      max = getD n 7 0;
+      clip = getD n 8 0;
+      factor = f;
+    }
+
+-- an answer and a record
+abbrev pub keptAs : ℕ → Ten → Kept
+keptAs number t = record { number = number; ten = t }
+
+-- what is kept of prepare's answer: its record, or the made one beside the refusal's number
+abbrev pub keptPrepared : Ten → Prepared → Kept
+keptPrepared t (prepared.Done r foot) = keptAs 0 (flatOf r)
+keptPrepared t (prepared.Refused n) = keptAs n t
+
+-- what is kept of enhance's answer
+abbrev pub keptEnhanced : Ten → Enhanced → Kept
+keptEnhanced t (enhanced.Done foot) = keptAs 0 t
+keptEnhanced t (enhanced.Refused n) = keptAs n t
+
+-- ---- films and draws
+
+-- a row is a film's: its letter is F
+abbrev pub isFilm : List ℕ → Bool
+isFilm row = eqb (getD row 0 0) 70
+
+-- the number in a column that draws alone have, or what stands for it where a film is drawn whole
+unfoldable pub ownOf : List ℕ → ℕ → ℕ → ℕ
+ownOf row place whole = cond (isFilm row) whole (getD row place 0)
+
+-- the window of a row: a film's lies at 0, 0
+unfoldable pub windowOf : List ℕ → Window
+windowOf row =
+    record {
+      left = ownOf row 7 0 % 4294967296;
+      top = ownOf row 8 0 % 4294967296;
+      width = wordOf row 3;
+      height = wordOf row 4;
+    }
+
+-- draw's number, 0 where it accepted
+abbrev pub drawnNumber : Drawn → ℕ
+drawnNumber drawn.Done = 0
+drawnNumber (drawn.Refused n) = n
+
+-- the column of a record's field in a film's row
+unfoldable pub placeOf : ℕ → ℕ
+placeOf field = cond (ltb field 3) (field + 2) (field % 16 + 9)
+
+-- the record handed to draw: the kept one, or the made one with a field changed
+unfoldable pub handedOf : List ℕ → List ℕ → Ten → Ten
+handedOf row drawn t =
+    cond (leb 10 (ownOf drawn 9 10)) t (tenOf (set row (placeOf (ownOf drawn 9 10)) (getD drawn 10 0)))
+
+-- what came of two calls, the second of which rendered
+unfoldable pub joinedOf : ℕ → Shot → Shot
+joinedOf number shot = cond (eqb number 0) shot (record { number = number; digest = 0 })
+
+-- ---- lent memory
+
+-- entry i of a buffer that counts on from base: what is left of first + i * pace by span
+unfoldable pub fillOf : ℕ → ℕ → ℕ → ℕ → ℕ → ℕ
+fillOf base first pace span i = (base + restOf ((i % 4294967296 * (pace % 4294967296) + first) % 2 ^ 64) span) % 2 ^ 64 % 65536
+
+-- entry i of a scratch before a call
+unfoldable pub scratchOf : ℕ → ℕ
+scratchOf i = i % 1000 * 5 % 1000 + 1
