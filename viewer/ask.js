@@ -1,0 +1,107 @@
+'use strict';
+// The way to the worker. At most one request is under way; what is due beside it waits in the page's state, where a newer
+// wish takes an older one's place. So nothing queues up, and the newest setting wins.
+
+const SLOW = 100; // ms until an answer that is not there gets a sign of progress
+const MOST_TIMES = 5000;
+
+const asking = {
+  worker: null,
+  under: null, // the request under way
+  last: 0, // its number
+  timer: 0,
+  sources: [], // functions that give the next request or null, the most urgent first
+  due: new Set(), // numbers that are being typed
+  painting: 0, // answers that are drawn and not yet painted
+};
+
+// From an input event to right behind the paint of the frame that shows its effect, in ms: the frame's callback posts a
+// message, which the browser delivers behind that frame's paint.
+window.tzofnadirTimes = [];
+
+function tellBusy() {
+  const busy = asking.under || asking.due.size > 0 || asking.painting > 0;
+  document.documentElement.dataset.busy = busy ? '1' : '0';
+}
+
+function tellSlow(text) {
+  document.getElementById('progress').classList.toggle('on', text !== '');
+  document.getElementById('progress-text').textContent = text;
+}
+
+function send(request) {
+  asking.under = request;
+  asking.timer = setTimeout(() => tellSlow(request.slow), SLOW);
+  asking.worker.postMessage({...request.message, id: ++asking.last}, request.transfer || []);
+}
+
+// Sends what is due, if nothing is under way.
+function pump() {
+  for (const source of asking.sources) {
+    if (asking.under) break;
+    const request = source();
+    if (request) send(request);
+  }
+  tellBusy();
+}
+
+function answered(answer) {
+  const request = asking.under;
+  if (!request || answer.id !== asking.last) return;
+  clearTimeout(asking.timer);
+  tellSlow('');
+  asking.under = null;
+  try {
+    request.done(answer);
+  } finally {
+    pump(); // whatever happened to this answer, the next wish is not kept waiting
+  }
+}
+
+function behindPaint(then) {
+  requestAnimationFrame(() => {
+    const channel = new MessageChannel();
+    channel.port1.onmessage = then;
+    channel.port2.postMessage(0);
+  });
+}
+
+// marks: [{what, at}], the input events whose effect has just been drawn.
+function keepTimes(marks) {
+  if (marks.length === 0) return;
+  asking.painting++;
+  behindPaint(() => {
+    const now = performance.now();
+    for (const {what, at} of marks) window.tzofnadirTimes.push({what, ms: now - at});
+    if (window.tzofnadirTimes.length > MOST_TIMES) window.tzofnadirTimes.splice(0, MOST_TIMES / 2);
+    asking.painting--;
+    tellBusy();
+  });
+}
+
+function bytesOfBase64(id) {
+  const text = atob(document.getElementById(id).textContent.replace(/\s/g, ''));
+  const bytes = new Uint8Array(text.length);
+  for (let i = 0; i < text.length; i++) bytes[i] = text.charCodeAt(i);
+  return bytes;
+}
+
+// The most memory for all films together, in MiB, where the page is opened with #memory=MIB; else what the browser gives.
+function mostMemory() {
+  const asked = /[#&]memory=(\d+)/.exec(location.hash);
+  return asked ? Number(asked[1]) * 1048576 : Infinity;
+}
+
+function startWorker(version, failed) {
+  const parts = [...document.querySelectorAll('script.worker')].map(part => part.textContent);
+  asking.worker = new Worker(URL.createObjectURL(new Blob(parts, {type: 'text/javascript'})));
+  asking.worker.onmessage = event => answered(event.data);
+  asking.worker.onerror = event => failed(`The page's worker failed: ${event.message}`);
+  const wasm = bytesOfBase64('wasm').buffer;
+  send({
+    message: {kind: 'start', wasm, version, memory: mostMemory()},
+    transfer: [wasm],
+    slow: 'starting',
+    done: answer => { if (answer.fault) failed(`The library could not be started: ${answer.fault}`); },
+  });
+}

@@ -1,0 +1,162 @@
+'use strict';
+// The library's calls on one instance of the module. An instance is one film's: its memory holds that film's pixels, counts
+// and mappings, and nothing of another film's. Pointers and 32-bit numbers are i32, a length (usize) is an i64.
+
+const MOST_SIDE = 4096;
+const MOST_GREY = 4095;
+const LEAST_GRID = 2;
+const MOST_GRID = 16;
+const MOST_BINS = 4096;
+const USUAL_BINS = 128; // what bins 0 means
+const MOST_ENTRIES = MOST_GRID * MOST_GRID * MOST_BINS;
+const MEMORY_PAGE = 65536;
+
+// Where the answers of the calls stand, behind the address of the cells.
+const CELL = {record: 0, factor: 36, limit: 40, asked: 44, used: 48, count: 56, part: 64, sizes: 80, digest: 96};
+const CELL_BYTES = 176;
+
+// Memory that could not be had. It is told for the one film that asked.
+class NoMemory extends Error {
+  constructor() {
+    super('not enough memory for this film; the open films stay');
+    this.name = 'NoMemory';
+  }
+}
+
+// How much memory all films may have together. Infinity leaves it to the browser.
+function makeLedger(most) {
+  let taken = 0;
+  return {
+    take(bytes) {
+      if (taken + bytes > most) throw new NoMemory();
+      taken += bytes;
+    },
+    give(bytes) { taken -= bytes; },
+  };
+}
+
+function instanceOf(module) {
+  try {
+    return new WebAssembly.Instance(module, {}).exports;
+  } catch (fault) {
+    if (fault instanceof WebAssembly.LinkError || fault instanceof TypeError) throw fault;
+    throw new NoMemory();
+  }
+}
+
+// Memory of one instance, lent from the bottom up. The last piece may grow in its place, so nothing is ever moved.
+function makeRoom(exports, ledger) {
+  const memory = exports.memory;
+  let top = exports.__heap_base.value;
+  let taken = 0;
+  function reach(end) {
+    const pages = Math.ceil((end - memory.buffer.byteLength) / MEMORY_PAGE);
+    if (pages <= 0) return;
+    ledger.take(pages * MEMORY_PAGE);
+    taken += pages * MEMORY_PAGE;
+    try {
+      memory.grow(pages);
+    } catch {
+      throw new NoMemory();
+    }
+  }
+  return {
+    lend(bytes) {
+      const at = Math.ceil(top / 16) * 16;
+      reach(at + bytes);
+      top = at + bytes;
+      return at;
+    },
+    // A place behind everything lent, with that many bytes from there on; the next such place is the same one.
+    last(bytes) {
+      const at = Math.ceil(top / 16) * 16;
+      reach(at + bytes);
+      return at;
+    },
+    giveBack() { ledger.give(taken); },
+    u8: (at, count) => new Uint8Array(memory.buffer, at, count),
+    u16: (at, count) => new Uint16Array(memory.buffer, at, count),
+    u32: (at, count) => new Uint32Array(memory.buffer, at, count),
+    view: (at, count) => new DataView(memory.buffer, at, count),
+  };
+}
+
+// The settings in the order in which the calls take them, without and with the clip setting.
+function tilingOf(s) { return [s.across, s.down, s.bins, s.min, s.max]; }
+function settingsOf(s) { return [...tilingOf(s), s.clip, s.factor]; }
+function sizeOf(film) { return [film.width, film.height]; }
+function pictureOf(film) { return [film.picture, BigInt(film.width * film.height)]; }
+
+// The calls on files: read and write.
+function fileCalls(exports, room, cells) {
+  return {
+    readSizes(at, count) {
+      const refusal = exports.tz_read_sizes(at, BigInt(count), cells + CELL.sizes) >>> 0;
+      const [width, height, maxval] = room.u32(cells + CELL.sizes, 3);
+      return {refusal, width, height, maxval};
+    },
+    readRaster(at, count) {
+      const refusal = exports.tz_read_raster(at, BigInt(count), cells + CELL.part) >>> 0;
+      return {refusal, start: room.view(cells + CELL.part, 8).getBigUint64(0, true)};
+    },
+    readGreys(at, count, start, film) {
+      return exports.tz_read_greys(at, BigInt(count), start, film.width, film.height, film.maxval, ...pictureOf(film)) >>> 0;
+    },
+    write(greys, film, at, bytes) {
+      const refusal = exports.tz_write(greys, BigInt(film.width * film.height), film.width, film.height, film.maxval, at,
+        BigInt(bytes), cells + CELL.count) >>> 0;
+      return {refusal, count: Number(room.view(cells + CELL.count, 8).getBigUint64(0, true))};
+    },
+    digest(at, count) {
+      exports.viewer_sha256(at, count, cells + CELL.digest);
+      return String.fromCharCode(...room.u8(cells + CELL.digest, 64));
+    },
+  };
+}
+
+// The calls on films: count, map and draw.
+function filmCalls(exports, room, cells) {
+  return {
+    count(film, s) {
+      return exports.tz_count(...sizeOf(film), ...pictureOf(film), ...tilingOf(s), film.counts, BigInt(MOST_ENTRIES)) >>> 0;
+    },
+    // With no counts lent nothing can be mapped: what the settings meet is given first, and 33 where they are in order.
+    judge(film, s) { return this.map(film, s, 0).refusal; },
+    map(film, s, entries = MOST_ENTRIES) {
+      const refusal = exports.tz_map(film.number, ...sizeOf(film), ...settingsOf(s), film.counts, BigInt(entries),
+        film.map, BigInt(MOST_ENTRIES), film.scratch, BigInt(MOST_BINS), cells + CELL.record, cells + CELL.factor,
+        cells + CELL.limit, cells + CELL.asked, cells + CELL.used) >>> 0;
+      const view = room.view(cells, CELL_BYTES);
+      return {
+        refusal,
+        record: {numbers: room.u32(cells + CELL.record, 9).slice(), factor: view.getFloat32(CELL.factor, true)},
+        footer: {limit: view.getUint32(CELL.limit, true), asked: view.getFloat32(CELL.asked, true),
+          used: view.getFloat64(CELL.used, true)},
+      };
+    },
+    // The settings are those wanted, the record the one that map left: the library compares them (15).
+    draw(film, s, record, w, out) {
+      room.u32(cells + CELL.record, 9).set(record.numbers);
+      return exports.tz_draw(film.number, ...sizeOf(film), ...pictureOf(film), ...settingsOf(s), cells + CELL.record,
+        record.factor, w.left, w.top, w.width, w.height, film.map, BigInt(MOST_ENTRIES), out,
+        BigInt(w.width * w.height)) >>> 0;
+    },
+  };
+}
+
+function makeLibrary(module, ledger) {
+  const exports = instanceOf(module);
+  const room = makeRoom(exports, ledger);
+  const cells = room.lend(CELL_BYTES);
+  return {
+    room,
+    ...fileCalls(exports, room, cells),
+    ...filmCalls(exports, room, cells),
+    // The header's own sentence for a refusal's number.
+    sentence(refusal) {
+      const at = exports.viewer_refusal_text(refusal);
+      const text = room.u8(at, exports.memory.buffer.byteLength - at);
+      return String.fromCharCode(...text.subarray(0, text.indexOf(0)));
+    },
+  };
+}

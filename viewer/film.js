@@ -1,0 +1,183 @@
+'use strict';
+// One film: opened from a file's bytes, settled for settings, drawn, probed and saved. Each film has an instance of the
+// module for itself, and its counts, mappings, record and footer stay with it until it is closed.
+
+// The largest film and 64 KiB for its header, as the command line reads it.
+const MOST_BYTES = 2 * MOST_SIDE * MOST_SIDE + 65536;
+
+// The counts buffer is too short: what mapping says last of settings that are in order.
+const NO_COUNTS = 33;
+
+// What the front of a file settles, whatever stands behind it: told also where the file was not read to its end.
+const SETTLED = [21, 22, 23, 25];
+
+// 20 is settled where the header breaks off before the end of what was read. Where it only ends there, one # more behind it
+// stands in the place of white space or a digit, and the answer is 21.
+function isSettled(film, count, refusal) {
+  if (refusal !== 20) return SETTLED.includes(refusal);
+  film.library.room.u8(film.file + count, 1)[0] = 35;
+  return film.library.readSizes(film.file, count + 1).refusal === 20;
+}
+
+function refused(film, refusal, more) {
+  return {refusal: {number: refusal, sentence: film.library.sentence(refusal), more}};
+}
+
+// Lends what the calls need: the largest settings' room at once, since memory that is not touched costs nothing.
+function lendRoom(film, bytes) {
+  const room = film.library.room;
+  film.counts = room.lend(4 * MOST_ENTRIES);
+  film.map = room.lend(2 * MOST_ENTRIES);
+  film.scratch = room.lend(4 * MOST_BINS);
+  // the written film is at most 18 bytes of header and the samples, which the file has too
+  film.fileRoom = bytes.length + 18;
+  film.file = room.lend(film.fileRoom);
+  room.u8(film.file, bytes.length).set(bytes);
+}
+
+// How often each grey occurs, and the least and the greatest.
+function tallyGreys(film) {
+  const greys = film.library.room.u16(film.picture, film.width * film.height);
+  const histogram = new Uint32Array(film.maxval + 1);
+  for (let i = 0; i < greys.length; i++) histogram[greys[i]]++;
+  film.histogram = histogram;
+  film.least = histogram.findIndex(count => count > 0);
+  film.greatest = film.maxval;
+  while (histogram[film.greatest] === 0) film.greatest--;
+}
+
+function readFilm(film, input) {
+  const library = film.library;
+  const count = input.bytes.length;
+  const sizes = library.readSizes(film.file, count);
+  if (input.cut && !isSettled(film, count, sizes.refusal)) {
+    return {fault: `The file is longer than ${MOST_BYTES} bytes, the largest film and 64 KiB of header: not read further.`};
+  }
+  const raster = sizes.refusal ? sizes : library.readRaster(film.file, count);
+  if (raster.refusal) return refused(film, raster.refusal, moreOfFile(raster.refusal, input));
+  film.width = sizes.width;
+  film.height = sizes.height;
+  film.maxval = sizes.maxval;
+  film.picture = library.room.lend(2 * film.width * film.height);
+  const refusal = library.readGreys(film.file, count, raster.start, film);
+  if (refusal) return refused(film, refusal, moreOfFile(refusal, input));
+  tallyGreys(film);
+  return {};
+}
+
+// input: {name, bytes, cut}. Gives {film}, {refusal} or {fault}; memory that runs out is thrown.
+function openFilm(module, ledger, number, input) {
+  const film = {number, name: input.name, bytes: input.bytes.length, digest: '', countedFor: '', mappedFor: ''};
+  film.library = makeLibrary(module, ledger);
+  try {
+    lendRoom(film, input.bytes);
+    const answer = readFilm(film, input);
+    if (!answer.refusal && !answer.fault) return {film};
+    closeFilm(film);
+    return answer;
+  } catch (fault) {
+    closeFilm(film);
+    throw fault;
+  }
+}
+
+function closeFilm(film) { film.library.room.giveBack(); }
+
+// Makes the film's mappings those of the settings. A new factor alone maps the counts that are there; a refusal leaves
+// counts and mappings as they were, and they stay those of the settings that they were made for.
+function settle(film, s) {
+  const tiling = tilingOf(s).join();
+  const all = settingsOf(s).join();
+  if (film.countedFor !== tiling) {
+    // judged first, so that of several refusals the one is told that prepare and the command line give: 10 before 13
+    const judged = film.library.judge(film, s);
+    const refusal = judged && judged !== NO_COUNTS ? judged : film.library.count(film, s);
+    if (refusal) return refused(film, refusal, moreOfSettings(refusal, film, s));
+    film.countedFor = tiling;
+  }
+  if (film.mappedFor === all) return {};
+  const answer = film.library.map(film, s);
+  if (answer.refusal) return refused(film, answer.refusal, moreOfSettings(answer.refusal, film, s));
+  film.mappedFor = all;
+  film.record = answer.record;
+  film.footer = answer.footer;
+  return {};
+}
+
+// The rendered greys of a window, and where they stand in the film's memory.
+function drawWindow(film, s, w) {
+  const room = film.library.room;
+  const out = room.last(2 * w.width * w.height);
+  const refusal = film.library.draw(film, s, film.record, w, out);
+  if (refusal) return refused(film, refusal, moreOfSettings(refusal, film, s));
+  return {out, greys: room.u16(out, w.width * w.height)};
+}
+
+// Scanned and rendered side of a window as bytes to be painted. place: {left, top, width, height, block}, in film pixels, and
+// whether the scanned side is there already, as it is while settings alone are moved; spare: buffers to write over.
+function picture(film, s, place, display, spare = {}) {
+  const drawn = drawWindow(film, s, place);
+  if (drawn.refusal) return drawn;
+  const table = shadeTable(display);
+  const scan = film.library.room.u16(film.picture, film.width * film.height);
+  const from = place.top * film.width + place.left;
+  return {
+    scanned: place.scannedIsThere ? null : shade(scan, from, film.width, place, table, spare.scanned),
+    rendered: shade(drawn.greys, 0, place.width, place, table, spare.rendered),
+  };
+}
+
+// The tile of a pixel: its number from 0, its place in the grid and its rectangle.
+function tileOf(film, s, x, y) {
+  const width = film.width / s.across;
+  const height = film.height / s.down;
+  const across = Math.floor(x / width);
+  const down = Math.floor(y / height);
+  return {index: down * s.across + across, across, down, left: across * width, top: down * height, width, height};
+}
+
+// What is under the pointer, from the library's own numbers: greys, and the counts and the mapping of the pixel's tile.
+function probe(film, s, at) {
+  const drawn = drawWindow(film, s, {left: at.x, top: at.y, width: 1, height: 1});
+  if (drawn.refusal) return drawn;
+  const room = film.library.room;
+  const bins = s.bins === 0 ? USUAL_BINS : s.bins;
+  const tile = tileOf(film, s, at.x, at.y);
+  const first = tile.index * bins;
+  // at factor 1.0 nothing is mapped, and the map buffer holds what an earlier factor left
+  const unmapped = s.clip && s.factor === 1;
+  return {
+    x: at.x, y: at.y, bins, tile,
+    scanned: room.u16(film.picture + 2 * (at.y * film.width + at.x), 1)[0],
+    rendered: drawn.greys[0],
+    counts: room.u32(film.counts + 4 * first, bins).slice(),
+    mapping: unmapped ? null : room.u16(film.map + 2 * first, bins).slice(),
+    limit: film.footer.limit, min: s.min, max: s.max,
+  };
+}
+
+// The rendered film as a raw PGM file, by the library's own writer.
+function renderedFile(film, s) {
+  const settled = settle(film, s);
+  if (settled.refusal) return settled;
+  const drawn = drawWindow(film, s, {left: 0, top: 0, width: film.width, height: film.height});
+  if (drawn.refusal) return drawn;
+  // the file's own bytes stand where the rendering will be written, so their digest is taken first; it is long work for a large
+  // film, and only what is saved asks for it
+  if (!film.digest) film.digest = film.library.digest(film.file, film.bytes);
+  const written = film.library.write(drawn.out, film, film.file, film.fileRoom);
+  if (written.refusal) return refused(film, written.refusal, moreOfRendering(film, s));
+  return {at: film.file, count: written.count};
+}
+
+function saveFilm(film, s) {
+  const file = renderedFile(film, s);
+  return file.refusal ? file : {bytes: film.library.room.u8(file.at, file.count).slice().buffer};
+}
+
+function saveRecord(film, s, version, outName) {
+  const file = renderedFile(film, s);
+  if (file.refusal) return file;
+  const output = {name: outName, digest: film.library.digest(file.at, file.count), bytes: file.count};
+  return {text: recordText(version, film, output, s, film.footer)};
+}

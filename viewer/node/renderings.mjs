@@ -1,0 +1,139 @@
+// Films that the library in WebAssembly renders, against those that the command line writes.
+import { execFileSync } from 'node:child_process';
+import { readFileSync, writeFileSync } from 'node:fs';
+import { Library, done } from './library.mjs';
+
+const NUMBER = 7, OTHER = 8;
+const SETTINGS = [
+  { words: [], s: { across: 8, down: 8, bins: 1024, clip: 1, factor: 3 } },
+  { words: ['--grid', '16x2', '--bins', '128', '--clip', '1.25'], s: { across: 16, down: 2, bins: 128, clip: 1, factor: 1.25 } },
+  { words: ['--grid', '2x16', '--bins', '4096', '--clip', 'off'], s: { across: 2, down: 16, bins: 4096, clip: 0, factor: 0 } },
+  { words: ['--grid', '4x3', '--bins', '1000', '--clip', '1.0'], s: { across: 4, down: 3, bins: 1000, clip: 1, factor: 1 } },
+  { words: ['--bins', '2', '--clip', '1024'], s: { across: 8, down: 8, bins: 2, clip: 1, factor: 1024 } },
+];
+const BYTES = { across: 8, down: 8, bins: 256, clip: 1, factor: 3 };
+
+/** What `tzofnadir enhance` writes of a film, and its record. */
+function commandLine(room, film, words) {
+  const out = `${room}/out.pgm`, record = `${room}/out.json`;
+  execFileSync('target/station/tzofnadir', ['enhance', film, out, '--quiet', '--record', record, ...words]);
+  return { file: readFileSync(out), record: JSON.parse(readFileSync(record, 'utf8')) };
+}
+
+/** What the library left has to be what the command line wrote. */
+function same(library, film, picture, wanted) {
+  const file = library.write(film, picture), footer = library.footer(), { record } = wanted;
+  if (!file.equals(wanted.file)) throw new Error('another PGM than the command line writes');
+  if (footer.limit !== record.limit || footer.asked !== Math.fround(record.factor_asked) || footer.used !== record.factor_used)
+    throw new Error(`footer ${JSON.stringify(footer)}, and the record has L ${record.limit}`);
+  return `${file.length} bytes, L ${footer.limit}, factor used ${footer.used}`;
+}
+
+/** All windows of `wide` by `high` or what is left of them, drawn and put together. */
+function drawnInParts(library, film, s, wide, high) {
+  const whole = library.lend(film.width * film.height, 2), out = library.lend(wide * high, 2);
+  for (let top = 0; top < film.height; top += high)
+    for (let left = 0; left < film.width; left += wide) {
+      const window = { left, top, width: Math.min(wide, film.width - left), height: Math.min(high, film.height - top) };
+      const part = { ...out, length: window.width * window.height };
+      done(library.draw(film, NUMBER, s, window, part));
+      paste(library, whole, film.width, window, part);
+    }
+  return whole;
+}
+
+/** Puts a window's greys where they stand in the whole picture. */
+function paste(library, whole, stride, window, part) {
+  const to = library.bytes(whole), from = library.bytes(part), row = 2 * window.width;
+  for (let y = 0; y < window.height; y++)
+    to.set(from.subarray(y * row, (y + 1) * row), 2 * ((window.top + y) * stride + window.left));
+}
+
+function copied(library, buffer) {
+  const copy = library.lend(buffer.length, buffer.size);
+  library.bytes(copy).set(library.bytes(buffer));
+  return copy;
+}
+
+/** A film's three ways: prepare and draw, count and map and draw in parts, enhance. */
+function ways(library, film, s, wanted, trial, what) {
+  const whole = { left: 0, top: 0, width: film.width, height: film.height }, out = library.lend(film.picture.length, 2);
+  trial(`${what}: prepare, draw`, () => {
+    done(library.prepare(film, NUMBER, s));
+    done(library.draw(film, NUMBER, s, whole, out));
+    return same(library, film, out, wanted);
+  });
+  trial(`${what}: count, map, draw in windows`, () => {
+    done(library.count(film, s));
+    done(library.mapped(film, NUMBER, s));
+    return same(library, film, drawnInParts(library, film, s, 101, 67), wanted);
+  });
+  trial(`${what}: enhance`, () => {
+    const picture = copied(library, film.picture);
+    done(library.enhance(film, picture, s));
+    return same(library, film, picture, wanted);
+  });
+}
+
+/** The same film as bytes, and back. */
+function narrowed(library, buffer) {
+  const bytes = library.lend(buffer.length, 1), from = library.bytes(buffer);
+  library.bytes(bytes).forEach((_, i, all) => { all[i] = from[2 * i]; });
+  return bytes;
+}
+function widened(library, bytes) {
+  const wide = library.lend(bytes.length, 2), to = library.bytes(wide);
+  library.bytes(bytes).forEach((grey, i) => { to[2 * i] = grey; to[2 * i + 1] = 0; });
+  return wide;
+}
+
+function byteWays(library, film, s, wanted, trial) {
+  const bytes = { ...film, picture: narrowed(library, film.picture) };
+  const whole = { left: 0, top: 0, width: film.width, height: film.height };
+  trial('8 bits by bytes: prepare, draw', () => {
+    const out = library.lend(bytes.picture.length, 1);
+    done(library.prepare(bytes, NUMBER, s, '_bytes'));
+    done(library.draw(bytes, NUMBER, s, whole, out, '_bytes'));
+    return same(library, film, widened(library, out), wanted);
+  });
+  trial('8 bits by bytes: enhance', () => {
+    const picture = copied(library, bytes.picture);
+    done(library.enhance(bytes, picture, s, '_bytes'));
+    return same(library, film, widened(library, picture), wanted);
+  });
+}
+
+/** A window is not drawn with another film's record, and what was lent is as it was. */
+function refused(library, film, s) {
+  const out = library.lend(film.picture.length, 2), whole = { left: 0, top: 0, width: film.width, height: film.height };
+  done(library.prepare(film, NUMBER, s));
+  library.bytes(out).fill(0xa5);
+  const refusal = library.draw(film, OTHER, s, whole, out);
+  if (refusal !== 15) throw new Error(`refusal ${refusal}`);
+  if (library.bytes(out).some(byte => byte !== 0xa5)) throw new Error('the output was written to');
+  return `refused with ${refusal}, and the output is as it was`;
+}
+
+/** The sample film with 8 bits: its greys divided by 16. */
+function eightBits(file) {
+  const head = 'P5\n512 384\n4095\n', raster = file.subarray(head.length);
+  if (file.subarray(0, head.length).toString() !== head) throw new Error('docs/weld.pgm has another header');
+  const greys = Buffer.alloc(raster.length / 2);
+  for (let i = 0; i < greys.length; i++) greys[i] = raster.readUInt16BE(2 * i) >> 4;
+  return Buffer.concat([Buffer.from('P5\n512 384\n255\n'), greys]);
+}
+
+export function renderings(wasm, room, trial) {
+  const sample = readFileSync('docs/weld.pgm'), small = `${room}/small.pgm`;
+  for (const { words, s } of SETTINGS) {
+    const library = new Library(wasm), film = library.read(sample);
+    const what = `docs/weld.pgm ${words.join(' ') || 'as README renders it'}`;
+    ways(library, film, { ...s, min: 0, max: film.maxval }, commandLine(room, 'docs/weld.pgm', words), trial, what);
+  }
+  const library = new Library(wasm);
+  trial('another film\'s record', () => refused(library, library.read(sample), { ...SETTINGS[0].s, min: 0, max: 4095 }));
+  writeFileSync(small, eightBits(sample));
+  const film = library.read(readFileSync(small)), s = { ...BYTES, min: 0, max: 255 };
+  ways(library, film, s, commandLine(room, small, []), trial, '8 bits');
+  byteWays(library, film, s, commandLine(room, small, ['--bytes']), trial);
+}

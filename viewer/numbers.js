@@ -1,0 +1,101 @@
+'use strict';
+// Numbers as they are typed and chosen. What a number may be is for the library to say; here it is only read.
+
+const MOST_WHOLE = 4294967295;
+const MOST_CHOSEN_BINS = 1024;
+
+// Digits only, and within 32 bits; else null.
+function wholeOf(text) {
+  const word = text.trim();
+  return /^[0-9]+$/.test(word) && Number(word) <= MOST_WHOLE ? Number(word) : null;
+}
+
+// The 32-bit floats on both sides of a number above 0 that is none itself.
+function floatsAround(x) {
+  const cell = new DataView(new ArrayBuffer(4));
+  cell.setFloat32(0, x);
+  const near = cell.getFloat32(0);
+  cell.setInt32(0, cell.getInt32(0) + (near < x ? 1 : -1));
+  const other = cell.getFloat32(0);
+  return near < x ? [near, other] : [other, near];
+}
+
+// A decimal word against the 64-bit number that it was read as: -1, 0 or 1.
+function wordAgainst(word, x) {
+  const [, whole, part = '', power = '0'] = /^\+?(\d*)\.?(\d*)(?:e([+-]?\d+))?$/i.exec(word);
+  const shift = Number(power) - part.length;
+  const exact = exactOf(x);
+  let left = BigInt(whole + part);
+  let right = exact.whole;
+  if (shift >= 0) left *= 10n ** BigInt(shift);
+  else right *= 10n ** BigInt(-shift);
+  if (exact.power >= 0) right <<= BigInt(exact.power);
+  else left <<= BigInt(-exact.power);
+  return left < right ? -1 : Number(left > right);
+}
+
+// A factor as C's strtof reads it, rounded once from the decimal word to 32 bits; null where the word is no number. By way
+// of 64 bits alone a word close to the middle of two floats would be rounded twice.
+function factorOf(text) {
+  const word = text.trim();
+  if (/^[+-]?nan$/i.test(word)) return NaN;
+  if (/^[+-]?inf(inity)?$/i.test(word)) return word[0] === '-' ? -Infinity : Infinity;
+  if (!/^[+-]?(\d+\.?\d*|\.\d+)(e[+-]?\d+)?$/i.test(word)) return null;
+  const x = Number(word);
+  const near = Math.fround(x);
+  if (!(x > 0) || !Number.isFinite(near) || near === x) return near;
+  const [low, high] = floatsAround(x);
+  if (x - low !== high - x) return near;
+  const side = wordAgainst(word, x);
+  return side === 0 ? near : side < 0 ? low : high;
+}
+
+// As the command line chooses: a bin for each grey of the range, up to a number that keeps the mappings small. A range that
+// will be refused has no greys to go by.
+function chosenBins(min, max) {
+  const more = max > min ? max - min : 127;
+  return more < MOST_CHOSEN_BINS ? more + 1 : MOST_CHOSEN_BINS;
+}
+
+// The grid nearest to the one wished among those that fit, the smaller of two; the one wished where none fits, for the
+// library to refuse.
+function nearestGrid(wished, fits) {
+  return fits.reduce((best, grid) => Math.abs(grid - wished) < Math.abs(best - wished) ? grid : best, fits[0] || wished);
+}
+
+// ---- sliders whose scale is not even: each step is a number of a list, so that every step moves ----
+
+// 1 to 64, finer near one: from, up to, by.
+const FACTOR_PARTS = [[1, 2, 0.01], [2, 4, 0.02], [4, 8, 0.05], [8, 16, 0.1], [16, 32, 0.25], [32, 64, 0.5]];
+
+function factorSteps() {
+  const steps = [1];
+  for (const [from, to, by] of FACTOR_PARTS) {
+    const count = Math.round((to - from) / by);
+    for (let i = 1; i <= count; i++) steps.push(Math.round((from + i * by) * 100) / 100);
+  }
+  return steps;
+}
+
+const FACTORS = factorSteps();
+
+// 2 to the most that the range takes, eight to a doubling.
+function binSteps(most) {
+  const steps = new Set();
+  for (let k = 8; 2 ** (k / 8) < most; k++) steps.add(Math.round(2 ** (k / 8)));
+  steps.add(most);
+  return [...steps];
+}
+
+function nearestStep(list, value) {
+  let best = 0;
+  for (let i = 1; i < list.length; i++) if (Math.abs(list[i] - value) < Math.abs(list[best] - value)) best = i;
+  return best;
+}
+
+// ---- how numbers are shown ----
+
+// A factor in at most five digits behind the point; all its digits stand in the record.
+function shownFactor(x) { return Number.isFinite(x) ? String(Math.round(x * 1e5) / 1e5) : String(x); }
+
+function baseName(name) { return name.replace(/\.pgm$/i, ''); }

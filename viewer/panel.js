@@ -1,0 +1,394 @@
+'use strict';
+// The panel: settings of the rendering, the display, and the readings. Boxes hand any number to the library as it is typed;
+// sliders stay within what it takes.
+
+const KEY_STEPS = 5;
+const TYPING = 400; // ms without a key until a typed number is taken; Enter takes it at once
+const SETTINGS = ['across', 'down', 'bins', 'min', 'max', 'factor'];
+const DISPLAY = ['level', 'width'];
+const NAMES = {across: 'Grid across', down: 'Grid down', bins: 'Bins', min: 'Min', max: 'Max', factor: 'Factor',
+  level: 'Level', width: 'Window'};
+
+const typing = new Map(); // timers of boxes that are being typed into
+
+// ---- what the film starts with ----
+
+function startSettings(film) {
+  const across = nearestGrid(8, film.fits.across);
+  const down = nearestGrid(8, film.fits.down);
+  film.settings = {across, down, bins: chosenBins(0, film.maxval), min: 0, max: film.maxval, clip: 1, factor: 3};
+  film.binsChosen = true;
+  film.notes = [];
+  if (across !== 8) film.notes.push(`8 tiles across do not divide ${film.width} pixels: ${across} taken.`);
+  if (down !== 8) film.notes.push(`8 tiles down do not divide ${film.height} pixels: ${down} taken.`);
+  film.view = {zoom: ONE_TO_ONE, x: film.width / 2, y: film.height / 2, fit: true, fresh: true};
+  film.display = wholeDisplay(film);
+}
+
+function wholeDisplay(film) { return {level: Math.floor((film.maxval + 1) / 2), width: film.maxval + 1, invert: false}; }
+
+// The rendering may reach above the file's maxval where the range does.
+function mostLevel(film) { return Math.max(film.maxval, Math.min(4095, film.settings.max)); }
+
+// ---- a setting changes ----
+
+function change(id, value, event) {
+  const film = state.film;
+  if (!film || !film.ready) return;
+  if (DISPLAY.includes(id)) {
+    film.display[id] = id === 'width' ? Math.max(1, value) : value;
+  } else {
+    film.settings[id] = value;
+    if (id === 'factor') film.settings.clip = 1; // who sets a factor wants it to count
+    if (id === 'bins') film.binsChosen = false;
+    chooseBins(film);
+  }
+  element(id).removeAttribute('aria-invalid');
+  want('draw', id === 'factor' ? 'factor' : DISPLAY.includes(id) ? 'display' : 'settings', event);
+  fillPanel();
+}
+
+function chooseBins(film) {
+  if (film.binsChosen) film.settings.bins = chosenBins(film.settings.min, film.settings.max);
+}
+
+function changeRange(min, max, event) {
+  const film = state.film;
+  film.settings.min = min;
+  film.settings.max = max;
+  chooseBins(film);
+  want('draw', 'settings', event);
+  fillPanel();
+}
+
+function changeClip(on, event) {
+  if (!state.film || !state.film.ready) return;
+  state.film.settings.clip = on ? 1 : 0;
+  want('draw', 'factor', event);
+  fillPanel();
+}
+
+// By the keys: some steps of the slider down or up.
+function stepFactor(way, event) {
+  const film = state.film;
+  if (!film || !film.ready) return;
+  const step = nearestStep(FACTORS, film.settings.factor) + way * KEY_STEPS;
+  change('factor', FACTORS[Math.max(0, Math.min(FACTORS.length - 1, step))], event);
+}
+
+// ---- the display ----
+
+function resetDisplay(event) {
+  if (!state.film || !state.film.ready) return;
+  state.film.display = wholeDisplay(state.film);
+  want('draw', 'display', event);
+  fillPanel();
+}
+
+function setInvert(on, event) {
+  if (!state.film || !state.film.ready) return;
+  state.film.display.invert = on;
+  want('draw', 'display', event);
+  fillPanel();
+}
+
+// By dragging: up is brighter, right is wider.
+function moveDisplay(x, y, event) {
+  const film = state.film;
+  const most = mostLevel(film);
+  const grain = Math.max(1, Math.round(most / 512));
+  film.display.level = Math.max(0, Math.min(most, film.display.level + y * grain));
+  film.display.width = Math.max(1, Math.min(most + 1, film.display.width + x * grain));
+  want('draw', 'display', event);
+  fillPanel();
+}
+
+// ---- boxes ----
+
+function readBox(id) { return id === 'factor' ? factorOf(element(id).value) : wholeOf(element(id).value); }
+
+// What is typed is taken now, or not at all.
+function stopTyping(id) {
+  clearTimeout(typing.get(id));
+  typing.delete(id);
+  asking.due.delete(id);
+}
+
+function takeBox(id, event) {
+  stopTyping(id);
+  const film = state.film;
+  if (!film || !film.ready) return tellBusy();
+  const value = readBox(id);
+  const held = DISPLAY.includes(id) ? film.display[id] : film.settings[id];
+  if (value !== null) element(id).removeAttribute('aria-invalid');
+  if (value === null) tellTyped(id, held);
+  else if (!Object.is(value, held) || rests(id, film)) change(id, value, event);
+  else fillPanel();
+  tellBusy();
+}
+
+// Leaves a box as it was.
+function dropTyped(id) {
+  stopTyping(id);
+  element(id).removeAttribute('aria-invalid');
+  fillPanel();
+  tellBusy();
+}
+
+// A number that does not count now counts again when it is given once more.
+function rests(id, film) { return (id === 'bins' && film.binsChosen) || (id === 'factor' && film.settings.clip === 0); }
+
+// Text that is no number never reaches the library; what was asked before goes on to count, and that is said.
+function tellTyped(id, held) {
+  const kind = id === 'factor' ? 'no number' : 'no whole number from 0 to 4294967295';
+  element(id).setAttribute('aria-invalid', 'true');
+  element('typed-note').textContent =
+    `${NAMES[id]}: “${element(id).value}” is ${kind}. ${shownNumber(id, held)} still counts.`;
+  element('typed-note').hidden = false;
+}
+
+function typed(id, event) {
+  clearTimeout(typing.get(id));
+  asking.due.add(id);
+  typing.set(id, setTimeout(() => takeBox(id, event), TYPING));
+  tellBusy();
+}
+
+function boxKey(id, event) {
+  if (event.key === 'Enter') takeBox(id, event);
+  const way = {ArrowUp: 1, ArrowDown: -1}[event.key];
+  if (!way) return;
+  event.preventDefault();
+  const value = readBox(id);
+  if (value === null) return;
+  stopTyping(id);
+  if (id === 'factor') stepFactor(way, event);
+  else change(id, Math.max(0, Math.min(MOST_WHOLE, value + way)), event);
+  tellBusy();
+}
+
+function shownNumber(id, value) { return id === 'factor' ? shownFactorBox(value) : String(value); }
+
+// The fewest digits that stand for the same 32-bit float.
+function shownFactorBox(factor) {
+  for (let digits = 1; digits <= 9; digits++) {
+    const text = String(Number(factor.toPrecision(digits)));
+    if (Math.fround(Number(text)) === Math.fround(factor)) return text;
+  }
+  return String(factor);
+}
+
+// ---- sliders ----
+
+function mostBins(film) {
+  const greys = film.settings.max - film.settings.min + 1;
+  return Math.max(2, Math.min(4096, greys));
+}
+
+function slid(id, event) {
+  const film = state.film;
+  if (!film || !film.ready) return;
+  const step = Number(element(`${id}-slider`).value);
+  const ways = {
+    across: () => film.fits.across[step],
+    down: () => film.fits.down[step],
+    bins: () => binSteps(mostBins(film))[step],
+    factor: () => FACTORS[step],
+  };
+  change(id, ways[id] ? ways[id]() : step, event);
+}
+
+function setSlider(id, min, max, value) {
+  const slider = element(`${id}-slider`);
+  slider.min = min;
+  slider.max = max;
+  slider.value = value;
+}
+
+// ---- the ends of the range ----
+
+// What each end may be without a refusal: all pixels inside, and as many greys as bins where these were set by hand.
+function endLimits(film) {
+  const {min, max, bins} = film.settings;
+  const apart = film.binsChosen ? 1 : Math.max(1, (bins || 128) - 1);
+  return {
+    min: {from: 0, to: Math.max(0, Math.min(film.least, max - apart))},
+    max: {from: Math.min(film.maxval, Math.max(film.greatest, min + apart)), to: film.maxval},
+  };
+}
+
+function moveEnd(id, grey, event) {
+  const film = state.film;
+  if (!film || !film.ready) return;
+  const {from, to} = endLimits(film)[id];
+  const held = Math.max(from, Math.min(to, Math.round(grey)));
+  if (held !== film.settings[id]) change(id, held, event);
+}
+
+function endDragged(id, event) {
+  if (!state.film || !state.film.ready || event.buttons !== 1) return;
+  const box = element('histogram').getBoundingClientRect();
+  moveEnd(id, (event.clientX - box.left) / (box.width - 1) * mostLevel(state.film), event);
+}
+
+function endKey(id, event) {
+  const steps = {ArrowLeft: -1, ArrowDown: -1, ArrowRight: 1, ArrowUp: 1, PageDown: -64, PageUp: 64, Home: -4096, End: 4096};
+  const step = steps[event.key];
+  if (!step || !state.film || !state.film.ready) return;
+  event.preventDefault();
+  event.stopPropagation();
+  moveEnd(id, state.film.settings[id] + step * (event.shiftKey ? 16 : 1), event);
+}
+
+function wireEnd(id, handle) {
+  const end = element(handle);
+  end.addEventListener('pointerdown', event => end.setPointerCapture(event.pointerId));
+  end.addEventListener('pointermove', event => endDragged(id, event));
+  end.addEventListener('keydown', event => endKey(id, event));
+}
+
+// ---- filling the panel ----
+
+function fillPanel() {
+  const film = state.film;
+  const ready = Boolean(film && film.ready);
+  for (const part of document.querySelectorAll('#settings-part, #display-part')) {
+    for (const control of part.querySelectorAll('input, button')) control.disabled = !ready;
+  }
+  fillHead(film);
+  if (!ready) return emptyPanel();
+  fillBoxes(film);
+  fillSliders(film);
+  fillEnds(film);
+  drawHistogram(film);
+}
+
+function emptyPanel() {
+  for (const id of [...SETTINGS, ...DISPLAY]) element(id).value = '';
+  for (const id of ['film-size', 'film-greys', 'bins-note', 'display-note']) element(id).textContent = '';
+  for (const id of ['range-low', 'range-high']) element(id).style.display = 'none';
+  element('typed-note').hidden = true;
+  drawHistogram(null);
+}
+
+function notesOf(film) {
+  return film.settings.max <= film.maxval ? film.notes
+    : [...film.notes, `Max is above the file's maxval: a rendering that goes above ${film.maxval} is not written.`];
+}
+
+function fillHead(film) {
+  element('film-name').textContent = film ? film.name : 'no film';
+  element('film-name').title = film ? film.name : '';
+  element('film-number').textContent = film ? `film ${film.number}` : '';
+  element('film-note').textContent = film && film.ready ? notesOf(film).join(' ') : '';
+  element('film-note').hidden = element('film-note').textContent === '';
+  if (!film || !film.ready) return;
+  element('film-size').textContent = `${film.width} × ${film.height}, maxval ${film.maxval},`;
+  element('film-greys').textContent = `greys ${film.least} to ${film.greatest}`;
+}
+
+// A box that is being typed into, or holds text that is no number, keeps its text.
+function fillBoxes(film) {
+  const {settings, display} = film;
+  for (const id of [...SETTINGS, ...DISPLAY]) {
+    const box = element(id);
+    if (typing.has(id) || box.getAttribute('aria-invalid') === 'true') continue;
+    box.value = shownNumber(id, id in settings ? settings[id] : display[id]);
+  }
+  if (!document.querySelector('.box[aria-invalid="true"]')) element('typed-note').hidden = true;
+  element('bins-chosen').checked = film.binsChosen;
+  element('bins-note').textContent = film.binsChosen ? `bins chosen by the range ${settings.min} to ${settings.max}`
+    : 'let the range choose the bins';
+  element('clip').checked = settings.clip === 1;
+  for (const id of ['factor', 'factor-slider']) element(id).classList.toggle('idle', settings.clip === 0);
+  element('invert').checked = display.invert;
+  const low = display.level - Math.floor(display.width / 2);
+  const [dark, light] = display.invert ? ['white', 'black'] : ['black', 'white'];
+  element('display-note').textContent = `${dark} ${low}, ${light} ${low + display.width - 1}`;
+}
+
+function fillSliders(film) {
+  const {settings, display, fits} = film;
+  const most = mostLevel(film);
+  for (const id of ['across', 'down']) {
+    setSlider(id, 0, Math.max(0, fits[id].length - 1), fits[id].indexOf(nearestGrid(settings[id], fits[id])));
+    element(`${id}-slider`).disabled = fits[id].length === 0;
+    element(`${id}-slider`).setAttribute('aria-valuetext', `${settings[id]} tiles`);
+  }
+  const bins = binSteps(mostBins(film));
+  setSlider('bins', 0, bins.length - 1, nearestStep(bins, settings.bins || 128));
+  element('bins-slider').setAttribute('aria-valuetext', `${settings.bins} bins`);
+  setSlider('factor', 0, FACTORS.length - 1, nearestStep(FACTORS, settings.factor));
+  element('factor-slider').setAttribute('aria-valuetext', settings.clip ? `factor ${settings.factor}` : 'clip off');
+  setSlider('level', 0, most, display.level);
+  setSlider('width', 1, most + 1, display.width);
+}
+
+function fillEnds(film) {
+  const width = element('histogram').clientWidth;
+  for (const [id, handle] of [['min', 'range-low'], ['max', 'range-high']]) {
+    const end = element(handle);
+    const limits = endLimits(film)[id];
+    end.style.display = 'block';
+    end.style.left = `${greyToX(film, film.settings[id], width)}px`;
+    end.setAttribute('aria-valuemin', limits.from);
+    end.setAttribute('aria-valuemax', limits.to);
+    end.setAttribute('aria-valuenow', film.settings[id]);
+  }
+}
+
+// ---- footer and readings ----
+
+function fillFooter(footer, settings) {
+  const texts = footer ? [String(footer.limit), shownFactor(footer.asked), shownFactor(footer.used)] : ['', '', ''];
+  ['limit', 'asked', 'used'].forEach((id, i) => setText(`footer-${id}`, texts[i]));
+  element('footer-asked').title = footer ? printG(footer.asked, 9) : '';
+  element('footer-used').title = footer ? printG(footer.used, 17) : '';
+  setText('footer-note', !footer ? ''
+    : !settings.clip ? 'clip off: contrast is raised without a limit'
+      : footer.asked === 1 ? 'factor 1.0: the film unchanged'
+        : footer.used > footer.asked ? 'used is above asked: no lower limit holds a tile\'s pixels' : '');
+}
+
+function fillReading(probe) {
+  state.tile = probe ? probe.tile : null;
+  for (const [id, key] of [['at-column', 'x'], ['at-row', 'y'], ['at-scanned', 'scanned'], ['at-rendered', 'rendered']]) {
+    setText(id, probe ? String(probe[key]) : '–');
+  }
+  const tile = state.tile;
+  setText('at-tile', tile ? `${tile.across + 1} across, ${tile.down + 1} down` : '–');
+  setText('at-rectangle', tile ? `columns ${tile.left} to ${tile.left + tile.width - 1}, ` +
+    `rows ${tile.top} to ${tile.top + tile.height - 1}` : '');
+  setText('tile-note', probe && !probe.mapping ? 'factor 1.0: nothing is mapped' : '');
+  drawTilePlot(probe);
+  placeMarks();
+}
+
+// ---- wiring ----
+
+function wirePanel() {
+  for (const id of [...SETTINGS, ...DISPLAY]) {
+    element(id).addEventListener('input', event => typed(id, event));
+    element(id).addEventListener('change', event => takeBox(id, event));
+    element(id).addEventListener('keydown', event => boxKey(id, event));
+    const slider = element(`${id}-slider`);
+    if (slider) slider.addEventListener('input', event => slid(id, event));
+  }
+  element('bins-chosen').onchange = event => {
+    state.film.binsChosen = event.target.checked;
+    chooseBins(state.film);
+    want('draw', 'settings', event);
+    fillPanel();
+  };
+  element('clip').onchange = event => changeClip(event.target.checked, event);
+  element('range-all').onclick = event => changeRange(0, state.film.maxval, event);
+  element('range-film').onclick = event => {
+    const {least, greatest, maxval} = state.film;
+    changeRange(least < greatest ? least : 0, least < greatest ? greatest : maxval, event);
+  };
+  element('invert').onchange = event => setInvert(event.target.checked, event);
+  element('display-reset').onclick = resetDisplay;
+  element('tile-shown').onchange = event => { state.tileShown = event.target.checked; placeMarks(); };
+  wireEnd('min', 'range-low');
+  wireEnd('max', 'range-high');
+}

@@ -1,0 +1,233 @@
+'use strict';
+// What is told behind a refusal's sentence: this film's numbers and, where there is one, the way out. The same numbers as the
+// command line's messages have (station/refuse.c), in the words of the page. Messages alone hang on what is read here.
+
+function isWhite(byte) { return byte === 32 || byte === 9 || byte === 13 || byte === 10; }
+function isDigit(byte) { return byte >= 48 && byte <= 57; }
+
+// Behind white space and comments.
+function behindGap(bytes, at) {
+  while (at < bytes.length && (isWhite(bytes[at]) || bytes[at] === 35)) {
+    if (bytes[at] === 35) while (at + 1 < bytes.length && bytes[at + 1] !== 10) at++;
+    at++;
+  }
+  return at;
+}
+
+// A number of up to nine digits at a place, and the place behind it.
+function numberAt(bytes, from) {
+  let to = from;
+  let value = 0;
+  while (to < bytes.length && to < from + 9 && isDigit(bytes[to])) value = value * 10 + bytes[to++] - 48;
+  return {value, to};
+}
+
+// What a header says, as far as it can be read.
+function frontOf(bytes) {
+  const front = {numbers: [], raster: 2, bytes: 0};
+  while (front.numbers.length < 3) {
+    const from = behindGap(bytes, front.raster);
+    const {value, to} = numberAt(bytes, from);
+    front.raster = to;
+    if (to === from) break;
+    front.numbers.push(value);
+  }
+  [front.width, front.height, front.maxval] = front.numbers;
+  front.whole = front.numbers.length === 3;
+  if (!front.whole) return front;
+  front.raster = Math.min(front.raster + 1, bytes.length);
+  front.wide = front.maxval < 256 ? 1 : 2;
+  front.bytes = front.width * front.height * front.wide;
+  return front;
+}
+
+// The samples that are there, of those that should be: the greatest, and the first above maxval.
+function samplesOf(bytes, front) {
+  const count = Math.floor(Math.min(bytes.length - front.raster, front.bytes) / front.wide);
+  const found = {greatest: 0, above: -1, value: 0};
+  for (let i = 0; i < count; i++) {
+    const at = front.raster + i * front.wide;
+    const sample = front.wide === 1 ? bytes[at] : bytes[at] * 256 + bytes[at + 1];
+    if (sample > found.greatest) found.greatest = sample;
+    if (sample > front.maxval && found.above < 0) {
+      found.above = i;
+      found.value = sample;
+    }
+  }
+  return found;
+}
+
+// ---- the file ----
+
+// Files that are often handed in for a raw PGM, by their first bytes; the ways are Netpbm's.
+const KINDS = [
+  ['P2', 'a plain PGM (P2), its numbers in text', 'pgmtopgm FILE'],
+  ['P1', 'a plain bitmap (P1), black and white alone', 'pgmtopgm FILE'],
+  ['P4', 'a bitmap (P4), black and white alone', 'pgmtopgm FILE'],
+  ['P3', 'a plain PPM (P3), in colour', 'ppmtopgm FILE'],
+  ['P6', 'a PPM (P6), in colour', 'ppmtopgm FILE'],
+  ['P7', 'a PAM (P7)', 'pamtopnm FILE'],
+  ['\x89PNG', 'a PNG', 'pngtopam FILE | ppmtopgm | pamdepth 4095'],
+  ['II*\0', 'a TIFF', 'tifftopnm FILE | ppmtopgm | pamdepth 4095'],
+  ['MM\0*', 'a TIFF', 'tifftopnm FILE | ppmtopgm | pamdepth 4095'],
+  ['\xff\xd8\xff', 'a JPEG', 'jpegtopnm FILE | ppmtopgm'],
+  ['\x1f\x8b', 'packed by gzip', 'gunzip <FILE'],
+];
+
+// The name where a shell takes it as it stands; else a word in its place.
+function shellName(name) { return /^[\w.\/+,][\w.\/+,-]*$/.test(name) ? name : 'IN.pgm'; }
+
+function begins(bytes, text, at = 0) {
+  return bytes.length >= at + text.length && [...text].every((c, i) => bytes[at + i] === c.charCodeAt(0));
+}
+
+function wayByHeader(input, front, maxval) {
+  return `A new header alone does it: { printf 'P5\\n${front.width} ${front.height}\\n${maxval}\\n'; ` +
+    `tail -c ${front.bytes} ${shellName(input.name)}; } >NEW.pgm`;
+}
+
+function moreOfHeader(input) {
+  const {bytes, name} = input;
+  const kind = KINDS.find(([text]) => begins(bytes, text));
+  if (kind) return [`It is ${kind[1]}. A raw PGM is made of it by: ${kind[2].replace('FILE', shellName(name))} >NEW.pgm`];
+  if (bytes.length === 0) return ['It is empty.'];
+  if (begins(bytes, 'DICM', 128)) return ['It is a DICOM file: have the program that made it export the film as PGM.'];
+  if (!begins(bytes, 'P5')) return [`It begins with byte ${bytes[0]} where P, 80, stands in a PGM.`];
+  const front = frontOf(bytes);
+  const end = front.raster >= bytes.length ? 'ends' : 'breaks off';
+  return [
+    `It begins with P5, and behind ${front.numbers.length} of its three numbers the header ${end}, at byte ${front.raster}.`,
+    'Due are width, height and maxval, of up to five digits, each behind white space, and one white space byte.',
+  ];
+}
+
+function moreOfComment(input, front) {
+  const lines = [`Netpbm's tools write none: pgmtopgm ${shellName(input.name)} >NEW.pgm`];
+  const maxval = Math.min(front.maxval, MOST_GREY);
+  if (front.whole && maxval > 0 && input.bytes.length - front.raster === front.bytes &&
+      samplesOf(input.bytes, front).greatest <= maxval) {
+    lines.push(wayByHeader(input, front, maxval));
+  }
+  return lines;
+}
+
+function moreOfSize(input, front) {
+  if (front.numbers.length < 2) return [];
+  const {width, height} = front;
+  const lines = [`The header says ${width} by ${height} pixels; sides of 1 to ${MOST_SIDE} are taken.`];
+  if (width > MOST_SIDE || height > MOST_SIDE) {
+    lines.push(`Netpbm cuts out a part: pamcut -left=0 -top=0 -width=${Math.min(width, MOST_SIDE)} ` +
+      `-height=${Math.min(height, MOST_SIDE)} ${shellName(input.name)} >NEW.pgm`);
+  }
+  return lines;
+}
+
+function moreOfMaxval(input, front) {
+  if (!front.whole) return [];
+  const {greatest} = samplesOf(input.bytes, front);
+  const lines = [`The file's maxval is ${front.maxval}, and its greatest sample ${greatest}; ` +
+    `maxvals of 1 to ${MOST_GREY} are taken.`];
+  if (front.maxval > MOST_GREY && greatest <= MOST_GREY) lines.push(wayByHeader(input, front, MOST_GREY));
+  else if (front.maxval > MOST_GREY) {
+    lines.push(`Netpbm brings it down: pamdepth ${MOST_GREY} ${shellName(input.name)} >NEW.pgm`);
+  }
+  return lines;
+}
+
+function moreOfRaster(input, front) {
+  if (!front.whole) return [];
+  const there = input.bytes.length - front.raster;
+  return [`The header says ${front.width} by ${front.height} pixels of ${front.wide === 1 ? 'one byte' : 'two bytes'}, ` +
+    `${front.bytes} bytes; behind it stand ${input.cut ? 'more than ' : ''}${there}.`];
+}
+
+function moreOfSample(input, front) {
+  if (!front.whole) return [];
+  const {greatest, above, value} = samplesOf(input.bytes, front);
+  if (above < 0) return [];
+  const lines = [`The file's maxval is ${front.maxval}. The first above it is at column ${above % front.width}, ` +
+    `row ${Math.floor(above / front.width)}: ${value}; the greatest is ${greatest}.`];
+  if (greatest <= MOST_GREY) lines.push(wayByHeader(input, front, greatest));
+  return lines;
+}
+
+function moreOfFile(refusal, input) {
+  const ways = {20: moreOfHeader, 21: moreOfComment, 22: moreOfSize, 23: moreOfMaxval, 24: moreOfRaster, 25: moreOfRaster,
+    26: moreOfSample};
+  return ways[refusal] ? ways[refusal](input, frontOf(input.bytes)) : [];
+}
+
+// ---- the settings ----
+
+function gridsThatFit(side) {
+  const fit = [];
+  for (let tiles = LEAST_GRID; tiles <= MOST_GRID; tiles++) if (side % tiles === 0) fit.push(tiles);
+  return fit;
+}
+
+function moreOfGrid(film, s) {
+  const list = side => gridsThatFit(side).join(' ') || 'none';
+  return [
+    `Asked were ${s.across} tiles across and ${s.down} down; the film is ${film.width} pixels wide and ${film.height} high.`,
+    `Tiles across that fit: ${list(film.width)}. Tiles down that fit: ${list(film.height)}.`,
+  ];
+}
+
+// The part of the film that the grid fits.
+function moreOfSides(film, s) {
+  const width = film.width - film.width % s.across;
+  const height = film.height - film.height % s.down;
+  const lines = moreOfGrid(film, s);
+  if (width > 0 && height > 0) {
+    lines.push(`Or a part of it that fits, cut out by Netpbm: pamcut -left=0 -top=0 -width=${width} -height=${height} ` +
+      `${shellName(film.name)} >NEW.pgm`);
+  }
+  return lines;
+}
+
+function wayByRange(film) {
+  const flat = film.least === film.greatest;
+  return `The film's least grey is ${film.least}, its greatest ${film.greatest}: Min ${flat ? 0 : film.least} and ` +
+    `Max ${flat ? film.maxval : film.greatest} hold them all.`;
+}
+
+function moreOfRange(film, s) {
+  return [`Asked was the range from ${s.min} to ${s.max}; the file's maxval is ${film.maxval}.`, wayByRange(film)];
+}
+
+function moreOfPixel(film, s) {
+  const greys = film.library.room.u16(film.picture, film.width * film.height);
+  const at = greys.findIndex(grey => grey < s.min || grey > s.max);
+  if (at < 0) return [];
+  return [
+    `The first is at column ${at % film.width}, row ${Math.floor(at / film.width)}: grey ${greys[at]}, ` +
+      `and the range is ${s.min} to ${s.max}.`,
+    wayByRange(film),
+  ];
+}
+
+function moreOfBins(film, s) {
+  const greys = s.max - s.min + 1;
+  return [`Asked were ${s.bins === 0 ? USUAL_BINS : s.bins} bins; the range ${s.min} to ${s.max} has ${greys} greys: ` +
+    `${greys} bins are the most that it takes.`];
+}
+
+function moreOfAll(film, s) {
+  const clip = s.clip ? `factor ${printG(Math.fround(s.factor), 9)}` : 'clip off';
+  return [`The settings were grid ${s.across} by ${s.down}, ${s.bins === 0 ? USUAL_BINS : s.bins} bins, ` +
+    `range ${s.min} to ${s.max} (${s.max >= s.min ? s.max - s.min + 1 : 0} greys), ${clip}.`];
+}
+
+function moreOfSettings(refusal, film, s) {
+  const ways = {3: moreOfGrid, 4: moreOfGrid, 5: moreOfSides, 6: moreOfSides, 7: moreOfRange, 8: moreOfRange,
+    13: moreOfPixel, 31: moreOfBins};
+  return (ways[refusal] || moreOfAll)(film, s);
+}
+
+// The film's own samples were in order, so what is above maxval is the rendering.
+function moreOfRendering(film, s) {
+  return [
+    'The rendering has greys above the file\'s maxval: the top of the range is above it.',
+    `The file's maxval is ${film.maxval}, the top of the range ${s.max}: Max ${film.maxval} keeps below it.`,
+  ];
+}

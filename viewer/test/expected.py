@@ -1,0 +1,236 @@
+"""What the page has to show: films, and their renderings by the second program (second/), which shares no line with the
+library, the command line or the page."""
+
+import base64
+import os
+import random
+import re
+import struct
+import sys
+
+TOP = os.path.dirname(os.path.dirname(os.path.dirname(os.path.abspath(__file__))))
+sys.path.insert(0, os.path.join(TOP, "second"))
+
+import clahe  # noqa: E402
+import pgm  # noqa: E402
+
+ZOOMS = {"1-4": (1, 4), "1-2": (1, 2), "1-1": (1, 1), "2-1": (2, 1), "4-1": (4, 1), "8-1": (8, 1)}
+
+
+class Film:
+    """A film's greys row by row, and its renderings as far as they were asked for."""
+
+    def __init__(self, name, width, height, maxval, greys):
+        self.name, self.width, self.height, self.maxval, self.greys = name, width, height, maxval, greys
+        self.kept = {}
+
+    def file(self):
+        """The film as a raw PGM file."""
+        head = b"P5\n%d %d\n%d\n" % (self.width, self.height, self.maxval)
+        if self.maxval < 256:
+            return head + bytes(self.greys)
+        return head + struct.pack(">%dH" % len(self.greys), *self.greys)
+
+    def usual(self):
+        """The settings that a film starts with where 8 by 8 tiles fit."""
+        return settings(8, 8, min(1024, self.maxval + 1), 0, self.maxval, 3.0)
+
+    def counts(self, asked):
+        """Each tile's counts."""
+        counts = [0] * clahe.entries_of(asked)
+        refusal = clahe.count(self.width, self.height, self.greys, asked, counts)
+        assert refusal == 0, refusal
+        return counts
+
+    def mappings(self, asked):
+        """The mappings, and the footer."""
+        key = "maps", asked
+        if key not in self.kept:
+            maps, scratch = [0] * clahe.entries_of(asked), [0] * clahe.bin_count(asked.bins)
+            answer = clahe.prepare(0, self.width, self.height, self.greys, asked, maps, scratch)
+            assert not isinstance(answer, int), answer
+            self.kept[key] = maps, answer[1]
+        return self.kept[key]
+
+    def grey_at(self, x, y, asked):
+        """One rendered grey."""
+        grey = self.greys[y * self.width + x]
+        if clahe.factor_is_one(asked.clip):
+            return grey
+        return clahe.grey_at(x, y, grey, self.width, self.height, asked, self.mappings(asked)[0])
+
+    def rendered(self, asked):
+        """All rendered greys."""
+        if asked not in self.kept:
+            self.kept[asked] = [self.grey_at(x, y, asked) for y in range(self.height) for x in range(self.width)]
+        return self.kept[asked]
+
+
+def settings(across, down, bins, low, high, factor):
+    """Settings of the second program; factor None is clip off."""
+    clip = None if factor is None else struct.unpack(">I", struct.pack(">f", factor))[0]
+    return clahe.Settings(across, down, bins, low, high, clip)
+
+
+def factor_of(asked):
+    """The factor as a number, None for clip off."""
+    return None if asked.clip is None else struct.unpack(">f", struct.pack(">I", asked.clip))[0]
+
+
+def footer_of(film, asked):
+    """L, the factor asked and the factor used."""
+    footer = clahe.footer_of(film.width, film.height, asked)
+    return (footer.limit, struct.unpack(">f", struct.pack(">I", footer.asked))[0],
+            struct.unpack(">d", struct.pack(">Q", footer.used))[0])
+
+
+# ---- films ----
+
+def film_of(name, data):
+    """The film in a file's bytes."""
+    _, width, height, maxval, start = pgm.read(data)
+    greys = [0] * (width * height)
+    assert pgm.greys(data, start, width, height, maxval, greys) == 0
+    return Film(name, width, height, maxval, greys)
+
+
+def sample():
+    """The sample film that is in the page."""
+    with open(os.path.join(TOP, "docs/weld.pgm"), "rb") as file:
+        return film_of("weld.pgm", file.read())
+
+
+def twin(film):
+    """Another film of the same size, in which no part looks like the first: upside down, darker, with noise of its own."""
+    noise = random.Random(7)
+    rows = [film.greys[y * film.width:(y + 1) * film.width] for y in reversed(range(film.height))]
+    greys = [grey * 3 // 4 + noise.randrange(200) for row in rows for grey in row]
+    return Film("twin.pgm", film.width, film.height, film.maxval, greys)
+
+
+def noisy(name, width, height, maxval=4095):
+    """The benchmark's noisy plate (bench/film.c), here also of other shapes."""
+    state, greys = 20 * height + 12, []
+    half = height // 6
+    for y in range(height):
+        away = abs(y - height // 2)
+        row = 500 + y * 500 // height + ((half - away) * 900 // half if away < half else 0)
+        for x in range(width):
+            state = (state * 6364136223846793005 + 1442695040888963407) & 0xFFFFFFFFFFFFFFFF
+            grain = (state >> 60 & 15) + (state >> 52 & 63) + (state >> 44 & 63)
+            greys.append(row + x * 1800 // width + grain)
+    if maxval < 4095:
+        greys = [grey * maxval // 4095 for grey in greys]
+    return Film(name, width, height, maxval, greys)
+
+
+def four_of(name, film):
+    """A film of twice the width and height, made of the same one four times."""
+    rows = [film.greys[y * film.width:(y + 1) * film.width] * 2 for y in range(film.height)]
+    return Film(name, 2 * film.width, 2 * film.height, film.maxval, [grey for row in rows for grey in row] * 2)
+
+
+# ---- what is shown ----
+
+def shades(level, width, invert=False):
+    """For each grey the shade that is shown: the display window's `width` greys about `level` spread evenly over 0 to 255."""
+    low = level - width // 2
+    table = [max(0, min(255, (grey - low) * 256 // width)) for grey in range(4096)]
+    return [255 - shade for shade in table] if invert else table
+
+
+def cells(film, greys, zoom):
+    """Columns, rows and greys of what is shown at a zoom: pixels, or the means of blocks, rounded to the nearest."""
+    block = ZOOMS[zoom][1]
+    if block == 1:
+        return film.width, film.height, greys
+    columns, rows = -(-film.width // block), -(-film.height // block)
+    means = []
+    for top in range(0, film.height, block):
+        band = [greys[y * film.width:(y + 1) * film.width] for y in range(top, min(top + block, film.height))]
+        for left in range(0, film.width, block):
+            part = [grey for row in band for grey in row[left:left + block]]
+            means.append((2 * sum(part) + len(part)) // (2 * len(part)))
+    return columns, rows, means
+
+
+class Shown:
+    """What one canvas has to hold: the film's cells as shades, each a square of `size` dots."""
+
+    def __init__(self, film, greys, zoom, table):
+        self.size = ZOOMS[zoom][0]
+        key = "cells", id(greys), zoom
+        if key not in film.kept:
+            film.kept[key] = cells(film, greys, zoom)
+        self.columns, self.rows, seen = film.kept[key]
+        self.bytes = bytes(table[grey] for grey in seen)
+
+    def row(self, y):
+        """A row of dots, squares drawn out."""
+        line = self.bytes[y * self.columns:(y + 1) * self.columns]
+        return line if self.size == 1 else bytes(shade for shade in line for _ in range(self.size))
+
+    def edge(self, canvas):
+        """Where the film's first dot lies on the canvas (it may lie beyond the canvas), or None where no place fits."""
+        if canvas.wide >= self.columns * self.size and canvas.high >= self.rows * self.size:
+            return (canvas.left, canvas.top) if self.fits(canvas, canvas.left, canvas.top) else None
+        for dot in range(self.size * self.size):
+            place = self.place(canvas, dot % self.size, dot // self.size)
+            if place:
+                return place
+        return None
+
+    def place(self, canvas, right, down):
+        """Looks for a row of the canvas, taken from a dot that is `right` and `down` from its middle, in the film."""
+        y = canvas.high // 2 + down
+        line = canvas.row(y)[right::self.size][1:-1]
+        at = self.bytes.find(line)
+        while at >= 0:
+            column, row = at % self.columns, at // self.columns
+            left = canvas.left + right - (column - 1) * self.size
+            for low in range(self.size):
+                top = canvas.top + y - row * self.size - low
+                if self.fits(canvas, left, top):
+                    return left, top
+            at = self.bytes.find(line, at + 1)
+        return None
+
+    def fits(self, canvas, left, top):
+        """Whether the canvas holds the film from this edge on, every dot of it, and nothing else."""
+        box = (max(0, left), max(0, top), min(canvas.width, left + self.columns * self.size),
+               min(canvas.height, top + self.rows * self.size))
+        if box != (canvas.left, canvas.top, canvas.left + canvas.wide, canvas.top + canvas.high):
+            return False
+        known = (-1, b"")
+        for y in range(box[1], box[3]):
+            cell = (y - top) // self.size
+            if cell != known[0]:
+                known = cell, self.row(cell)[box[0] - left:box[2] - left]
+            if canvas.row(y - canvas.top) != known[1]:
+                return False
+        return True
+
+
+class Canvas:
+    """What is on a canvas: its size, the box that is covered, and the shades in it."""
+
+    def __init__(self, read):
+        self.width, self.height, self.tinted = read["width"], read["height"], read["tinted"]
+        self.left, self.top, self.wide, self.high = read["left"], read["top"], read["wide"], read["high"]
+        self.covered = read["covered"]
+        self.shades = base64.b64decode(read["shades"])
+
+    def row(self, y):
+        """A row of the box."""
+        return self.shades[y * self.wide:(y + 1) * self.wide]
+
+    def blank(self):
+        """Whether nothing is on it."""
+        return self.covered == 0
+
+
+def sentences():
+    """The sentence of each refusal, from the header's own text."""
+    with open(os.path.join(TOP, "station/tzofnadir.h"), encoding="utf-8") as header:
+        body = header.read().split("tz_refusal_text(uint32_t refusal)", 1)[1].split("};", 1)[0]
+    return re.findall(r'^\s+"(.*)",$', body, re.M)

@@ -1,0 +1,177 @@
+"""Ways with films: opening, several at once, dropping, closing, and files that are refused."""
+
+import os
+import re
+
+import expected
+from person import hold, same
+
+FILES = {  # what is refused, with which number
+    "empty": 20, "text": 20, "png": 20, "plain": 20, "cut_header": 20, "comment": 21, "size_0": 22, "size_4097": 22,
+    "maxval_0": 22 + 1, "maxval_65535": 23, "short": 24, "long": 25, "above": 26,
+}
+
+
+def bad_files(film):
+    """The files' bytes, made from a good film."""
+    good = film.file()
+    head = len(good) - 2 * film.width * film.height
+    sides, raster = b"%d %d\n" % (film.width, film.height), good[head:]
+    with open(os.path.join(expected.TOP, "docs/weld-before.png"), "rb") as png:
+        picture = png.read()
+    return {
+        "empty": b"", "text": b"hello\n", "png": picture, "plain": b"P2\n2 2\n15\n0 1 2 3\n", "cut_header": b"P5\n512 38",
+        "comment": b"P5\n# scan\n" + sides + b"4095\n" + raster, "size_0": b"P5\n0 9\n4095\n",
+        "size_4097": b"P5\n4097 2\n255\n" + bytes(2 * 4097), "maxval_0": b"P5\n" + sides + b"0\n" + raster,
+        "maxval_65535": b"P5\n" + sides + b"65535\n" + raster, "short": good[:-1], "long": good + b"x",
+        "above": b"P5\n" + sides + b"1000\n" + raster,
+    }
+
+
+def opens_from_the_disk(person, films):
+    """No error in the console, nothing asked from any other address, and nothing in the file that would be."""
+    person.click("welcome-sample")
+    person.opened(set(), 1)
+    person.sees(films.sample, films.sample.usual())
+    same("complaints", person.complaints(), [])
+    with open(person.page, encoding="utf-8") as page:
+        text = page.read()
+    same("addresses in the page", re.findall(r"""(?:src|href|url|fetch|import)\s*[=(]\s*["']?(?:https?:)?//[^"')\s]+""", text), [])
+    return "the sample film, by its button"
+
+
+def two_films_of_one_size(person, films):
+    """Each gets a number of its own, its own settings and its own picture, whatever is set on the other."""
+    one, two = films.sample, films.twin
+    first, second = person.open(*[person.file(film.name, film.file()) for film in (one, two)])
+    hold(first != second, "both films have the number", first)
+    person.sees(one, one.usual())
+    same("number shown", person.text("film-number"), "film %d" % first)
+    person.choose(second)
+    same("number shown", person.text("film-number"), "film %d" % second)
+    person.sees(two, two.usual())
+    person.type("factor", "6")
+    person.type("across", "4")
+    changed = expected.settings(4, 8, 1024, 0, 4095, 6.0)
+    for _ in range(2):
+        person.choose(second)
+        person.sees(two, changed)
+        person.footed(two, changed)
+        same("settings of the second", [person.value(box) for box in ("across", "down", "factor")], ["4", "8", "6"])
+        person.choose(first)
+        person.sees(one, one.usual())
+        person.footed(one, one.usual())
+        same("settings of the first", [person.value(box) for box in ("across", "down", "factor")], ["8", "8", "3"])
+    return "numbers %d and %d, settings changed on the second" % (first, second)
+
+
+def fast_switching(person, films):
+    """To and fro without waiting, with a setting changed on the way: what is left up is the last one's own picture."""
+    one, two = films.sample, films.twin
+    numbers = person.open(*[person.file(film.name, film.file()) for film in (one, two)])
+    person.script("""const pick = number => document.getElementById('film-' + number).click();
+        for (let i = 0; i < 21; i++) { pick(arguments[i % 2]);
+          const slider = document.getElementById('factor-slider');
+          slider.value = 20 + 13 * i; slider.dispatchEvent(new Event('input', {bubbles: true})); }""", *numbers)
+    person.settled()
+    for film, number in ((one, numbers[0]), (two, numbers[1])):
+        person.choose(number)
+        asked = film.usual()._replace(clip=expected.settings(8, 8, 2, 0, 1, float(person.value("factor"))).clip)
+        person.sees(film, asked)
+        person.footed(film, asked)
+    return "21 changes, the last factors %s" % person.value("factor")
+
+
+def drop(person, films):
+    """A film dropped on the page, by the browser's own drag."""
+    path = person.file(films.twin.name, films.twin.file())
+    words = {"x": 700, "y": 500, "data": {"items": [], "files": [path], "dragOperationsMask": 1}}
+    for kind in ("dragEnter", "dragOver"):
+        person.tell("Input.dispatchDragEvent", type=kind, **words)
+    hold(person.element("drop-sign").is_displayed(), "no sign that films may be dropped")
+    person.tell("Input.dispatchDragEvent", type="drop", **words)
+    person.opened(set(), 1)
+    person.sees(films.twin, films.twin.usual())
+    hold(not person.element("drop-sign").is_displayed(), "the sign stays up")
+    return films.twin.name
+
+
+def close(person, films):
+    """A closed film is gone, the other stays, and its number is given to no other."""
+    paths = [person.file(film.name, film.file()) for film in (films.sample, films.twin)]
+    first, second = person.open(*paths)
+    person.click("close-%d" % first)
+    person.settled()
+    same("films left", [entry["number"] for entry in person.entries()], [second])
+    person.sees(films.twin, films.twin.usual())
+    third, = person.open(paths[0])
+    hold(third not in (first, second), "the number %d is given again" % third)
+    person.click("close-%d" % second)
+    person.click("close-%d" % third)
+    person.settled()
+    same("films left", person.entries(), [])
+    person.blank()
+    hold(person.element("welcome").is_displayed(), "no way to open a film is offered")
+    return "numbers %d, %d, then %d" % (first, second, third)
+
+
+def refused_files(person, films):
+    """Each refusal of a file, with the header's sentence; the open film stays and draws."""
+    sentences = expected.sentences()
+    first = person.show(films.twin)
+    for name, data in bad_files(films.sample).items():
+        number, = person.open(person.file(name + ".bad", data))
+        person.choose(number)
+        person.refused(FILES[name], sentences[FILES[name]])
+        person.choose(first)
+        person.sees(films.twin, films.twin.usual())
+        person.click("close-%d" % number)
+    return "%d files" % len(FILES)
+
+
+def refused_among_good(person, films):
+    """A refused file between two good ones that are opened at once."""
+    bad = bad_files(films.sample)["short"]
+    paths = [person.file(films.sample.name, films.sample.file()), person.file("short.bad", bad),
+             person.file(films.twin.name, films.twin.file())]
+    numbers = person.open(*paths)
+    for number, film in ((numbers[2], films.twin), (numbers[0], films.sample)):
+        person.choose(number)
+        person.sees(film, film.usual())
+    person.choose(numbers[1])
+    person.refused(24, expected.sentences()[24])
+    return "films %s" % numbers
+
+
+def zeros(person, films):
+    """100 MB of zeros: a message in red, and the open film stays."""
+    first = person.show(films.twin)
+    path = os.path.join(person.room, "zeros.pgm")
+    with open(path, "wb") as file:
+        file.truncate(100_000_000)
+    number, = person.open(path)
+    person.choose(number)
+    person.refused(20, expected.sentences()[20])
+    person.choose(first)
+    person.sees(films.twin, films.twin.usual())
+    return "100,000,000 bytes"
+
+
+def other_depths(person, films):
+    """A film of 8 bits, and one that 8 by 8 tiles do not fit: the grid that is taken is told."""
+    shallow, odd = films.shallow, films.odd
+    for film in (shallow, odd):
+        person.choose(person.show(film))
+        person.click("zoom-1-1")
+        person.settled()
+        if film is shallow:
+            person.sees(shallow, shallow.usual())
+    asked = expected.settings(7, 7, 1024, 0, 4095, 3.0)
+    person.sees(odd, asked)
+    person.footed(odd, asked)
+    hold(person.text("film-note").count(": 7 taken") == 2, "the grid is not told:", person.text("film-note"))
+    return "maxval 255 with 256 bins; 77 by 63 with grid 7 by 7"
+
+
+WAYS = [opens_from_the_disk, two_films_of_one_size, fast_switching, drop, close, refused_files, refused_among_good, zeros,
+        other_depths]

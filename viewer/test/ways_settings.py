@@ -1,0 +1,268 @@
+"""Ways with settings: each control, the footer, the display, refusals that the controls can reach, what is under the pointer."""
+
+import expected
+from person import hold, same
+
+from selenium.webdriver.common.keys import Keys
+
+HOOK_PLOT = """
+const draw = window.drawTilePlot;
+window.drawTilePlot = probe => { window.plotted = probe && {counts: [...probe.counts], limit: probe.limit,
+  mapping: probe.mapping && [...probe.mapping]}; return draw(probe); };
+"""
+
+
+def set_now(person):
+    """The settings that the page shows."""
+    across, down, bins, low, high = [int(person.value(box)) for box in ("across", "down", "bins", "min", "max")]
+    factor = float(person.value("factor")) if person.element("clip").is_selected() else None
+    return expected.settings(across, down, bins, low, high, factor)
+
+
+def as_set(person, film, **changed):
+    """Holds pictures and footer to the settings that are shown, and these to what was set."""
+    asked = set_now(person)
+    for name, value in changed.items():
+        same(name, expected.factor_of(asked) if name == "factor" else getattr(asked, name), value)
+    person.sees(film, asked)
+    person.footed(film, asked)
+    return asked
+
+
+def grid(person, films):
+    """Tiles across and down, by box and slider."""
+    film = films.sample
+    person.show(film)
+    person.type("across", "16")
+    as_set(person, film, across=16, down=8)
+    person.type("down", "3")
+    as_set(person, film, across=16, down=3)
+    person.slide("across-slider", Keys.HOME)
+    as_set(person, film, across=2, down=3)
+    person.slide("down-slider", Keys.END)
+    as_set(person, film, across=2, down=16)
+    return "16 by 8, 16 by 3, 2 by 3, 2 by 16"
+
+
+def bins(person, films):
+    """Bins by box and slider, 0 as 128, and chosen by the range again."""
+    film = films.sample
+    person.show(film)
+    person.type("bins", "37")
+    as_set(person, film, bins=37)
+    hold(not person.element("bins-chosen").is_selected(), "bins set by hand still count as chosen")
+    person.type("bins", "0")
+    as_set(person, film, bins=0)
+    person.type("bins", "4096")
+    as_set(person, film, bins=4096)
+    person.slide("bins-slider", Keys.HOME)
+    as_set(person, film, bins=2)
+    person.slide("bins-slider", Keys.PAGE_UP)
+    as_set(person, film)
+    person.check("bins-chosen", True)
+    as_set(person, film, bins=1024)
+    return "37, 0, 4096, 2, by the slider, chosen"
+
+
+def grey_range(person, films):
+    """Min and Max by box, by the ends in the histogram and by the buttons; the bins follow where they are chosen."""
+    film = films.sample
+    least, greatest = min(film.greys), max(film.greys)
+    person.show(film)
+    person.type("min", str(least))
+    as_set(person, film, min=least)
+    person.type("max", str(greatest))
+    as_set(person, film, max=greatest, bins=min(1024, greatest - least + 1))
+    person.click("range-all")
+    person.settled()
+    as_set(person, film, min=0, max=4095)
+    person.click("range-film")
+    person.settled()
+    as_set(person, film, min=least, max=greatest)
+    person.click("range-all")
+    left, top = person.middle("range-low")
+    person.drag(left, top, left + 12, top)
+    asked = as_set(person, film)
+    hold(asked.min > 0, "the lower end did not move")
+    person.slide("range-high", Keys.ARROW_LEFT, Keys.ARROW_LEFT)
+    as_set(person, film, max=4093)
+    return "the film's own greys are %d to %d" % (least, greatest)
+
+
+def factor(person, films):
+    """The factor by box, slider and keys; 1.0 is the film unchanged; clip off and on."""
+    film = films.sample
+    person.show(film)
+    for text, value in (("1.01", 1.01), ("2.5", 2.5), ("1024", 1024.0), ("1.0000001", 1.0000001)):
+        person.type("factor", text)
+        as_set(person, film)
+        asked = expected.settings(8, 8, 1024, 0, 4095, value)
+        same("factor as a float", set_now(person).clip, asked.clip)
+    person.type("factor", "1")
+    as_set(person, film, factor=1.0)
+    hold("unchanged" in person.text("footer-note"), "factor 1.0 is not told:", person.text("footer-note"))
+    person.slide("factor-slider", Keys.END)
+    as_set(person, film, factor=64.0)
+    person.keys(Keys.ARROW_LEFT)
+    far = 64 - expected.factor_of(as_set(person, film))
+    person.slide("factor-slider", Keys.HOME, *[Keys.ARROW_RIGHT] * 10)
+    near = expected.factor_of(as_set(person, film))
+    hold(1 < near <= 1.1001 and far > near - 1, "ten steps from the left end the slider is at", near, "one from the right moves", far)
+    person.click("stage")
+    person.keys(".", ".", ",", ".")
+    as_set(person, film)
+    person.keys("c")
+    as_set(person, film, factor=None)
+    hold("off" in person.text("footer-note"), "clip off is not told:", person.text("footer-note"))
+    person.check("clip", True)
+    as_set(person, film)
+    return "slider from 1 to 64: ten steps from 1 to %g, one of %g at 64" % (near, far)
+
+
+def newest_wins(person, films):
+    """Many factors at once: the last one is what is seen, and no more pictures are made than there is time for."""
+    film = films.noisy
+    person.show(film)
+    person.script("""window.made = 0;
+        const paint = window.paintBoth; window.paintBoth = (...words) => { window.made++; return paint(...words); };
+        const slider = document.getElementById('factor-slider');
+        for (let i = 0; i <= 200; i++) { slider.value = 50 + i; slider.dispatchEvent(new Event('input', {bubbles: true})); }""")
+    person.settled()
+    made = person.script("return window.made")
+    hold(made <= 3, "201 factors set at once made", made, "pictures")
+    asked = set_now(person)
+    person.footed(film, asked)
+    return "201 factors, %d pictures, the last of factor %g" % (made, expected.factor_of(asked))
+
+
+def display(person, films):
+    """Level, window and invert change what is shown and nothing else."""
+    film, asked = films.sample, films.sample.usual()
+    person.show(film)
+    wanted = person.saved_file("weld-rendered.pgm", "save-pgm")
+    person.type("level", "1700")
+    person.sees(film, asked, table=expected.shades(1700, 4096))
+    person.type("width", "900")
+    person.sees(film, asked, table=expected.shades(1700, 900))
+    person.check("invert", True)
+    person.sees(film, asked, table=expected.shades(1700, 900, True))
+    person.slide("width-slider", Keys.HOME)
+    person.sees(film, asked, table=expected.shades(1700, 1, True))
+    person.slide("level-slider", Keys.END)
+    person.sees(film, asked, table=expected.shades(4095, 1, True))
+    person.footed(film, asked)
+    hold(person.saved_file("weld-rendered.pgm", "save-pgm") == wanted, "the saved film changed with the display")
+    person.click("display-reset")
+    person.settled()
+    person.sees(film, asked)
+    hold("Display only" in person.text("display-part"), "that it is the display alone is not said")
+    return "level 1700, window 900, inverted; the saved film stays"
+
+
+def refused_settings(person, films):
+    """Each refusal that the controls can reach; the other film stays, and a good setting brings the picture back."""
+    film, sentences = films.sample, expected.sentences()
+    first, second = person.open(*[person.file(each.name, each.file()) for each in (film, films.twin)])
+    trials = [(3, {"across": "1"}), (3, {"across": "17"}), (4, {"down": "0"}), (4, {"down": "4294967295"}), (5, {"across": "7"}),
+              (6, {"down": "5"}), (7, {"max": "4096"}), (8, {"min": "4095"}), (8, {"min": "5000"}), (9, {"bins": "1"}),
+              (9, {"bins": "4097"}), (31, {"bins": "2000", "max": "1998"}), (10, {"factor": "0.99"}), (10, {"factor": "1025"}),
+              (10, {"factor": "nan"}), (10, {"factor": "inf"}), (10, {"factor": "-3"}), (13, {"max": "100"}), (13, {"min": "4000"})]
+    for number, boxes in trials:
+        before = {box: person.value(box) for box in boxes}
+        chosen = person.element("bins-chosen").is_selected()
+        for box, text in boxes.items():
+            person.type(box, text)
+        person.refused(number, sentences[number])
+        person.choose(second)
+        hold(not person.element("refusal").is_displayed(), "the other film shows the refusal")
+        hold(not person.canvas("rendered").blank(), "the other film does not draw")
+        person.choose(first)
+        person.refused(number, sentences[number])
+        for box, text in before.items():
+            person.type(box, text)
+        person.check("bins-chosen", chosen)
+        hold(not person.element("refusal").is_displayed(), "%d: the refusal stays behind a good setting" % number)
+        hold(not person.canvas("scanned").blank(), "%d: no picture comes back" % number)
+    person.sees(film, film.usual())
+    person.choose(second)
+    person.sees(films.twin, films.twin.usual())
+    return "%d settings, refusals %s" % (len(trials), sorted({number for number, _ in trials}))
+
+
+def no_numbers(person, films):
+    """Text that is no number is told without a refusal's number, and what was set before still counts."""
+    film = films.sample
+    person.show(film)
+    for box, text in (("across", "eight"), ("bins", "12.5"), ("min", "-1"), ("max", "4294967296"), ("factor", "3,0"), ("level", "x")):
+        person.type(box, text)
+        note = person.element("typed-note")
+        hold(note.is_displayed() and text in note.text, "%s %r: nothing is told" % (box, text))
+        hold(not person.element("refusal").is_displayed(), "%s %r: a refusal" % (box, text))
+        person.sees(film, film.usual())
+        person.type(box, {"across": "8", "bins": "1024", "min": "0", "max": "4095", "factor": "3", "level": "2048"}[box])
+        hold(not note.is_displayed(), "%s: the note stays" % box)
+    return "six boxes"
+
+
+def pointer(person, films):
+    """Column, row, both greys and tile under the pointer, on both pictures, at three zooms and settings."""
+    film, tried = films.sample, 0
+    person.show(film)
+    for zoom, boxes in (("1-1", {}), ("4-1", {"across": "4", "down": "6", "bins": "300"}), ("1-4", {"factor": "1.5"})):
+        for box, text in boxes.items():
+            person.type(box, text)
+        person.click("zoom-" + zoom)
+        person.settled()
+        asked = set_now(person)
+        edge = person.sees(film, asked, zoom)
+        for i in range(8):
+            tried += read_one(person, film, asked, zoom, edge, i)
+    return "%d pixels" % tried
+
+
+def read_one(person, film, asked, zoom, edge, i):
+    """Points at one pixel and holds what is read to the second program."""
+    dots, block = expected.ZOOMS[zoom]
+    which = "canvas-" + ("scanned", "rendered")[i % 2]
+    left, top, width, height = person.box(which)
+    right, down = min(width, edge[0] + film.width * dots // block) - 1, min(height, edge[1] + film.height * dots // block) - 1
+    from_x, from_y = max(0, edge[0]), max(0, edge[1])
+    x, y = int(from_x + (right - from_x) * (i * 37 % 100) // 99), int(from_y + (down - from_y) * (i * 61 % 100) // 99)
+    person.mouse("mouseMoved", left + x, top + y)
+    column, row = (x - edge[0]) // dots * block, (y - edge[1]) // dots * block
+    tile_width, tile_height = film.width // asked.across, film.height // asked.down
+    tile = column // tile_width, row // tile_height
+    person.until("a reading of column %d" % column, lambda: person.text("at-column") == str(column), 5)
+    person.settled()
+    seen = [person.text("at-" + name) for name in ("column", "row", "scanned", "rendered", "tile", "rectangle")]
+    same("at dot %d, %d of %s at %s" % (x, y, which, zoom), seen, [
+        str(column), str(row), str(film.greys[row * film.width + column]), str(film.grey_at(column, row, asked)),
+        "%d across, %d down" % (tile[0] + 1, tile[1] + 1), "columns %d to %d, rows %d to %d" % (
+            tile[0] * tile_width, (tile[0] + 1) * tile_width - 1, tile[1] * tile_height, (tile[1] + 1) * tile_height - 1)])
+    return 1
+
+
+def tile_plot(person, films):
+    """What the plot is given: the counts, the limit and the mapping of the tile under the pointer."""
+    film = films.sample
+    person.show(film)
+    person.script(HOOK_PLOT)
+    left, top, _, _ = person.box("canvas-scanned")
+    for boxes in ({}, {"across": "4", "bins": "64", "factor": "1.2"}):
+        for box, text in boxes.items():
+            person.type(box, text)
+        asked = set_now(person)
+        edge = person.sees(film, asked)
+        counts, (maps, footer) = film.counts(asked), film.mappings(asked)
+        for x, y in ((3, 5), (300, 100), (511, 383)):
+            person.mouse("mouseMoved", left + edge[0] + x, top + edge[1] + y)
+            person.until("a reading", lambda: (person.text("at-column"), person.text("at-row")) == (str(x), str(y)), 5)
+            person.settled()
+            tile = y // (film.height // asked.down) * asked.across + x // (film.width // asked.across)
+            part = slice(tile * asked.bins, (tile + 1) * asked.bins)
+            same("the plot of the tile at %d, %d" % (x, y), person.script("return window.plotted"),
+                 {"counts": counts[part], "limit": footer.limit, "mapping": maps[part]})
+    return "six tiles"
+
+
+WAYS = [grid, bins, grey_range, factor, newest_wins, display, refused_settings, no_numbers, pointer, tile_plot]

@@ -1,0 +1,86 @@
+'use strict';
+// The worker's messages. It holds all films; the page asks for one thing at a time and is answered once for each.
+
+const held = {module: null, version: '', ledger: null, films: new Map()};
+
+async function toStart(message) {
+  held.module = await WebAssembly.compile(message.wasm);
+  held.version = message.version;
+  held.ledger = makeLedger(message.memory);
+  return {};
+}
+
+// The bytes of a file up to what the largest film needs: a longer one is told by its front.
+async function inputOf(message) {
+  const file = message.file;
+  const cut = file.size > MOST_BYTES;
+  try {
+    return {name: message.name, cut, bytes: new Uint8Array(await (cut ? file.slice(0, MOST_BYTES) : file).arrayBuffer())};
+  } catch (fault) {
+    if (fault instanceof RangeError) throw new NoMemory();
+    throw new Error(`The file could not be read: ${fault.message}`);
+  }
+}
+
+async function toOpen(message) {
+  const answer = openFilm(held.module, held.ledger, message.number, await inputOf(message));
+  if (!answer.film) return answer;
+  const film = answer.film;
+  held.films.set(film.number, film);
+  const {width, height, maxval, least, greatest, bytes} = film;
+  return {opened: {width, height, maxval, least, greatest, bytes, histogram: film.histogram.slice(),
+    fits: {across: gridsThatFit(width), down: gridsThatFit(height)}}};
+}
+
+function toClose(message) {
+  const film = held.films.get(message.number);
+  if (film) closeFilm(film);
+  held.films.delete(message.number);
+  return {};
+}
+
+// Settings, window and pointer in one: what the page wants to see now.
+function toShow(message) {
+  const film = held.films.get(message.number);
+  const answer = settle(film, message.settings);
+  if (answer.refusal) return answer;
+  answer.footer = film.footer;
+  if (message.place) answer.picture = picture(film, message.settings, message.place, message.display, message.spare);
+  if (answer.picture && answer.picture.refusal) return answer.picture;
+  if (message.at) answer.probe = probe(film, message.settings, message.at);
+  return answer.probe && answer.probe.refusal ? answer.probe : answer;
+}
+
+function toSave(message) {
+  const film = held.films.get(message.number);
+  return message.what === 'record' ? saveRecord(film, message.settings, held.version, message.outName)
+    : saveFilm(film, message.settings);
+}
+
+// The buffers that change hands instead of being copied.
+function buffersOf(answer) {
+  const found = [];
+  if (answer.picture) found.push(answer.picture.rendered);
+  if (answer.picture && answer.picture.scanned) found.push(answer.picture.scanned);
+  if (answer.bytes) found.push(answer.bytes);
+  return found;
+}
+
+function faultText(fault) {
+  return fault instanceof RangeError ? new NoMemory().message : fault.message;
+}
+
+async function answerTo(message) {
+  const ways = {start: toStart, open: toOpen, close: toClose, show: toShow, save: toSave};
+  try {
+    return await ways[message.kind](message);
+  } catch (fault) {
+    return {fault: faultText(fault)};
+  }
+}
+
+self.onmessage = async event => {
+  const answer = await answerTo(event.data);
+  answer.id = event.data.id;
+  self.postMessage(answer, buffersOf(answer));
+};
