@@ -65,21 +65,46 @@ def two_films_of_one_size(person, films):
     return "numbers %d and %d, settings changed on the second" % (first, second)
 
 
+SWITCH = """
+const [numbers, done] = [arguments[0], arguments[1]], seen = new Set();
+const canvas = document.getElementById('canvas-scanned'), row = canvas.height >> 1;
+let on = true, turn = 0;
+const look = () => { // what stands on the canvas in each frame, beside the name of the film that is looked at
+  const line = canvas.getContext('2d').getImageData(0, row, canvas.width, 1).data;
+  const shades = []; for (let i = 0; i < line.length; i += 4) if (line[i + 3]) shades.push(line[i]);
+  seen.add(document.getElementById('film-name').textContent + ' ' + shades.join());
+  if (on) requestAnimationFrame(look);
+};
+requestAnimationFrame(look);
+const step = () => {
+  document.getElementById('film-' + numbers[turn % 2]).click();
+  const slider = document.getElementById('factor-slider');
+  slider.value = 20 + 4 * turn; slider.dispatchEvent(new Event('input', {bubbles: true}));
+  if (++turn < 61) setTimeout(step, turn * 7 % 23); else setTimeout(() => { on = false; done([...seen]); }, 300);
+};
+step();
+"""
+
+
 def fast_switching(person, films):
-    """To and fro without waiting, with a setting changed on the way: what is left up is the last one's own picture."""
+    """To and fro without waiting, with a factor moved each time: no frame ever shows a film under another's name, and what is
+    left up is each film's own picture."""
     one, two = films.sample, films.twin
     numbers = person.open(*[person.file(film.name, film.file()) for film in (one, two)])
-    person.script("""const pick = number => document.getElementById('film-' + number).click();
-        for (let i = 0; i < 21; i++) { pick(arguments[i % 2]);
-          const slider = document.getElementById('factor-slider');
-          slider.value = 20 + 13 * i; slider.dispatchEvent(new Event('input', {bubbles: true})); }""", *numbers)
+    left = person.canvas("scanned")
+    middle = ((left.height >> 1) - left.top) * one.width
+    own = {film.name: ",".join(str(grey // 16) for grey in film.greys[middle:middle + film.width]) for film in (one, two)}
+    seen = person.driver.execute_async_script(SWITCH, numbers)
+    for frame in seen:
+        name, _, shades = frame.partition(" ")
+        hold(shades in ("", own[name]), "a frame shows another picture under the name", name)
     person.settled()
     for film, number in ((one, numbers[0]), (two, numbers[1])):
         person.choose(number)
         asked = film.usual()._replace(clip=expected.settings(8, 8, 2, 0, 1, float(person.value("factor"))).clip)
         person.sees(film, asked)
         person.footed(film, asked)
-    return "21 changes, the last factors %s" % person.value("factor")
+    return "61 changes, %d sorts of frames" % len(seen)
 
 
 def drop(person, films):

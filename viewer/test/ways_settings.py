@@ -120,19 +120,26 @@ def factor(person, films):
 
 
 def newest_wins(person, films):
-    """Many factors at once: the last one is what is seen, and no more pictures are made than there is time for."""
+    """Many factors at once: nothing queues up at the worker, and the last one is what is seen."""
     film = films.noisy
     person.show(film)
-    person.script("""window.made = 0;
-        const paint = window.paintBoth; window.paintBoth = (...words) => { window.made++; return paint(...words); };
+    person.script("""window.sent = 0;
+        const post = Worker.prototype.postMessage;
+        Worker.prototype.postMessage = function (...words) { window.sent++; return post.apply(this, words); };
         const slider = document.getElementById('factor-slider');
         for (let i = 0; i <= 200; i++) { slider.value = 50 + i; slider.dispatchEvent(new Event('input', {bubbles: true})); }""")
     person.settled()
-    made = person.script("return window.made")
-    hold(made <= 3, "201 factors set at once made", made, "pictures")
+    sent = person.script("return window.sent")
+    hold(1 <= sent <= 4, "201 factors set at once were", sent, "requests")
     asked = set_now(person)
+    person.sees(film, asked, now_at(person))
     person.footed(film, asked)
-    return "201 factors, %d pictures, the last of factor %g" % (made, expected.factor_of(asked))
+    return "201 factors, %d requests, the last of factor %g" % (sent, expected.factor_of(asked))
+
+
+def now_at(person):
+    """The zoom that the page says it shows."""
+    return person.text("how").split(":", 2)[0] + "-" + person.text("how").split(":", 2)[1]
 
 
 def display(person, films):
