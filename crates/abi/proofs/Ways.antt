@@ -12,7 +12,8 @@ use lib.ListN.{length, getD, take}
 use Rattle.lists.specs.Lists.{onto}
 use Rattle.refuse.specs.Refuse.{first, accepted, says}
 use Rattle.settings.specs.Settings.{binsOf, recordOf, clipOne}
-use Rattle.prepare.specs.Prepare.{preparedSays, prepareRows, footOf, Ended, prepareOf, preparedOf}
+use Rattle.tiles.specs.Tiles.{footOf}
+use Rattle.prepare.specs.Prepare.{preparedSays, prepareRows, Ended, prepareOf, preparedOf}
 use Rattle.draw.specs.Draw.{drawRows, drawnSays, drawOf}
 use Rattle.draw.proofs.Tables.{draw-ready}
 use Rattle.header.specs.Header.{headerBytes}

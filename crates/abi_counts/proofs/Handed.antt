@@ -3,9 +3,9 @@
 use Prim.Native.Nat.{ℕ}
 use mathlib.Core.List.{List}
 use mathlib.Core.Path.{_≡_, refl}
-use Rattle.counts.specs.declared.Counted.{Counted}
-use Rattle.counts.specs.declared.Counted.the-variants as Counted
-use Rattle.counts.specs.Counts.{Tallied, counted, countedSays}
+use Rattle.counting.specs.declared.Counted.{Counted}
+use Rattle.counting.specs.declared.Counted.the-variants as Counted
+use Rattle.counting.specs.Counting.{Tallied, counted, countedSays}
 use Rattle.abi_counts.specs.Flat.{countedAs, flatCounted}
 
 pub counted-done : {a : Counted} {cs : List ℕ} (t : Tallied) → counted a cs ≡ t → a ≡ Counted.Done → countedAs 0 cs ≡ flatCounted t

@@ -5,7 +5,7 @@ use Prim.Native.Nat.{ℕ}
 use mathlib.Core.List.{List}
 use Rattle.limit.specs.declared.Clip.the-variants.{Off}
 use Rattle.settings.specs.declared.Settings.{Settings}
-use Rattle.counts.specs.Counts.{Tallied, countedSays}
+use Rattle.counting.specs.Counting.{Tallied, countedSays}
 use Rattle.flat.specs.Flat.{returned}
 
 -- "Counting .. never looks at the clip": the settings of five arguments, with clip off

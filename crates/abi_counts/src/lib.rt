@@ -1,10 +1,11 @@
 // Counting and mapping for C: numbers and slices in, 0 or the refusal's number out.
 ghost use mathlib.Core.Path.{_≡_};
-ghost use Rattle.counts.specs.Counts.{countOf, mapOf};
+ghost use Rattle.counting.specs.Counting.{countOf};
+ghost use Rattle.counts.specs.Counts.{mapOf};
 ghost use Rattle.flat.specs.Flat.{settingsFrom};
 ghost use Rattle.flat.specs.Films.{footed, preparedAs, flatPrepared};
 ghost use Rattle.abi_counts.specs.Flat.{unclipped, countedAs, flatCounted};
-use counts::Counted;
+use counting::Counted;
 use limit::Clip;
 use prepare::Prepared;
 use settings::Settings;
@@ -32,7 +33,7 @@ pub extern "C" fn tz_count(
         max,
         clip: Clip::Off,
     };
-    let answer = counts::count_tiles(width, height, picture, s, counts);
+    let answer = counting::count_tiles(width, height, picture, s, counts);
     match answer {
         Counted::Done => 0,
         Counted::Refused(number) => number,

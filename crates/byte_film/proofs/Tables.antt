@@ -15,8 +15,10 @@ use Rattle.scan.specs.Scan.{within}
 use Rattle.scan.proofs.Spans.{within-both}
 use Rattle.settings.specs.declared.Settings.{Settings}
 use Rattle.settings.specs.Settings.{clipOne, sharedRows}
-use Rattle.prepare.specs.Prepare.{workRows, prepareRows, FilmAsks}
-use Rattle.prepare.proofs.Table.{table-shared, table-work, work, film-asks}
+use Rattle.tiles.specs.Tiles.{FilmAsks}
+use Rattle.prepare.specs.Prepare.{workRows, prepareRows}
+use Rattle.tiles.proofs.Footers.{film-asks}
+use Rattle.prepare.proofs.Table.{table-shared, table-work, work}
 use Rattle.profile.specs.Profile.{profileRows, byteRows, Profile}
 use Rattle.profile.proofs.Profile.{byte-numbered, byte-ready, byte-inside, profile-none}
 use Rattle.byte_film.specs.Bytes.{bytePrepareRows, ByteWork, ByteTilesAsk}

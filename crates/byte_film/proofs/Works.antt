@@ -10,10 +10,10 @@ use Rattle.tally.specs.declared.Rect.{Rect}
 use Rattle.settings.specs.declared.Settings.{Settings}
 use Rattle.settings.specs.Settings.{binsOf, Ready}
 use Rattle.render.specs.Render.{whole}
-use Rattle.prepare.specs.Prepare.{tileOf, TilesAsk, TileAsks, TilesDone}
-use Rattle.prepare.proofs.Tiles.{tile-inside}
-use Rattle.prepare.proofs.Films.{tile-asks}
-use Rattle.prepare.proofs.Turns.{Laid, laid-length}
+use Rattle.tiles.specs.Tiles.{tileOf, TilesAsk, TileAsks, TilesDone}
+use Rattle.tiles.proofs.Tiles.{tile-inside}
+use Rattle.tiles.proofs.Films.{tile-asks}
+use Rattle.tiles.proofs.Turns.{Laid, laid-length}
 use Rattle.prepare.proofs.Renders.{asks-render}
 use Rattle.byte_tile.specs.ByteTile as tile
 use Rattle.byte_render.specs.Bytes.{FromAsks}

@@ -12,7 +12,8 @@ use Rattle.settings.specs.declared.Settings.{Settings}
 use Rattle.settings.specs.Settings.{binsOf, clipOne}
 use Rattle.prepare.specs.declared.Prepared.the-variants as Prepared
 use Rattle.prepare.specs.declared.Enhanced.the-variants as Enhanced
-use Rattle.prepare.specs.Prepare.{tileMap, mappings, workRows, Ended, ending, preparedOf, Over, overing, enhancedOf, Work}
+use Rattle.tiles.specs.Tiles.{tileMap, mappings, Work}
+use Rattle.prepare.specs.Prepare.{workRows, Ended, ending, preparedOf, Over, overing, enhancedOf}
 use Rattle.profile.specs.Profile.{byteRows, Profile}
 
 -- "1 to 10 as they stand, then 30 .., then 11 and on as in the wide call"; 31 stands behind 9

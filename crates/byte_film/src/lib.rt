@@ -2,7 +2,8 @@
 ghost use mathlib.Core.Path.{_≡_};
 ghost use lib.ListN.{length};
 ghost use Rattle.refuse.specs.Refuse.{first};
-ghost use Rattle.prepare.specs.Prepare.{ending, overing, TileDone, TilesDone};
+ghost use Rattle.tiles.specs.Tiles.{TileDone, TilesDone};
+ghost use Rattle.prepare.specs.Prepare.{ending, overing};
 ghost use Rattle.byte_film.specs.Bytes.{bytePrepareRows, bytePrepareOf, byteEnhanceOf, ByteTilesAsk, ByteTileAsks};
 use prepare::Enhanced;
 use prepare::Prepared;
@@ -37,7 +38,7 @@ fn map_tile(
     requires { ⌜ ByteTileAsks width height (now picture) s k (length (now map)) (length (now scratch)) ⌝ }
     ensures { λ _. ⌜ TileDone width height (now (picture .entry)) s k (now (map .entry)) (now (map .exit)) (now (scratch .entry)) (now (scratch .exit)) ⌝ }
 {
-    let rect = prepare::tile_rect(width, height, s.across, s.down, k);
+    let rect = tiles::tile_rect(width, height, s.across, s.down, k);
     let clip = s.clip;
     let bins = settings::bins(s);
     let each = bins as usize;
@@ -95,7 +96,7 @@ pub fn prepare_bytes(
         return Prepared::Refused(refused);
     }
     let clip = s.clip;
-    let foot = prepare::foot(width, height, s);
+    let foot = tiles::foot(width, height, s);
     let kept = settings::kept(s);
     let record = MapRecord {
         film,
@@ -126,7 +127,7 @@ pub fn enhance_bytes(
         return Enhanced::Refused(refused);
     }
     let clip = s.clip;
-    let foot = prepare::foot(width, height, s);
+    let foot = tiles::foot(width, height, s);
     let unchanged = settings::clip_one(clip);
     if unchanged {
         return Enhanced::Done(foot);

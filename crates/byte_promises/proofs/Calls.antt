@@ -13,7 +13,8 @@ use Rattle.tile.specs.Tile.{mappedOf}
 use Rattle.settings.specs.declared.MapRecord.{MapRecord}
 use Rattle.settings.specs.declared.Footer.{Footer}
 use Rattle.settings.specs.Settings.{binsOf, entriesOf, keptOf, recordOf, clipOne}
-use Rattle.prepare.specs.Prepare.{pixelsIn, preparedSays, enhancedSays, Ended, ending, prepareOf, Over, overing, enhanceOf}
+use Rattle.tiles.specs.Tiles.{pixelsIn}
+use Rattle.prepare.specs.Prepare.{preparedSays, enhancedSays, Ended, ending, prepareOf, Over, overing, enhanceOf}
 use Rattle.prepare.proofs.Like.{enhance-kept}
 use Rattle.draw.specs.Draw.{drawnSays, Shows, showing, drawOf, Held, DrawReady}
 use Rattle.draw.proofs.Tables.{draw-ready}

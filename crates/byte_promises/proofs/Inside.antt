@@ -15,7 +15,8 @@ use Rattle.settings.specs.Settings.{recordOf, sharedRows}
 use Rattle.settings.proofs.Ready.{shared-numbered}
 use Rattle.prepare.specs.declared.Prepared.the-variants as Prepared
 use Rattle.prepare.specs.declared.Enhanced.the-variants as Enhanced
-use Rattle.prepare.specs.Prepare.{footOf, preparedSays, enhancedSays, Ended, ending, preparedOf, prepareOf, Over, overing, enhancedOf, enhanceOf}
+use Rattle.tiles.specs.Tiles.{footOf}
+use Rattle.prepare.specs.Prepare.{preparedSays, enhancedSays, Ended, ending, preparedOf, prepareOf, Over, overing, enhancedOf, enhanceOf}
 use Rattle.draw.specs.declared.Drawn.the-variants as Drawn
 use Rattle.draw.specs.Draw.{recordRows, windowRows, pixelRows, drawRows, drawnPixels, drawnSays, Shows, showing, drawOf}
 use Rattle.draw.proofs.Tables.{draw-rows}

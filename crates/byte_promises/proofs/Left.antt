@@ -18,9 +18,10 @@ use Rattle.settings.specs.Settings.{clipOne}
 use Rattle.tally.specs.Tally.{greysOf}
 use Rattle.render.specs.Render.{renderOf, rectOf, whole}
 use Rattle.render.proofs.Laws.{render-within}
-use Rattle.prepare.specs.Prepare.{mappings, prepareRows, Ended, ending, preparedOf, prepareOf, Over, enhancedOf, enhanceOf, Work, TilesAsk}
+use Rattle.tiles.specs.Tiles.{mappings, Work, TilesAsk}
+use Rattle.prepare.specs.Prepare.{prepareRows, Ended, ending, preparedOf, prepareOf, Over, enhancedOf, enhanceOf}
 use Rattle.prepare.proofs.Table.{work}
-use Rattle.prepare.proofs.Films.{mappings-within}
+use Rattle.tiles.proofs.Films.{mappings-within}
 use Rattle.prepare.proofs.Renders.{whole-shown, laid-mapped, laid-render}
 use Rattle.draw.specs.Draw.{drawRows, Shows, drawOf, DrawReady}
 use Rattle.draw.proofs.Tables.{draw-ready}

@@ -10,7 +10,8 @@ use lib.ListN.{length}
 use Rattle.lists.specs.Lists.{all}
 use Rattle.refuse.specs.Refuse.{first, refused, says}
 use Rattle.settings.specs.Settings.{recordOf, settingRows}
-use Rattle.prepare.specs.Prepare.{preparedSays, enhancedSays, footOf, Ended, Over}
+use Rattle.tiles.specs.Tiles.{footOf}
+use Rattle.prepare.specs.Prepare.{preparedSays, enhancedSays, Ended, Over}
 use Rattle.draw.specs.Draw.{drawnSays, Shows}
 use Rattle.narrow.specs.Narrow.{isByte}
 use Rattle.profile.specs.Profile.{profileRows}

@@ -1,6 +1,6 @@
 // The films and the mappings: counting, mapping and, beside them, prepare.
 use crate::words;
-use counts::Counted;
+use counting::Counted;
 use filmset::column;
 use filmset::digest;
 use filmset::kept;
@@ -59,7 +59,7 @@ fn counted_number(c: Counted) -> u32 {
 fn call_count(row: Row, picture: &[u16], lent: &mut [u32]) -> u32 {
     let t = kept::made(row);
     let s: Settings = kept::settings(t);
-    let answer: Counted = counts::count_tiles(t.width, t.height, picture, s, lent);
+    let answer: Counted = counting::count_tiles(t.width, t.height, picture, s, lent);
     counted_number(answer)
 }
 

@@ -9,7 +9,8 @@ use Rattle.refuse.specs.Refuse.{accepted}
 use Rattle.settings.specs.declared.MapRecord.{MapRecord}
 use Rattle.settings.specs.declared.Footer.{Footer}
 use Rattle.settings.specs.Settings.{binsOf}
-use Rattle.prepare.specs.Prepare.{pixelsIn, preparedSays, Ended, ending, prepareOf}
+use Rattle.tiles.specs.Tiles.{pixelsIn}
+use Rattle.prepare.specs.Prepare.{preparedSays, Ended, ending, prepareOf}
 use Rattle.promises.specs.Films.{ClippingOn, FooterShows, FilmSound}
 use Rattle.promises.proofs.Demand3.{tiles-sound, footer-shows}
 use Rattle.count_promises.proofs.Runs.{MapCall, Maps, map-ends}

@@ -13,13 +13,17 @@ use Rattle.refuse.specs.Refuse.{first, refused, accepted, says}
 use Rattle.settings.specs.declared.Settings.{Settings}
 use Rattle.settings.specs.Settings.{entriesOf, keptOf, recordOf}
 use Rattle.prepare.specs.declared.Prepared.the-variants as Prepared
-use Rattle.prepare.specs.Prepare.{preparedSays, footOf, Ended, ending}
-use Rattle.counts.specs.declared.Counted.the-variants as Counted
-use Rattle.counts.specs.Counts.{rawCounts, countings, countsIn, countRows, mapRows, countedSays, Tallied, counted, countOf, mapDoneOf, mapOf, Alike}
-use Rattle.counts.proofs.Tables.{count-never-10}
-use Rattle.counts.proofs.Endings.{count-refused, count-well, map-refused, map-done}
-use Rattle.counts.proofs.Mapped.{length-countings, own-counts}
-use Rattle.counts.proofs.Like.{count-alike, map-kept, map-taken}
+use Rattle.tiles.specs.Tiles.{footOf}
+use Rattle.prepare.specs.Prepare.{preparedSays, Ended, ending}
+use Rattle.counting.specs.declared.Counted.the-variants as Counted
+use Rattle.counting.specs.Counting.{rawCounts, countings, countsIn, countRows, countedSays, Tallied, counted, countOf, Alike}
+use Rattle.counts.specs.Counts.{mapRows, mapDoneOf, mapOf}
+use Rattle.counting.proofs.Tables.{count-never-10}
+use Rattle.counting.proofs.Endings.{count-refused, count-well}
+use Rattle.counts.proofs.Endings.{map-refused, map-done}
+use Rattle.counting.proofs.Tiles.{length-countings, own-counts}
+use Rattle.counting.proofs.Like.{count-alike}
+use Rattle.counts.proofs.Like.{map-kept, map-taken}
 use Rattle.promises.proofs.Accepted.{says-refused, ByTable, table-says, table-done, table-kept}
 use Rattle.count_promises.proofs.Runs.{CountCall, Counts, count-given, count-ends, MapCall, Maps, map-given, map-read, map-ends}
 

@@ -11,10 +11,11 @@ use Rattle.settings.specs.declared.Settings.{Settings}
 use Rattle.settings.specs.Settings.{entriesOf, keptOf}
 use Rattle.prepare.specs.declared.Prepared.{Prepared}
 use Rattle.prepare.specs.Prepare.{ending}
-use Rattle.counts.specs.declared.Counted.{Counted}
-use Rattle.counts.specs.Counts.{counted, countOf, mapOf}
-use Rattle.counts.proofs.count_tiles.Kinds as count
-use Rattle.counts.proofs.count_tiles.Reads as count-reads
+use Rattle.counting.specs.declared.Counted.{Counted}
+use Rattle.counting.specs.Counting.{counted, countOf}
+use Rattle.counts.specs.Counts.{mapOf}
+use Rattle.counting.proofs.count_tiles.Kinds as count
+use Rattle.counting.proofs.count_tiles.Reads as count-reads
 use Rattle.counts.proofs.map_counts.Kinds as map
 use Rattle.counts.proofs.map_counts.Reads as map-reads
 

@@ -13,9 +13,10 @@ use Rattle.settings.specs.declared.MapRecord.{MapRecord}
 use Rattle.settings.specs.declared.Footer.{Footer}
 use Rattle.settings.specs.Settings.{entriesOf}
 use Rattle.prepare.specs.Prepare.{preparedSays, Ended, ending, prepareOf}
-use Rattle.counts.specs.Counts.{countings, countRows, countedSays, mapOf, Alike, withClip}
+use Rattle.counting.specs.Counting.{countings, countRows, countedSays, Alike, withClip}
+use Rattle.counts.specs.Counts.{mapOf}
 use Rattle.counts.proofs.Mapped.{mapped-as-prepared, prepared-counts}
-use Rattle.counts.proofs.Like.{rows-alike, countings-alike, clip-alike}
+use Rattle.counting.proofs.Like.{rows-alike, countings-alike, clip-alike}
 use Rattle.promises.proofs.Accepted.{says-accepted, prepare-accepts}
 use Rattle.promises.proofs.Runs.{PrepareCall, Prepares, prepare-given, prepare-ends}
 use Rattle.count_promises.proofs.Runs.{CountCall, Counts, MapCall, Maps, map-given, map-ends}

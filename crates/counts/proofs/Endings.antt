@@ -1,27 +1,22 @@
--- How counting and mapping end: refused, at the factor 1.0, or with counts or mappings laid down.
+-- How mapping ends: refused, at the factor 1.0, or with the mappings laid down.
 -- Assumes nothing.
 use Prim.Native.Nat.{ℕ}
 use mathlib.Core.Bool.{Bool, true, false}
 use mathlib.Core.List.{List}
 use mathlib.Core.Path.{_≡_, refl, sym, ap, _∙_}
 use lib.ListN.{length}
-use Rattle.lists.specs.Lists.{onto}
 use Rattle.refuse.specs.Refuse.{first, unless}
 use Rattle.refuse.proofs.Walk.{unless-refused}
 use Rattle.settings.specs.declared.Settings.{Settings}
 use Rattle.settings.specs.declared.Footer.{Footer}
 use Rattle.settings.specs.Settings.{keptOf, clipOne}
+use Rattle.tiles.specs.Tiles.{footOf, FilmAsks}
 use Rattle.prepare.specs.declared.Prepared.the-variants as Prepared
-use Rattle.prepare.specs.Prepare.{footOf, ending, FilmAsks}
-use Rattle.counts.specs.declared.Counted.the-variants as Counted
-use Rattle.counts.specs.Counts.{countings, countRows, mapRows, counted, countDoneOf, countOf, mapDoneOf, mapOf, CountsAsk, MapsAsk, AllMapped}
-use Rattle.counts.proofs.Tables.{count-ready, map-ready}
+use Rattle.prepare.specs.Prepare.{ending}
+use Rattle.counts.specs.Counts.{mapRows, mapDoneOf, mapOf, MapsAsk, AllMapped}
+use Rattle.counts.proofs.Tables.{map-ready}
 
 -- ---- what the work asks, once none of the rows applies
-
--- counting
-pub asks-count : (w h : ℕ) (pic : List ℕ) (s : Settings) (size : ℕ) {r : ℕ} → r ≡ first (countRows w h pic s size) → r ≡ 0 → CountsAsk w h pic s size
-asks-count w h pic s size e z = count-ready w h pic s size (sym e ∙ z)
 
 module _ (w h : ℕ) (s : Settings) (cs : List ℕ) (room scratch : ℕ) {r : ℕ} (e : r ≡ first (mapRows w h s cs room scratch)) (z : r ≡ 0) where
   -- mapping
@@ -31,26 +26,6 @@ module _ (w h : ℕ) (s : Settings) (cs : List ℕ) (room scratch : ℕ) {r : �
   -- and the footer
   pub asks-foot : FilmAsks w h s
   asks-foot = record { tiled = asks-maps .tiled; fair = asks-maps .fair }
-
--- ---- how counting ends
-
-module _ (w h : ℕ) (pic : List ℕ) (s : Settings) (cs : List ℕ) where
-  -- a refusal, as it was worked out
-  pub count-refused : {r : ℕ} → r ≡ first (countRows w h pic s (length cs)) → (r ≡ 0 → ⊥) → counted (Counted.Refused r) cs ≡ countOf w h pic s cs
-  unfolding countOf
-  count-refused {r} e z =
-      unless-refused r (λ n. counted (Counted.Refused n) cs) (countDoneOf w h pic s cs) z
-      ∙ ap (λ k. unless k (λ n. counted (Counted.Refused n) cs) (countDoneOf w h pic s cs)) e
-
-  -- no refusal
-  pub count-done : {r : ℕ} → r ≡ first (countRows w h pic s (length cs)) → r ≡ 0 → countDoneOf w h pic s cs ≡ countOf w h pic s cs
-  unfolding countOf
-  count-done e z = ap (λ k. unless k (λ n. counted (Counted.Refused n) cs) (countDoneOf w h pic s cs)) (sym z ∙ e)
-
-  -- the counts are laid down
-  pub count-well : {r : ℕ} {c : List ℕ} → r ≡ first (countRows w h pic s (length cs)) → r ≡ 0 → c ≡ onto cs (countings w h pic s) → counted Counted.Done c ≡ countOf w h pic s cs
-  unfolding countDoneOf
-  count-well e z q = ap (counted Counted.Done) q ∙ count-done e z
 
 -- ---- how mapping ends
 

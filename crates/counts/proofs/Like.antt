@@ -1,5 +1,4 @@
--- What counting and mapping look at of what they are handed: counting not at the clip setting, both at bins 0 as 128, mapping of the counts only at an entry for each
--- bin of each tile.
+-- What mapping looks at of what it is handed: bins 0 as 128, and of the counts only an entry for each bin of each tile.
 -- Assumes nothing.
 use Prim.Native.Nat.{ℕ, _*_, _<_}
 use mathlib.Core.List.{List, _++_}
@@ -8,48 +7,20 @@ use native.Mathlib.Omega.{arith}
 use lib.Dec.{eqb}
 use lib.ListN.{length, take}
 use lib.Seq.{take-take}
-use Rattle.lists.specs.Lists.{joined, total}
+use Rattle.lists.specs.Lists.{total}
 use Rattle.lists.proofs.Tabs.{every-cong}
 use Rattle.lists.proofs.Fills.{joined-cong}
-use Rattle.lists.proofs.Windows.{block-front, front-short}
-use Rattle.limit.specs.declared.Clip.{Clip}
+use Rattle.lists.proofs.Windows.{block-front}
 use Rattle.tile.specs.Tile.{countsMapping}
 use Rattle.settings.specs.declared.Settings.{Settings}
 use Rattle.settings.specs.Settings.{binsOf, entriesOf, keptOf, sideRows}
 use Rattle.settings.proofs.Like.{bins-kept, grid-kept, range-kept, clip-kept, room-kept}
-use Rattle.settings.proofs.Parts.{grey-parts, bins-alike, grid-alike, range-alike}
-use Rattle.prepare.specs.Prepare.{pixelsIn}
-use Rattle.prepare.proofs.Like.{foot-kept}
-use Rattle.counts.specs.Counts.{rawCounts, countings, countsIn, addsUp, mappingsFrom, countsRows, outsideRows, pictureRows, countRows, tilingRows, lentRows, sumRows, mapRows, countDoneOf, countOf, mapDoneOf, mapOf, Alike, withClip}
-
--- ---- counting does not look at the clip setting
-
-module _ (w h : ℕ) (pic : List ℕ) {s s′ : Settings} (like : Alike s s′) where
-  -- its rows are the same
-  pub rows-alike : (size : ℕ) → countRows w h pic s size ≡ countRows w h pic s′ size
-  unfolding countRows pictureRows countsRows outsideRows
-  rows-alike size =
-      rw (grid-alike w h s s′ (like .across) (like .down), range-alike s s′ (like .bins) (like .min) (like .max), like .bins, like .across, like .down, like .min, like .max) refl
-
-  -- and the counts
-  pub countings-alike : countings w h pic s ≡ countings w h pic s′
-  unfolding countings
-  countings-alike =
-      ap₂ (λ x y. joined (x * y) (rawCounts w h pic s)) (like .across) (like .down)
-      ∙ joined-cong (s′ .across * s′ .down) (λ k l. rw (like .bins, like .across, like .down, like .min, like .max) refl)
-
-  -- so it answers and leaves the same
-  pub count-alike : (cs : List ℕ) → countOf w h pic s cs ≡ countOf w h pic s′ cs
-  unfolding countOf countDoneOf
-  count-alike cs = rw (rows-alike (length cs), countings-alike) refl
-
--- settings that differ in the factor alone
-pub clip-alike : (s : Settings) (f : Clip) → Alike s (withClip s f)
-clip-alike s f = record { across = refl; down = refl; bins = bins-alike s (withClip s f) refl; min = refl; max = refl }
-
--- and in bins 0 and 128: "Bins B: 2 to 4096. 0 means 128."
-pub kept-alike : (s : Settings) → Alike (keptOf s) s
-kept-alike s = record { across = refl; down = refl; bins = bins-kept s; min = refl; max = refl }
+use Rattle.settings.proofs.Parts.{grey-parts}
+use Rattle.tiles.specs.Tiles.{pixelsIn}
+use Rattle.tiles.proofs.Like.{foot-kept}
+use Rattle.counting.specs.Counting.{countsIn}
+use Rattle.counting.proofs.Like.{counts-kept, counts-front}
+use Rattle.counts.specs.Counts.{addsUp, mappingsFrom, tilingRows, lentRows, sumRows, mapRows, mapDoneOf, mapOf}
 
 -- ---- mapping with bins 0 kept as 128
 
@@ -60,8 +31,8 @@ tiling-kept w h s =
     ap₂ (λ a b. sideRows w h ++ (a ++ b)) (grid-kept w h s) (grey-parts (keptOf s) ∙ ap₂ (λ a b. a ++ b) (range-kept s) (clip-kept s) ∙ sym (grey-parts s))
 
 lent-kept : (s : Settings) (room scratch size : ℕ) → lentRows (keptOf s) room scratch size ≡ lentRows s room scratch size
-unfolding lentRows countsRows
-lent-kept s room scratch size = rw (room-kept s room, bins-kept s) refl
+unfolding lentRows
+lent-kept s room scratch size = rw (room-kept s room, counts-kept s size, bins-kept s) refl
 
 sums-kept : (w h : ℕ) (s : Settings) (cs : List ℕ) → addsUp w h (keptOf s) cs ≡ addsUp w h s cs
 unfolding addsUp
@@ -92,8 +63,8 @@ module _ (w h : ℕ) (s : Settings) (a b : List ℕ) (front : take (entriesOf s)
 
   -- the rows are met alike
   rows-front : (room scratch : ℕ) → mapRows w h s a room scratch ≡ mapRows w h s b room scratch
-  unfolding mapRows lentRows countsRows sumRows
-  rows-front room scratch = rw (front-short (entriesOf s) a b front, sums-front) refl
+  unfolding mapRows lentRows sumRows
+  rows-front room scratch = rw (counts-front s a b front, sums-front) refl
 
   -- and the mappings are the same
   mappings-front : mappingsFrom w h s a ≡ mappingsFrom w h s b

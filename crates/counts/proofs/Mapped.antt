@@ -1,7 +1,7 @@
 -- Order 5: "counting then mapping with factor f gives prepare's mappings, record and footer for f". Of the counts that counting left, mapping answers and leaves
 -- what prepare does of the film, for every film number, clip setting, map buffer and scratch, refusals too.
 -- Assumes nothing.
-use Prim.Native.Nat.{ℕ, zero, suc, _*_, _≤_, _<_}
+use Prim.Native.Nat.{ℕ, zero, suc, _*_, _≤_}
 use mathlib.Core.Bool.{Bool, true, false, cond}
 use mathlib.Core.List.{List, _++_}
 use mathlib.Core.Path.{_≡_, refl, sym, ap, ap₂, _∙_}
@@ -11,37 +11,29 @@ use lib.ListN.{length}
 use borrow.Author.Tests.{eq-eqb, ltb-true, ltb-false}
 use Rattle.lists.specs.Lists.{total, onto}
 use Rattle.lists.proofs.Tabs.{every-all}
-use Rattle.lists.proofs.Fills.{length-joined, length-onto, joined-cong}
-use Rattle.lists.proofs.Windows.{block-joined}
+use Rattle.lists.proofs.Fills.{length-onto, joined-cong}
 use Rattle.refuse.specs.Refuse.{Row, first, unless, Numbered}
-use Rattle.refuse.proofs.Walk.{first-none, first-both, first-behind, first-front}
+use Rattle.refuse.proofs.Walk.{first-none, first-behind, first-front}
 use Rattle.tile.specs.Tile.{countsMapping}
 use Rattle.settings.specs.declared.Settings.{Settings}
 use Rattle.settings.specs.Settings.{binsOf, entriesOf, sideRows, sizeRows, gridRows, rangeRows, clipRows, greyRows, roomRows, settingRows, sharedRows}
 use Rattle.settings.proofs.Ready.{side-numbered, size-numbered, grid-numbered, range-numbered, setting-numbered, shared-numbered, shared-parts, shared-both}
 use Rattle.settings.proofs.Parts.{room-numbered, grey-parts, setting-parts, size-both, grey-both, setting-all}
-use Rattle.prepare.specs.Prepare.{pixelsIn, mappings, workRows, prepareRows, preparedOf, prepareOf}
+use Rattle.tiles.specs.Tiles.{pixelsIn, mappings}
+use Rattle.tiles.proofs.Films.{mappings-from}
+use Rattle.prepare.specs.Prepare.{workRows, prepareRows, preparedOf, prepareOf}
 use Rattle.prepare.proofs.Table.{table-parts, table-both, work, work-scratch, work-greys}
-use Rattle.prepare.proofs.Films.{mappings-from}
 use Rattle.prepare.proofs.Endings.{ends-refused, ends-done, prepared-as}
-use Rattle.counts.specs.Counts.{rawCounts, countings, countsIn, addsUp, mappingsFrom, countsRows, outsideRows, pictureRows, countRows, tilingRows, lentRows, sumRows, mapRows, mapDoneOf, mapOf, CountsAsk}
-use Rattle.counts.proofs.Tables.{counts-numbered, picture-numbered, tiling-numbered, lent-numbered, fits-counts, outside-row, sum-row, count-ready}
-use Rattle.counts.proofs.Tiles.{length-raw, raw-sum}
+use Rattle.counting.specs.Counting.{countings, countRows, CountsAsk}
+use Rattle.counting.proofs.Tables.{fits-counts, count-ready, count-parts, parts-count}
+use Rattle.counting.proofs.Tiles.{raw-sum, length-countings, own-counts}
+use Rattle.counts.specs.Counts.{addsUp, mappingsFrom, tilingRows, lentRows, sumRows, mapRows, mapDoneOf, mapOf}
+use Rattle.counts.proofs.Tables.{tiling-numbered, lent-numbered, sum-row}
 use Rattle.counts.proofs.Endings.{map-refused, map-done}
 
--- ---- the counts that counting left
+-- ---- mapping the counts that counting left
 
--- an entry for each bin of each tile
-pub length-countings : (w h : ℕ) (pic : List ℕ) (s : Settings) → length (countings w h pic s) ≡ entriesOf s
-unfolding countings
-length-countings w h pic s = length-joined (binsOf s) (s .across * s .down) (rawCounts w h pic s) (λ i l. length-raw w h pic s i)
-
--- tile k's are its own
-pub own-counts : (w h : ℕ) (pic : List ℕ) (s : Settings) (cs : List ℕ) {k : ℕ} → k < s .across * s .down → countsIn s (onto cs (countings w h pic s)) k ≡ rawCounts w h pic s k
-unfolding countings
-own-counts w h pic s cs l = block-joined (binsOf s) (s .across * s .down) (rawCounts w h pic s) cs (λ i q. length-raw w h pic s i) l
-
--- so mapping makes prepare's mappings of them
+-- mapping makes prepare's mappings of them
 pub own-mappings : (w h : ℕ) (pic : List ℕ) (s : Settings) (cs : List ℕ) → mappingsFrom w h s (onto cs (countings w h pic s)) ≡ mappings w h pic s
 unfolding mappingsFrom
 own-mappings w h pic s cs =
@@ -85,17 +77,11 @@ module _ (w h : ℕ) (pic : List ℕ) (s : Settings) (cs : List ℕ) (free : fir
   asks = count-ready w h pic s (length cs) free
 
   -- none of 1 to 9 and 31 applies
-  picture-free : first (pictureRows w h (length pic) s) ≡ 0
-  unfolding countRows
-  picture-free = first-both (pictureRows w h (length pic) s) _ (picture-numbered w h (length pic) s) free .0
-
   sizes-free : first (sizeRows w h (length pic)) ≡ 0
-  unfolding pictureRows
-  sizes-free = first-both (sizeRows w h (length pic)) _ (size-numbered w h (length pic)) picture-free .0
+  sizes-free = count-parts w h pic s (length cs) free .0
 
   rest-free : (first (gridRows w h s) ≡ 0) × (first (rangeRows s) ≡ 0)
-  unfolding pictureRows
-  rest-free = first-both (gridRows w h s) (rangeRows s) (grid-numbered w h s) (first-both (sizeRows w h (length pic)) _ (size-numbered w h (length pic)) picture-free .1)
+  rest-free = let parts = count-parts w h pic s (length cs) free in (parts .1, parts .2)
 
   -- so of 7 to 9, 31 and 10 only 10 is left
   greys-left : first (greyRows s) ≡ first (clipRows s)
@@ -168,15 +154,9 @@ module _ (w h : ℕ) (pic : List ℕ) (s : Settings) (cs : List ℕ) (free : fir
 -- counting accepts it
 pub prepared-counts : (w h : ℕ) (pic : List ℕ) (s : Settings) (room scratch size : ℕ) → first (prepareRows w h pic s room scratch) ≡ 0 → entriesOf s ≤ size
     → first (countRows w h pic s size) ≡ 0
-unfolding countRows pictureRows
 prepared-counts w h pic s room scratch size e l =
     let parts = setting-all w h (length pic) s (shared-both w h (length pic) s room (table-both w h pic s room scratch e .0) .0) in
-    first-or (pictureRows w h (length pic) s) (countsRows s size ++ outsideRows pic s) (picture-numbered w h (length pic) s)
-    ∙ ap₂ (λ n m. n or m)
-    (first-or (sizeRows w h (length pic)) (gridRows w h s ++ rangeRows s) (size-numbered w h (length pic))
-    ∙ ap₂ (λ n m. n or m) (parts .0) (first-or (gridRows w h s) (rangeRows s) (grid-numbered w h s) ∙ ap₂ (λ n m. n or m) (parts .1) (grey-both s (parts .2) .0)))
-    (first-or (countsRows s size) (outsideRows pic s) (counts-numbered s size)
-    ∙ ap₂ (λ n m. n or m) (fits-counts s size l) (sym (outside-row pic s true (sym (work w h pic s room scratch e .greys)))))
+    parts-count w h pic s size (parts .0) (parts .1) (grey-both s (parts .2) .0) l (work w h pic s room scratch e .greys)
 
 -- and counting then mapping is prepare
 pub mapped-is-prepared : (film w h : ℕ) (pic : List ℕ) (s : Settings) (cs m t : List ℕ) → first (prepareRows w h pic s (length m) (length t)) ≡ 0 → entriesOf s ≤ length cs

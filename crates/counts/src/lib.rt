@@ -1,119 +1,17 @@
-// Prepare in two calls: counting, which fills a lent buffer with each tile's raw counts, and mapping, which makes mappings and footer from such counts,
-// so that a new factor asks no new count.
+// Mapping: the mappings and the footer of a film from the counts of its tiles, so that a new factor asks no new count.
 ghost use mathlib.Core.Path.{_≡_};
 ghost use Prim.Native.Nat.{_*_, _≤_};
 ghost use lib.Dec.{eqb};
 ghost use lib.ListN.{length, take, drop};
-ghost use Rattle.lists.specs.Lists.{total, onto, over};
+ghost use Rattle.lists.specs.Lists.{total, onto};
 ghost use Rattle.refuse.specs.Refuse.{first};
-ghost use Rattle.settings.specs.Settings.{binsOf};
-ghost use Rattle.prepare.specs.Prepare.{pixelsIn, ending};
-ghost use Rattle.counts.specs.Counts.{rawCounts, countings, countsIn, addsUp, countsRows, pictureRows, countRows, tilingRows, lentRows, mapRows, counted, countOf, mapOf, LentAsks, SumsAsk, SumAsks, CountsAsk, CountAsks, MapsAsk, MapAsks, CopyAsks, OneMapped, AllMapped};
+ghost use Rattle.tiles.specs.Tiles.{pixelsIn};
+ghost use Rattle.prepare.specs.Prepare.{ending};
+ghost use Rattle.counting.specs.Counting.{countsIn, LentAsks};
+ghost use Rattle.counts.specs.Counts.{addsUp, tilingRows, lentRows, mapRows, mapOf, SumsAsk, SumAsks, MapsAsk, MapAsks, CopyAsks, OneMapped, AllMapped};
 use prepare::Prepared;
 use settings::MapRecord;
 use settings::Settings;
-
-// What counting answers: done, or the refusal's number alone.
-pub enum Counted {
-    Done,
-    Refused(u32),
-}
-
-// Refusal 33, where it applies, else 0: the counts take as many entries as the mappings.
-fn counts_refusal(s: Settings, size: usize) -> u32
-    requires { ⌜ LentAsks s ⌝ }
-    ensures { λ r. ⌜ r ≡ first (countsRows s size) ⌝ }
-{
-    if settings::room_refusal(s, size) != 0 {
-        return 33;
-    }
-    0
-}
-
-// The first of the refusals 1 to 9 and 31 that applies, else 0.
-fn picture_refusal(width: u32, height: u32, size: usize, s: Settings) -> u32
-    ensures { λ r. ⌜ r ≡ first (pictureRows width height size s) ⌝ }
-{
-    let sizes = settings::size_refusal(width, height, size);
-    if sizes != 0 {
-        return sizes;
-    }
-    let grid = settings::grid_refusal(width, height, s);
-    if grid != 0 {
-        return grid;
-    }
-    settings::range_refusal(s)
-}
-
-// The first of counting's refusals that applies, else 0. The clip setting plays no part.
-fn count_refusal(width: u32, height: u32, picture: &[u16], s: Settings, size: usize) -> u32
-    ensures { λ r. ⌜ r ≡ first (countRows width height (now (picture .entry)) s size) ⌝ }
-{
-    let early = picture_refusal(width, height, picture.len(), s);
-    if early != 0 {
-        return early;
-    }
-    let short = counts_refusal(s, size);
-    if short != 0 {
-        return short;
-    }
-    if !scan::all_within(picture, s.min, s.max) {
-        return 13;
-    }
-    0
-}
-
-// Counts tile k, in its place among the counts.
-fn count_tile(picture: &[u16], width: u32, height: u32, s: Settings, k: usize, counts: &mut [u32])
-    requires { ⌜ CountAsks width height (now picture) s k (length (now counts)) ⌝ }
-    ensures { λ _. ⌜ now (counts .exit) ≡ over (now (counts .entry)) (k * binsOf s) (rawCounts width height (now (picture .entry)) s k) ⌝ }
-{
-    let rect = prepare::tile_rect(width, height, s.across, s.down, k);
-    let bins = settings::bins(s);
-    let each = bins as usize;
-    let a = k * each;
-    let e = a + each;
-    tally::count(
-        picture,
-        width as usize,
-        rect,
-        s.min,
-        s.max,
-        bins,
-        &mut counts[a..e],
-    );
-}
-
-// Counts all tiles; entries behind the last keep their contents.
-fn count_all(picture: &[u16], width: u32, height: u32, s: Settings, counts: &mut [u32])
-    requires { ⌜ CountsAsk width height (now picture) s (length (now counts)) ⌝ }
-    ensures { λ _. ⌜ now (counts .exit) ≡ onto (now (counts .entry)) (countings width height (now (picture .entry)) s) ⌝ }
-{
-    let tiles = (s.across * s.down) as usize;
-    let mut k = 0;
-    while k < tiles {
-        count_tile(picture, width, height, s, k, counts);
-        k += 1;
-    }
-}
-
-// Each tile's raw counts in the front of the lent counts, tiles row by row, bins upward.
-pub fn count_tiles(
-    width: u32,
-    height: u32,
-    picture: &[u16],
-    s: Settings,
-    counts: &mut [u32],
-) -> Counted
-    ensures { λ r. ⌜ counted r (now (counts .exit)) ≡ countOf width height (now (picture .entry)) s (now (counts .entry)) ⌝ }
-{
-    let refused = count_refusal(width, height, picture, s, counts.len());
-    if refused != 0 {
-        return Counted::Refused(refused);
-    }
-    count_all(picture, width, height, s, counts);
-    Counted::Done
-}
 
 // Whether counts add up to these pixels. The sum of 4096 counts of 32 bits does not wrap in 64.
 fn adds_up(counts: &[u32], pixels: u32) -> bool
@@ -134,7 +32,7 @@ fn tile_adds_up(width: u32, height: u32, s: Settings, k: usize, counts: &[u32]) 
     requires { ⌜ SumAsks width height s k (length (now counts)) ⌝ }
     ensures { λ r. ⌜ r ≡ eqb (total (countsIn s (now (counts .entry)) k)) (pixelsIn width height s k) ⌝ }
 {
-    let pixels = prepare::tile_pixels(width, height, s, k);
+    let pixels = tiles::tile_pixels(width, height, s, k);
     let each = settings::bins(s) as usize;
     let from = k * each;
     let to = from + each;
@@ -184,7 +82,7 @@ fn lent_refusal(s: Settings, room: usize, scratch: usize, size: usize) -> u32
     if scratch < (settings::bins(s) as usize) {
         return 12;
     }
-    counts_refusal(s, size)
+    counting::counts_refusal(s, size)
 }
 
 // The first of mapping's refusals that applies, else 0.
@@ -235,7 +133,7 @@ fn map_one(
     requires { ⌜ MapAsks width height s (now counts) k (length (now map)) (length (now scratch)) ⌝ }
     ensures { λ _. ⌜ OneMapped width height s (now (counts .entry)) k (now (map .entry)) (now (map .exit)) (now (scratch .entry)) (now (scratch .exit)) ⌝ }
 {
-    let pixels = prepare::tile_pixels(width, height, s, k);
+    let pixels = tiles::tile_pixels(width, height, s, k);
     let clip = s.clip;
     let each = settings::bins(s) as usize;
     let at = k * each;
@@ -290,7 +188,7 @@ pub fn map_counts(
         return Prepared::Refused(refused);
     }
     let clip = s.clip;
-    let foot = prepare::foot(width, height, s);
+    let foot = tiles::foot(width, height, s);
     let kept = settings::kept(s);
     let record = MapRecord {
         film,

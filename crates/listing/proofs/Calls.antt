@@ -35,10 +35,11 @@ use Rattle.pgm.proofs.Tables.{within-none, exact-none, grey-asks, read-header, 
 use Rattle.pgm.proofs.Laws.{read-asks}
 use Rattle.prepare.specs.declared.Prepared.{Prepared}
 use Rattle.prepare.specs.declared.Prepared.the-variants as Prepared
-use Rattle.prepare.specs.Prepare.{prepareRows, mappings, Ended, ending, preparedOf, prepareOf, TilesAsk}
-use Rattle.prepare.proofs.Footers.{foot-limit}
+use Rattle.tiles.specs.Tiles.{mappings, TilesAsk}
+use Rattle.prepare.specs.Prepare.{prepareRows, Ended, ending, preparedOf, prepareOf}
+use Rattle.tiles.proofs.Footers.{foot-limit}
 use Rattle.prepare.proofs.Table.{work}
-use Rattle.prepare.proofs.Films.{length-mappings}
+use Rattle.tiles.proofs.Films.{length-mappings}
 use Rattle.listing.specs.Listing.{two, settingsOf, limitFor, filmText, refusedText, isLarger, pictureText, readText, listingOf, textRows, listOf, laidOf}
 use Rattle.listing.specs.Asks.{Told, ListAsks}
 use Rattle.listing.proofs.Lines.{length-refused}

@@ -10,8 +10,8 @@ use Rattle.lists.specs.Lists.{joined, onto, over}
 use Rattle.lists.proofs.Fills.{joined-suc, over-zero}
 use Rattle.lists.proofs.Overs.{over-nil, over-over, onto-over}
 use Rattle.settings.specs.Settings.{binsOf}
-use Rattle.prepare.specs.Prepare.{tileMap}
-use Rattle.prepare.proofs.Films.{length-tile-map}
+use Rattle.tiles.specs.Tiles.{tileMap}
+use Rattle.tiles.proofs.Films.{length-tile-map}
 use Rattle.listing.specs.Listing.{settingsOf, limitFor, line, firstLine, excessFor, tileLine, filmText}
 use Rattle.listing.specs.Asks.{Laid, Told}
 use Rattle.listing.proofs.Lines.{length-line}

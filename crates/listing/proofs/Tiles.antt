@@ -17,9 +17,9 @@ use Rattle.tally.specs.declared.Rect.{Rect}
 use Rattle.tally.specs.Tally.{greysOf, countsOf, CountAsks}
 use Rattle.tally.proofs.Counts.{length-counts, total-counts}
 use Rattle.settings.specs.Settings.{binsOf, Ready}
-use Rattle.prepare.specs.Prepare.{tileOf, pixelsIn, tileMap, mappings, TilesAsk}
-use Rattle.prepare.proofs.Tiles.{tile-inside, length-tile-greys, tile-pixels-most, tile-pixels-film}
-use Rattle.prepare.proofs.Films.{tile-greys, length-tile-map, length-mappings, getD-mappings}
+use Rattle.tiles.specs.Tiles.{tileOf, pixelsIn, tileMap, mappings, TilesAsk}
+use Rattle.tiles.proofs.Tiles.{tile-inside, length-tile-greys, tile-pixels-most, tile-pixels-film}
+use Rattle.tiles.proofs.Films.{tile-greys, length-tile-map, length-mappings, getD-mappings}
 use Rattle.listing.specs.Listing.{two, settingsOf, limitFor, excessFor, tileLine, line}
 use Rattle.listing.specs.Asks.{tileFields}
 

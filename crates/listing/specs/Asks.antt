@@ -8,7 +8,7 @@ use lib.Dec.{ltb}
 use lib.ListN.{length, getD}
 use Rattle.lists.specs.Lists.{all, onto, over}
 use Rattle.pgm.specs.Pgm.{RasterAsks}
-use Rattle.prepare.specs.Prepare.{mappings, TilesAsk}
+use Rattle.tiles.specs.Tiles.{mappings, TilesAsk}
 use Rattle.listing.specs.Listing.{settingsOf, limitFor, line}
 
 -- a number of at most five digits

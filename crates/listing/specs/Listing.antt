@@ -20,7 +20,8 @@ use Rattle.samples.specs.Samples.{isWide, unpacked, noneAbove}
 use Rattle.pgm.specs.declared.Written.{Written}
 use Rattle.pgm.specs.declared.Written.the-variants as Written
 use Rattle.pgm.specs.Pgm.{readOf, Wrote, wrote}
-use Rattle.prepare.specs.Prepare.{tileOf, pixelsIn, tileMap, prepareRows}
+use Rattle.tiles.specs.Tiles.{tileOf, pixelsIn, tileMap}
+use Rattle.prepare.specs.Prepare.{prepareRows}
 
 -- "factor 2", as a float
 abbrev pub two : Float

@@ -90,7 +90,7 @@ fn tile_excess(
     requires { ⌜ ExcessAsks width height maxval (now film) limit k (length (now scratch)) ⌝ }
     ensures { λ r. ⌜ r ≡ excessFor width height maxval (now (film .entry)) k ⌝ }
 {
-    let rect = prepare::tile_rect(width, height, 2, 2, k);
+    let rect = tiles::tile_rect(width, height, 2, 2, k);
     tally::count(film, width as usize, rect, 0, maxval, 4, scratch);
     clip::excess(scratch, limit) as u32
 }

@@ -11,9 +11,11 @@ use Rattle.refuse.proofs.Walk.{unless-refused}
 use Rattle.settings.specs.declared.Settings.{Settings}
 use Rattle.settings.specs.declared.Footer.{Footer}
 use Rattle.settings.specs.Settings.{binsOf, keptOf, recordOf, clipOne}
+use Rattle.tiles.specs.Tiles.{mappings, footOf, FilmAsks, Work, TilesAsk, TilesDone}
+use Rattle.tiles.proofs.Footers.{film-asks}
 use Rattle.prepare.specs.declared.Prepared.the-variants as Prepared
-use Rattle.prepare.specs.Prepare.{mappings, prepareRows, footOf, Ended, ending, preparedOf, prepareOf, FilmAsks, Work, TilesAsk, TilesDone}
-use Rattle.prepare.proofs.Table.{work, film-asks}
+use Rattle.prepare.specs.Prepare.{prepareRows, Ended, ending, preparedOf, prepareOf}
+use Rattle.prepare.proofs.Table.{work}
 
 -- ---- what the work asks, once none of the rows applies
 

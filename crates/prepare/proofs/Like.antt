@@ -1,29 +1,17 @@
 -- "Bins B: 2 to 4096. 0 means 128.", for every input: with the settings as they are kept, prepare and enhance answer and leave the same.
 -- Assumes nothing.
-use Prim.Native.Nat.{ℕ, _*_}
+use Prim.Native.Nat.{ℕ}
 use mathlib.Core.List.{List}
-use mathlib.Core.Path.{_≡_, refl, ap}
+use mathlib.Core.Path.{_≡_, refl}
 use lib.ListN.{length}
-use Rattle.lists.specs.Lists.{joined}
-use Rattle.tally.specs.Tally.{greysOf}
-use Rattle.tile.specs.Tile.{tileMapping}
 use Rattle.settings.specs.declared.Settings.{Settings}
 use Rattle.settings.specs.Settings.{keptOf}
 use Rattle.settings.proofs.Like.{bins-kept, shared-kept}
 use Rattle.render.specs.Render.{whole}
 use Rattle.render.proofs.Laws.{render-kept}
-use Rattle.prepare.specs.Prepare.{tileOf, pixelsIn, tileMap, mappings, workRows, prepareRows, footerOf, footOf, prepareOf, preparedOf, enhanceOf, enhancedOf}
-
--- the mappings
-pub mappings-kept : (w h : ℕ) (pic : List ℕ) (s : Settings) → mappings w h pic (keptOf s) ≡ mappings w h pic s
-unfolding mappings tileMap
-mappings-kept w h pic s =
-    ap (λ b. joined (s .across * s .down) (λ k. tileMapping (s .min) (s .max) b (s .clip) (greysOf pic w (tileOf w h s k)))) (bins-kept s)
-
--- the footer
-pub foot-kept : (w h : ℕ) (s : Settings) → footOf w h (keptOf s) ≡ footOf w h s
-unfolding footOf
-foot-kept w h s = ap (footerOf (s .clip) (pixelsIn w h s 0)) (bins-kept s)
+use Rattle.tiles.specs.Tiles.{mappings}
+use Rattle.tiles.proofs.Like.{mappings-kept, foot-kept}
+use Rattle.prepare.specs.Prepare.{workRows, prepareRows, prepareOf, preparedOf, enhanceOf, enhancedOf}
 
 -- the rows 12 and 13
 pub work-kept : (pic : List ℕ) (s : Settings) (scratch : ℕ) → workRows pic (keptOf s) scratch ≡ workRows pic s scratch

@@ -18,9 +18,10 @@ use Rattle.settings.specs.declared.Footer.{Footer}
 use Rattle.settings.specs.Settings.{binsOf, entriesOf, clipOne, Ready}
 use Rattle.render.specs.Render.{renderOf, whole, Mapped, Shown}
 use Rattle.render.proofs.Laws.{render-front, ready-mapped}
+use Rattle.tiles.specs.Tiles.{mappings, footOf, Work, TilesAsk, TilesDone}
+use Rattle.tiles.proofs.Films.{length-mappings, mappings-within}
 use Rattle.prepare.specs.declared.Enhanced.the-variants as Enhanced
-use Rattle.prepare.specs.Prepare.{mappings, prepareRows, footOf, Over, overing, enhancedOf, enhanceOf, Work, TilesAsk, TilesDone}
-use Rattle.prepare.proofs.Films.{length-mappings, mappings-within}
+use Rattle.prepare.specs.Prepare.{prepareRows, Over, overing, enhancedOf, enhanceOf}
 use Rattle.prepare.proofs.Endings.{asks-tiles}
 
 -- ---- what rendering asks, once the mappings are laid down

@@ -14,25 +14,11 @@ use Rattle.refuse.proofs.Walk.{front, behind, first-none, first-never, first-bo
 use Rattle.lists.specs.Lists.{all}
 use Rattle.scan.specs.Scan.{within}
 use Rattle.settings.specs.declared.Settings.{Settings}
-use Rattle.settings.specs.Settings.{binsOf, entriesOf, sharedRows, Ready}
+use Rattle.settings.specs.Settings.{binsOf, entriesOf, sharedRows}
 use Rattle.settings.proofs.Ready.{ready, shared-numbers, shared-numbered, shared-room-any}
 use Rattle.settings.proofs.Reach.{shared-31}
-use Rattle.prepare.specs.Prepare.{pixelsIn, workRows, prepareRows, FilmAsks, FooterAsks, Work}
-use Rattle.prepare.proofs.Tiles.{tiles-some, tile-pixels-most}
-
--- a film of which no setting is refused has a footer
-pub footer-asks : {w h : ℕ} {s : Settings} {b : ℕ} → FilmAsks w h s → b ≡ binsOf s → FooterAsks (s .clip) (pixelsIn w h s 0) b
-footer-asks asks e =
-    record {
-      good = asks .fair;
-      pixels = tile-pixels-most (asks .tiled) (tiles-some (asks .tiled));
-      least = omega (arith, asks .tiled .bins);
-      most = omega (arith, asks .tiled .binsmost);
-    }
-
--- where none of the rows 1 to 11 and 31 applies, no setting is refused
-pub film-asks : {w h size : ℕ} {s : Settings} {room : ℕ} → Ready w h size s room → FilmAsks w h s
-film-asks known = record { tiled = known .tiled; fair = known .clip }
+use Rattle.tiles.specs.Tiles.{Work}
+use Rattle.prepare.specs.Prepare.{workRows, prepareRows}
 
 -- ---- 12 and 13
 

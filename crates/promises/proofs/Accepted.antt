@@ -16,7 +16,8 @@ use Rattle.settings.specs.Settings.{binsOf, recordOf, clipOne}
 use Rattle.render.specs.Render.{renderOf, rectOf}
 use Rattle.prepare.specs.declared.Prepared.the-variants as Prepared
 use Rattle.prepare.specs.declared.Enhanced.the-variants as Enhanced
-use Rattle.prepare.specs.Prepare.{prepareRows, preparedSays, enhancedSays, footOf, Ended, ending, preparedOf, prepareOf, Over, overing, enhancedOf, enhanceOf, Work}
+use Rattle.tiles.specs.Tiles.{footOf, Work}
+use Rattle.prepare.specs.Prepare.{prepareRows, preparedSays, enhancedSays, Ended, ending, preparedOf, prepareOf, Over, overing, enhancedOf, enhanceOf}
 use Rattle.prepare.proofs.Table.{work}
 use Rattle.prepare.proofs.Endings.{ends-refused, ends-done}
 use Rattle.prepare.proofs.Renders.{over-refused, over-done}

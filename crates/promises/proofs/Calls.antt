@@ -12,7 +12,8 @@ use Rattle.tile.specs.Tile.{mappedOf}
 use Rattle.settings.specs.declared.MapRecord.{MapRecord}
 use Rattle.settings.specs.declared.Footer.{Footer}
 use Rattle.settings.specs.Settings.{binsOf, entriesOf, keptOf, clipOne, sameClip, sharedRows}
-use Rattle.prepare.specs.Prepare.{pixelsIn, preparedSays, enhancedSays, Ended, prepareOf, Over, overing, enhanceOf}
+use Rattle.tiles.specs.Tiles.{pixelsIn}
+use Rattle.prepare.specs.Prepare.{preparedSays, enhancedSays, Ended, prepareOf, Over, overing, enhanceOf}
 use Rattle.draw.specs.Draw.{drawRows, drawnSays, Shows, showing, drawOf, Held}
 use Rattle.draw.proofs.Laws.{other-field}
 use Rattle.draw.proofs.Tables.{draw-ready}

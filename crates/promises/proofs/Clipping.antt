@@ -15,7 +15,8 @@ use Rattle.limit.proofs.Laws.{one-allowed, judged-exactly}
 use Rattle.settings.specs.declared.MapRecord.{MapRecord}
 use Rattle.settings.specs.declared.Footer.{Footer}
 use Rattle.settings.specs.Settings.{binsOf, clipBad}
-use Rattle.prepare.specs.Prepare.{pixelsIn, preparedSays, enhancedSays, Ended, prepareOf, Over, enhanceOf}
+use Rattle.tiles.specs.Tiles.{pixelsIn}
+use Rattle.prepare.specs.Prepare.{preparedSays, enhancedSays, Ended, prepareOf, Over, enhanceOf}
 use Rattle.prepare.proofs.Table.{table-never-14}
 use Rattle.promises.specs.Films.{ClippingOn, ClipCase, FooterShows, FilmSound, LimitFits}
 use Rattle.promises.proofs.Accepted.{says-refused, prepare-work, enhance-work}

@@ -6,7 +6,8 @@ use mathlib.Core.Path.{_≡_, sym, ap, _∙_}
 use lib.ListN.{length}
 use Rattle.refuse.specs.Refuse.{first, refused, says}
 use Rattle.settings.specs.Settings.{binsOf, recordOf}
-use Rattle.prepare.specs.Prepare.{prepareRows, preparedSays, enhancedSays, footOf, Ended, Over}
+use Rattle.tiles.specs.Tiles.{footOf}
+use Rattle.prepare.specs.Prepare.{prepareRows, preparedSays, enhancedSays, Ended, Over}
 use Rattle.draw.specs.Draw.{drawRows, drawnSays, Shows}
 use Rattle.promises.proofs.Accepted.{table-says, table-kept, prepare-table, enhance-table, draw-table}
 use Rattle.promises.proofs.Runs.{PrepareCall, Prepares, prepare-ends, EnhanceCall, Enhances, enhance-ends, DrawCall, Draws, draw-ends}

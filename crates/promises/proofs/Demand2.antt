@@ -25,9 +25,10 @@ use Rattle.render.specs.Render.{rectOf, renderedOf, renderOf, whole}
 use Rattle.render.proofs.Pixels.{tile-index}
 use Rattle.tally.proofs.Greys.{getD-greys}
 use Rattle.render.proofs.Laws.{render-at, rendered-by, window-law}
-use Rattle.prepare.specs.Prepare.{pixelsIn, mappings, preparedSays, enhancedSays, Ended, prepareOf, preparedOf, Over, enhanceOf, enhancedOf, Work, TilesAsk}
+use Rattle.tiles.specs.Tiles.{pixelsIn, mappings, Work, TilesAsk}
+use Rattle.prepare.specs.Prepare.{preparedSays, enhancedSays, Ended, prepareOf, preparedOf, Over, enhanceOf, enhancedOf}
 use Rattle.prepare.proofs.Table.{rows-any}
-use Rattle.prepare.proofs.Films.{length-mappings, mappings-own}
+use Rattle.tiles.proofs.Films.{length-mappings, mappings-own}
 use Rattle.prepare.proofs.Renders.{laid-mapped, laid-render}
 use Rattle.draw.specs.Draw.{drawRows, drawnSays, Shows, drawOf}
 use Rattle.promises.specs.Films.{clippedCounts, tileValue, ruleGrey, HandedOn}

@@ -29,12 +29,12 @@ use Rattle.settings.specs.declared.Settings.{Settings}
 use Rattle.settings.specs.declared.MapRecord.{MapRecord}
 use Rattle.settings.specs.declared.Footer.{Footer}
 use Rattle.settings.specs.Settings.{binsOf, clipBad, clipOne}
-use Rattle.prepare.specs.Prepare.{tileOf, pixelsIn, preparedSays, enhancedSays, footOf, prepareOf, enhanceOf, FooterAsks, Work, TilesAsk}
-use Rattle.prepare.proofs.Table.{footer-asks, film-asks}
-use Rattle.prepare.proofs.Footers.{footer-off, footer-one, footer-above, foot-is}
-use Rattle.prepare.proofs.Tiles.{tile-area, tile-pixels-some, tile-pixels-alike}
-use Rattle.prepare.proofs.Films.{tile-greys, rect-holds}
-use Rattle.counts.specs.Counts.{rawCounts}
+use Rattle.tiles.specs.Tiles.{tileOf, pixelsIn, footOf, FooterAsks, Work, TilesAsk}
+use Rattle.prepare.specs.Prepare.{preparedSays, enhancedSays, prepareOf, enhanceOf}
+use Rattle.tiles.proofs.Footers.{footer-asks, film-asks, footer-off, footer-one, footer-above, foot-is}
+use Rattle.tiles.proofs.Tiles.{tile-area, tile-pixels-some, tile-pixels-alike}
+use Rattle.tiles.proofs.Films.{tile-greys, rect-holds}
+use Rattle.counting.specs.Counting.{rawCounts}
 use Rattle.promises.specs.Films.{clippedCounts, ClippingOn, ClipCase, clip-off, clip-one, clip-on, FooterShows, TileSound, FilmSound, LimitFits}
 use Rattle.promises.proofs.Accepted.{prepare-work, prepare-foot, enhance-work, enhance-foot}
 use Rattle.promises.proofs.Demand2.{own-mapping, own-mapping-enhance}

@@ -20,9 +20,10 @@ use Rattle.settings.specs.declared.Window.{Window}
 use Rattle.settings.specs.Settings.{entriesOf, keptOf, clipOne, sharedRows}
 use Rattle.settings.proofs.Like.{bins-kept, kept-same}
 use Rattle.render.specs.Render.{rectOf}
-use Rattle.prepare.specs.Prepare.{mappings, preparedSays, Ended, prepareOf, preparedOf, Work, TilesAsk}
+use Rattle.tiles.specs.Tiles.{mappings, Work, TilesAsk}
+use Rattle.prepare.specs.Prepare.{preparedSays, Ended, prepareOf, preparedOf}
 use Rattle.prepare.proofs.Table.{table-both}
-use Rattle.prepare.proofs.Films.{length-mappings, mappings-within}
+use Rattle.tiles.proofs.Films.{length-mappings, mappings-within}
 use Rattle.prepare.proofs.Renders.{laid-front}
 use Rattle.draw.specs.Draw.{recordRows, pixelRows, drawRows}
 use Rattle.draw.proofs.Laws.{own-record}

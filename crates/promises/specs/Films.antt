@@ -24,8 +24,8 @@ use Rattle.settings.specs.declared.Window.{Window}
 use Rattle.settings.specs.Settings.{binsOf, entriesOf, keptOf, clipOne}
 use Rattle.blend.specs.Blend.{greyOf}
 use Rattle.render.specs.Render.{columnPlace, rowPlace}
-use Rattle.counts.specs.Counts.{rawCounts}
-use Rattle.prepare.specs.Prepare.{tileOf, pixelsIn, none, one}
+use Rattle.counting.specs.Counting.{rawCounts}
+use Rattle.tiles.specs.Tiles.{tileOf, pixelsIn, none, one}
 
 -- ---- a tile
 

@@ -6,7 +6,7 @@ use Rattle.abi_counts.proofs.tz_count.Statement.{statement}
 use Rattle.abi_counts.proofs.tz_count.Tie as tie
 use Rattle.abi_counts.proofs.tz_count.Reads as reads
 use Rattle.abi_counts.proofs.tz_count.Lts as lts
-use Rattle.counts.proofs.count_tiles.Reads as count-tiles-reads
+use Rattle.counting.proofs.count_tiles.Reads as count-tiles-reads
 
 count-tiles-requires : tie.Need-count-tiles-requires
 count-tiles-requires c κs = search needs

@@ -12,8 +12,8 @@ use Rattle.byte_film.proofs.enhance_bytes.Lts as lts
 use Rattle.byte_film.proofs.map_tiles.Reads as map-tiles-reads
 use Rattle.byte_film.proofs.refusal.Reads as refusal-reads
 use Rattle.byte_render.proofs.render_from.Reads as render-from-reads
-use Rattle.prepare.proofs.foot.Reads as foot-reads
 use Rattle.settings.proofs.clip_one.Reads as clip-one-reads
+use Rattle.tiles.proofs.foot.Reads as foot-reads
 
 refusal-requires : tie.Need-refusal-requires
 refusal-requires c κs = search needs

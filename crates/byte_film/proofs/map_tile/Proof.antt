@@ -2,16 +2,16 @@
 -- Assumes nothing.
 use native.Mathlib.Omega.{arith}
 use borrow.Author.Needs.{needs}
-use Rattle.prepare.proofs.Tiles.{rect-asks}
-use Rattle.prepare.proofs.Films.{tile-small, tile-room, tile-done}
+use Rattle.tiles.proofs.Tiles.{rect-asks}
+use Rattle.tiles.proofs.Films.{tile-small, tile-room, tile-done}
 use Rattle.byte_film.proofs.Works.{wide-tile, byte-tile-asks}
 use Rattle.byte_film.proofs.map_tile.Statement.{statement}
 use Rattle.byte_film.proofs.map_tile.Tie as tie
 use Rattle.byte_film.proofs.map_tile.Reads as reads
 use Rattle.byte_film.proofs.map_tile.Lts as lts
 use Rattle.byte_tile.proofs.mapping.Reads as mapping-reads
-use Rattle.prepare.proofs.tile_rect.Reads as tile-rect-reads
 use Rattle.settings.proofs.bins.Reads as bins-reads
+use Rattle.tiles.proofs.tile_rect.Reads as tile-rect-reads
 
 tile-rect-requires : tie.Need-tile-rect-requires
 tile-rect-requires c κs = rect-asks (c .before .before .before .pre .tiles .film .work .ready .tiled) (c .before .before .before .pre .tile)

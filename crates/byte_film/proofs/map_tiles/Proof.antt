@@ -3,8 +3,8 @@
 use Prim.Native.Nat.{_-_, _≤_}
 use native.Mathlib.Omega.{arith}
 use borrow.Author.Needs.{needs}
-use Rattle.prepare.proofs.Tiles.{tiles-most}
-use Rattle.prepare.proofs.Turns.{Laid, laid-first, laid-length, laid-next, laid-end}
+use Rattle.tiles.proofs.Tiles.{tiles-most}
+use Rattle.tiles.proofs.Turns.{Laid, laid-first, laid-length, laid-next, laid-end}
 use Rattle.byte_film.proofs.Works.{wide-tiles, laid-bytes}
 use Rattle.byte_film.proofs.map_tiles.Statement.{statement}
 use Rattle.byte_film.proofs.map_tiles.Tie as tie

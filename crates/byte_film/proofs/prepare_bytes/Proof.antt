@@ -10,9 +10,9 @@ use Rattle.byte_film.proofs.prepare_bytes.Reads as reads
 use Rattle.byte_film.proofs.prepare_bytes.Lts as lts
 use Rattle.byte_film.proofs.map_tiles.Reads as map-tiles-reads
 use Rattle.byte_film.proofs.refusal.Reads as refusal-reads
-use Rattle.prepare.proofs.foot.Reads as foot-reads
 use Rattle.settings.proofs.clip_one.Reads as clip-one-reads
 use Rattle.settings.proofs.kept.Reads as kept-reads
+use Rattle.tiles.proofs.foot.Reads as foot-reads
 
 refusal-requires : tie.Need-refusal-requires
 refusal-requires c κs = search needs

@@ -4,7 +4,7 @@ use Prim.Native.Nat.{_-_, _≤_}
 use native.Mathlib.Omega.{arith}
 use borrow.Author.Needs.{needs}
 use borrow.Author.Tests.{not-true, not-false}
-use Rattle.prepare.proofs.Tiles.{tiles-most}
+use Rattle.tiles.proofs.Tiles.{tiles-most}
 use Rattle.counts.proofs.Turns.{Adding, adding-first, adding-next, adding-not, adding-end}
 use Rattle.counts.proofs.all_add_up.Statement.{statement}
 use Rattle.counts.proofs.all_add_up.Tie as tie

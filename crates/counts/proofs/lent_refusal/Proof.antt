@@ -6,7 +6,7 @@ use Rattle.counts.proofs.lent_refusal.Statement.{statement}
 use Rattle.counts.proofs.lent_refusal.Tie as tie
 use Rattle.counts.proofs.lent_refusal.Reads as reads
 use Rattle.counts.proofs.lent_refusal.Lts as lts
-use Rattle.counts.proofs.counts_refusal.Reads as counts-refusal-reads
+use Rattle.counting.proofs.counts_refusal.Reads as counts-refusal-reads
 use Rattle.settings.proofs.bins.Reads as bins-reads
 use Rattle.settings.proofs.room_refusal.Reads as room-refusal-reads
 

@@ -3,7 +3,7 @@
 use Prim.Native.Nat.{_-_, _≤_}
 use native.Mathlib.Omega.{arith}
 use borrow.Author.Needs.{needs}
-use Rattle.prepare.proofs.Tiles.{tiles-most}
+use Rattle.tiles.proofs.Tiles.{tiles-most}
 use Rattle.counts.proofs.Turns.{Mapping, mapping-first, mapping-asks, mapping-length, mapping-next, mapping-end}
 use Rattle.counts.proofs.map_all.Statement.{statement}
 use Rattle.counts.proofs.map_all.Tie as tie

@@ -8,9 +8,9 @@ use Rattle.counts.proofs.map_counts.Reads as reads
 use Rattle.counts.proofs.map_counts.Lts as lts
 use Rattle.counts.proofs.map_all.Reads as map-all-reads
 use Rattle.counts.proofs.map_refusal.Reads as map-refusal-reads
-use Rattle.prepare.proofs.foot.Reads as foot-reads
 use Rattle.settings.proofs.clip_one.Reads as clip-one-reads
 use Rattle.settings.proofs.kept.Reads as kept-reads
+use Rattle.tiles.proofs.foot.Reads as foot-reads
 
 map-refusal-requires : tie.Need-map-refusal-requires
 map-refusal-requires c κs = search needs

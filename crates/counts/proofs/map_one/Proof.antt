@@ -1,16 +1,17 @@
 -- `map_one` lays the mapping of tile k in its place.
 -- Assumes nothing.
 use native.Mathlib.Omega.{arith}
-use Rattle.counts.proofs.Tiles.{block-room, block-small, copy-asks, front-long, from-asks, one-mapped}
+use Rattle.counting.proofs.Tiles.{block-room, block-small}
+use Rattle.counts.proofs.Tiles.{copy-asks, front-long, from-asks, one-mapped}
 use borrow.Author.Needs.{needs}
 use Rattle.counts.proofs.map_one.Statement.{statement}
 use Rattle.counts.proofs.map_one.Tie as tie
 use Rattle.counts.proofs.map_one.Reads as reads
 use Rattle.counts.proofs.map_one.Lts as lts
 use Rattle.counts.proofs.copy_tile.Reads as copy-tile-reads
-use Rattle.prepare.proofs.tile_pixels.Reads as tile-pixels-reads
 use Rattle.settings.proofs.bins.Reads as bins-reads
 use Rattle.tile.proofs.from_counts.Reads as from-counts-reads
+use Rattle.tiles.proofs.tile_pixels.Reads as tile-pixels-reads
 
 tile-pixels-requires : tie.Need-tile-pixels-requires
 tile-pixels-requires c κs = (c .before .before .before .pre .film .tiled, c .before .before .before .pre .tile)

@@ -5,7 +5,8 @@ use mathlib.Core.Path.{sym, _∙_}
 use borrow.Author.Tests.{not-true, not-false}
 use Rattle.refuse.proofs.Walk.{front, behind}
 use Rattle.counts.specs.Counts.{mapRows}
-use Rattle.counts.proofs.Tables.{tiling-numbered, lent-numbered, tiling-tiled, lent-asks, lent-fits, sum-row}
+use Rattle.counting.proofs.Tables.{lent-asks}
+use Rattle.counts.proofs.Tables.{tiling-numbered, lent-numbered, tiling-tiled, lent-fits, sum-row}
 use borrow.Author.Needs.{needs}
 use Rattle.counts.proofs.map_refusal.Statement.{statement}
 use Rattle.counts.proofs.map_refusal.Tie as tie

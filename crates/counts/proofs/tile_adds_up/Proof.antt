@@ -1,15 +1,16 @@
 -- `tile_adds_up` gives whether the counts of tile k add up to its pixels.
 -- Assumes nothing.
 use native.Mathlib.Omega.{arith}
-use Rattle.counts.proofs.Tiles.{block-room, block-small, sum-asks, sum-found}
+use Rattle.counting.proofs.Tiles.{block-room, block-small}
+use Rattle.counts.proofs.Tiles.{sum-asks, sum-found}
 use borrow.Author.Needs.{needs}
 use Rattle.counts.proofs.tile_adds_up.Statement.{statement}
 use Rattle.counts.proofs.tile_adds_up.Tie as tie
 use Rattle.counts.proofs.tile_adds_up.Reads as reads
 use Rattle.counts.proofs.tile_adds_up.Lts as lts
 use Rattle.counts.proofs.adds_up.Reads as adds-up-reads
-use Rattle.prepare.proofs.tile_pixels.Reads as tile-pixels-reads
 use Rattle.settings.proofs.bins.Reads as bins-reads
+use Rattle.tiles.proofs.tile_pixels.Reads as tile-pixels-reads
 
 tile-pixels-requires : tie.Need-tile-pixels-requires
 tile-pixels-requires c κs = (c .before .pre .film .tiled, c .before .pre .tile)

@@ -8,8 +8,8 @@ use Rattle.listing.proofs.tile_excess.Tie as tie
 use Rattle.listing.proofs.tile_excess.Reads as reads
 use Rattle.listing.proofs.tile_excess.Lts as lts
 use Rattle.clip.proofs.excess.Reads as excess-reads
-use Rattle.prepare.proofs.tile_rect.Reads as tile-rect-reads
 use Rattle.tally.proofs.count.Reads as count-reads
+use Rattle.tiles.proofs.tile_rect.Reads as tile-rect-reads
 
 tile-rect-requires : tie.Need-tile-rect-requires
 tile-rect-requires c κs = search needs

@@ -7,11 +7,11 @@ use Rattle.prepare.proofs.enhance.Statement.{statement}
 use Rattle.prepare.proofs.enhance.Tie as tie
 use Rattle.prepare.proofs.enhance.Reads as reads
 use Rattle.prepare.proofs.enhance.Lts as lts
-use Rattle.prepare.proofs.foot.Reads as foot-reads
-use Rattle.prepare.proofs.map_tiles.Reads as map-tiles-reads
 use Rattle.prepare.proofs.refusal.Reads as refusal-reads
 use Rattle.render.proofs.render.Reads as render-reads
 use Rattle.settings.proofs.clip_one.Reads as clip-one-reads
+use Rattle.tiles.proofs.foot.Reads as foot-reads
+use Rattle.tiles.proofs.map_tiles.Reads as map-tiles-reads
 
 refusal-requires : tie.Need-refusal-requires
 refusal-requires c κs = search needs

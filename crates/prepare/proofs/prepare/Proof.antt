@@ -6,11 +6,11 @@ use Rattle.prepare.proofs.prepare.Statement.{statement}
 use Rattle.prepare.proofs.prepare.Tie as tie
 use Rattle.prepare.proofs.prepare.Reads as reads
 use Rattle.prepare.proofs.prepare.Lts as lts
-use Rattle.prepare.proofs.foot.Reads as foot-reads
-use Rattle.prepare.proofs.map_tiles.Reads as map-tiles-reads
 use Rattle.prepare.proofs.refusal.Reads as refusal-reads
 use Rattle.settings.proofs.clip_one.Reads as clip-one-reads
 use Rattle.settings.proofs.kept.Reads as kept-reads
+use Rattle.tiles.proofs.foot.Reads as foot-reads
+use Rattle.tiles.proofs.map_tiles.Reads as map-tiles-reads
 
 refusal-requires : tie.Need-refusal-requires
 refusal-requires c κs = search needs

@@ -1,0 +1,56 @@
+-- What counting looks at of the settings: not at the clip setting, and at bins 0 as 128; and 33 at the counts' length alone.
+-- Assumes nothing.
+use Prim.Native.Nat.{ℕ, _*_}
+use mathlib.Core.List.{List}
+use mathlib.Core.Path.{_≡_, refl, ap₂, _∙_}
+use lib.ListN.{length, take}
+use Rattle.lists.specs.Lists.{joined}
+use Rattle.lists.proofs.Fills.{joined-cong}
+use Rattle.lists.proofs.Windows.{front-short}
+use Rattle.limit.specs.declared.Clip.{Clip}
+use Rattle.settings.specs.declared.Settings.{Settings}
+use Rattle.settings.specs.Settings.{entriesOf, keptOf}
+use Rattle.settings.proofs.Like.{bins-kept}
+use Rattle.settings.proofs.Parts.{bins-alike, grid-alike, range-alike}
+use Rattle.counting.specs.Counting.{rawCounts, countings, countsRows, outsideRows, pictureRows, countRows, countDoneOf, countOf, Alike, withClip}
+
+-- ---- counting does not look at the clip setting
+
+module _ (w h : ℕ) (pic : List ℕ) {s s′ : Settings} (like : Alike s s′) where
+  -- its rows are the same
+  pub rows-alike : (size : ℕ) → countRows w h pic s size ≡ countRows w h pic s′ size
+  unfolding countRows pictureRows countsRows outsideRows
+  rows-alike size =
+      rw (grid-alike w h s s′ (like .across) (like .down), range-alike s s′ (like .bins) (like .min) (like .max), like .bins, like .across, like .down, like .min, like .max) refl
+
+  -- and the counts
+  pub countings-alike : countings w h pic s ≡ countings w h pic s′
+  unfolding countings
+  countings-alike =
+      ap₂ (λ x y. joined (x * y) (rawCounts w h pic s)) (like .across) (like .down)
+      ∙ joined-cong (s′ .across * s′ .down) (λ k l. rw (like .bins, like .across, like .down, like .min, like .max) refl)
+
+  -- so it answers and leaves the same
+  pub count-alike : (cs : List ℕ) → countOf w h pic s cs ≡ countOf w h pic s′ cs
+  unfolding countOf countDoneOf
+  count-alike cs = rw (rows-alike (length cs), countings-alike) refl
+
+-- settings that differ in the factor alone
+pub clip-alike : (s : Settings) (f : Clip) → Alike s (withClip s f)
+clip-alike s f = record { across = refl; down = refl; bins = bins-alike s (withClip s f) refl; min = refl; max = refl }
+
+-- and in bins 0 and 128: "Bins B: 2 to 4096. 0 means 128."
+pub kept-alike : (s : Settings) → Alike (keptOf s) s
+kept-alike s = record { across = refl; down = refl; bins = bins-kept s; min = refl; max = refl }
+
+-- ---- 33
+
+-- bins 0 and 128
+pub counts-kept : (s : Settings) (size : ℕ) → countsRows (keptOf s) size ≡ countsRows s size
+unfolding countsRows
+counts-kept s size = rw (bins-kept s) refl
+
+-- counts that are alike in front, as far as there are bins and tiles
+pub counts-front : (s : Settings) (a b : List ℕ) → take (entriesOf s) a ≡ take (entriesOf s) b → countsRows s (length a) ≡ countsRows s (length b)
+unfolding countsRows
+counts-front s a b front = rw (front-short (entriesOf s) a b front) refl

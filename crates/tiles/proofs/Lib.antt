@@ -1,0 +1,5 @@
+pub mod Tiles
+pub mod Footers
+pub mod Films
+pub mod Turns
+pub mod Like

@@ -1,0 +1,59 @@
+-- The turns of `map_tiles`: each tile's mapping is laid down in its place.
+-- Assumes nothing.
+use Prim.Native.Nat.{ℕ, _+_, _*_, _≤_, _<_}
+use mathlib.Core.List.{List}
+use mathlib.Core.Path.{_≡_, refl, ap, _∙_}
+use native.Mathlib.Nat.{mul-le-mul-right}
+use native.Mathlib.Omega.{arith}
+use lib.ListN.{length, drop}
+use Rattle.lists.specs.Lists.{blocks, filled}
+use Rattle.lists.proofs.Blocks.{blocks-over, blocks-end, blocks-onto, length-blocks}
+use Rattle.lists.proofs.Fills.{blocks-none}
+use Rattle.lists.proofs.Maps.{filled-behind}
+use Rattle.settings.specs.declared.Settings.{Settings}
+use Rattle.settings.specs.Settings.{binsOf}
+use Rattle.tiles.specs.Tiles.{tileMap, mappings, TilesAsk, TileAsks, TileDone, TilesDone}
+use Rattle.tiles.proofs.Films.{length-tile-map}
+
+-- before tile k: the mappings of the tiles before it are laid down, and the scratch behind its first B entries is as it was
+pub record Laid (w h : ℕ) (pic : List ℕ) (s : Settings) (m₀ m t₀ t : List ℕ) (k : ℕ) : Type 0 where
+  pub map : m ≡ blocks (binsOf s) (tileMap w h pic s) m₀ k
+  pub behind : drop (binsOf s) t ≡ drop (binsOf s) t₀
+  pub size : length t ≡ length t₀
+
+module _ {w h : ℕ} {pic : List ℕ} {s : Settings} {m₀ t₀ : List ℕ} where
+  -- the first turn
+  pub laid-first : Laid w h pic s m₀ m₀ t₀ t₀ 0
+  laid-first = record { map = blocks-none (binsOf s) (tileMap w h pic s) m₀; behind = refl; size = refl }
+
+module _ {w h : ℕ} {pic : List ℕ} {s : Settings} {m₀ t₀ : List ℕ} (asks : TilesAsk w h pic s (length m₀) (length t₀)) where
+  -- the map buffer's length stays
+  pub laid-length : {m t : List ℕ} {k : ℕ} → Laid w h pic s m₀ m t₀ t k → k ≤ s .across * s .down → length m ≡ length m₀
+  laid-length {m} {t} {k} laid l =
+      ap length (laid .map)
+      ∙ length-blocks (binsOf s) (tileMap w h pic s) m₀ k (λ i q. length-tile-map w h pic s i)
+      (omega (arith, mul-le-mul-right (binsOf s) l, asks .work .ready .fitting))
+
+  -- what tile k asks
+  pub laid-asks : {m t : List ℕ} {k : ℕ} → Laid w h pic s m₀ m t₀ t k → k < s .across * s .down → TileAsks w h pic s k (length m) (length t)
+  laid-asks {m} {t} {k} laid l = rw (laid-length laid (omega arith), laid .size) record { film = asks; tile = l }
+
+  -- one tile more
+  pub laid-next : {m n t u : List ℕ} {k : ℕ} → Laid w h pic s m₀ m t₀ t k → TileDone w h pic s k m n t u → Laid w h pic s m₀ n t₀ u (k + 1)
+  laid-next {m} {n} {t} {u} {k} laid done =
+      record {
+        map = blocks-over (binsOf s) (tileMap w h pic s) m₀ k (λ i q. length-tile-map w h pic s i) (laid .map) (done .map);
+        behind = done .behind ∙ laid .behind;
+        size = done .size ∙ laid .size;
+      }
+
+  -- all tiles, and the scratch cleared
+  pub laid-end : {m t u : List ℕ} {k b : ℕ} → Laid w h pic s m₀ m t₀ t k → k ≤ s .across * s .down → s .across * s .down ≤ k
+      → b ≡ binsOf s → u ≡ filled (λ i. 0) t b → TilesDone w h pic s m₀ m t₀ u
+  unfolding mappings
+  laid-end {m} {t} {u} {k} {b} laid l g q e =
+      record {
+        map = blocks-end (binsOf s) (tileMap w h pic s) m₀ (laid .map) l g
+            ∙ blocks-onto (binsOf s) (tileMap w h pic s) m₀ (s .across * s .down) (λ i p. length-tile-map w h pic s i);
+        scratch = e ∙ ap (filled (λ i. 0) t) q ∙ filled-behind (λ i. 0) t t₀ (binsOf s) (laid .behind);
+      }

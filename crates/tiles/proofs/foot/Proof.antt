@@ -1,0 +1,30 @@
+-- `foot` gives the footer of a film.
+-- Assumes nothing.
+use mathlib.Core.Path.{_∙_, ap₂}
+use Rattle.tiles.specs.Tiles.{footOf, footerOf}
+use Rattle.tiles.proofs.Tiles.{tiles-some}
+use Rattle.tiles.proofs.Footers.{footer-asks}
+use borrow.Author.Needs.{needs}
+use Rattle.tiles.proofs.foot.Statement.{statement}
+use Rattle.tiles.proofs.foot.Tie as tie
+use Rattle.tiles.proofs.foot.Reads as reads
+use Rattle.tiles.proofs.foot.Lts as lts
+use Rattle.tiles.proofs.footer.Reads as footer-reads
+use Rattle.tiles.proofs.tile_pixels.Reads as tile-pixels-reads
+use Rattle.settings.proofs.bins.Reads as bins-reads
+
+tile-pixels-requires : tie.Need-tile-pixels-requires
+tile-pixels-requires c κs = (c .pre .tiled, tiles-some (c .pre .tiled))
+
+bins-requires : tie.Need-bins-requires
+bins-requires c κs = search needs
+
+footer-requires : tie.Need-footer-requires
+footer-requires c κs = rw (c .before .tile-pixels .ensures) (footer-asks (c .before .before .pre) (c .bins .ensures))
+
+returns : tie.Need-returns
+unfolding footOf
+returns c = c .footer .ensures ∙ ap₂ (footerOf _) (c .before .before .tile-pixels .ensures) (c .before .bins .ensures)
+
+pub foot-spec : {M : Type 1} → statement M
+foot-spec = tie.close (tie.spec tile-pixels-requires bins-requires footer-requires returns)
