@@ -16,7 +16,7 @@ STATED = re.compile(r"^ *(?:(?:pub|unfoldable|abbrev|record|data) )*([^\s:(){}]+
 PART = re.compile(r"^(?:`(?P<crate>\w+)` )?(?P<module>[A-Z]\w*): ")
 
 # a crate that holds a value of another's type without naming anything of it
-REACHED = {"listing_program": {"pgm"}, "prepare": {"limit"}, "counts": {"limit"}, "byte_film": {"limit"}, "byte_draw": {"limit"}}
+REACHED = {"listing_program": {"pgm_write"}, "draw": {"limit"}, "prepare": {"limit"}, "counts": {"limit"}, "byte_film": {"limit"}, "byte_draw": {"limit"}}
 
 
 def read(path):

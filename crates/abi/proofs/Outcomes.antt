@@ -15,8 +15,10 @@ use Rattle.prepare.specs.Prepare.{preparedSays, preparedOf, prepareOf, enhanced
 use Rattle.draw.specs.Draw.{drawnSays, drawOf}
 use Rattle.header.specs.declared.Head.{Head}
 use Rattle.header.specs.declared.Head.the-variants as Head
-use Rattle.pgm.specs.declared.Written.the-variants as Written
-use Rattle.pgm.specs.Pgm.{readOf, sizesOf, sizesSays, turnedSays, turnedOf, writtenSays, wroteAs, writeOf}
+use Rattle.pgm_write.specs.declared.Written.the-variants as Written
+use Rattle.pgm.specs.Pgm.{readOf, sizesOf, sizesSays}
+use Rattle.pgm_greys.specs.Greys.{turnedSays, turnedOf}
+use Rattle.pgm_write.specs.Write.{writtenSays, wroteAs, writeOf}
 use Rattle.listing.specs.Listing.{listingOf, textRows, listOf}
 use Rattle.promises.proofs.Accepted.{ByTable, prepare-table, enhance-table, draw-table}
 use Rattle.promises.proofs.Files.{greys-table, write-table}

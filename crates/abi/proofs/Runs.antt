@@ -12,7 +12,9 @@ use Rattle.settings.specs.declared.Settings.{Settings}
 use Rattle.settings.specs.declared.Window.{Window}
 use Rattle.prepare.specs.Prepare.{prepareOf, enhanceOf}
 use Rattle.draw.specs.Draw.{drawOf}
-use Rattle.pgm.specs.Pgm.{readOf, sizesOf, sizesSays, turnedOf, writeOf}
+use Rattle.pgm.specs.Pgm.{readOf, sizesOf, sizesSays}
+use Rattle.pgm_greys.specs.Greys.{turnedOf}
+use Rattle.pgm_write.specs.Write.{writeOf}
 use Rattle.listing.specs.Listing.{listOf}
 use Rattle.flat.specs.Flat.{settingsFrom, recordFrom, windowFrom}
 use Rattle.flat.specs.Films.{Foot, footed, preparedAs, flatPrepared, enhancedAs, flatEnhanced, drawnAs, flatDrawn}

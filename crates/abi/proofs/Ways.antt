@@ -17,8 +17,9 @@ use Rattle.prepare.specs.Prepare.{preparedSays, prepareRows, Ended, prepareOf, 
 use Rattle.draw.specs.Draw.{drawRows, drawnSays, drawOf}
 use Rattle.draw.proofs.Tables.{draw-ready}
 use Rattle.header.specs.Header.{headerBytes}
-use Rattle.pgm.specs.Pgm.{writeRows, readOf, sizesOf, rasterOf, sizesSays, writtenSays, fileOf, writeOf}
-use Rattle.pgm.proofs.Laws.{written-read}
+use Rattle.pgm.specs.Pgm.{readOf, sizesOf, rasterOf, sizesSays}
+use Rattle.pgm_write.specs.Write.{writeRows, writtenSays, fileOf, writeOf}
+use Rattle.pgm_write.proofs.Laws.{written-read}
 use Rattle.promises.specs.Films.{ruleGrey, HandedOn}
 use Rattle.promises.proofs.Accepted.{table-says, prepare-table, draw-table}
 use Rattle.promises.proofs.Demand2.{draw-agrees, own-window, drawn-is-film}

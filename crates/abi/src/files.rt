@@ -1,12 +1,14 @@
 // The calls on PGM files.
 ghost use mathlib.Core.Path.{_≡_};
 ghost use lib.ListN.{length};
-ghost use Rattle.pgm.specs.Pgm.{readOf, sizesOf, sizesSays, turnedOf, writeOf};
+ghost use Rattle.pgm.specs.Pgm.{readOf, sizesOf, sizesSays};
+ghost use Rattle.pgm_greys.specs.Greys.{turnedOf};
+ghost use Rattle.pgm_write.specs.Write.{writeOf};
 ghost use Rattle.listing.specs.Listing.{listOf};
 ghost use Rattle.flat.specs.Files.{answered, flatSizes, flatRaster, flatGreys, writtenAs, flatWritten};
 use pgm::Sizes;
-use pgm::Turned;
-use pgm::Written;
+use pgm_greys::Turned;
+use pgm_write::Written;
 
 #[no_mangle]
 pub extern "C" fn tz_read_sizes(bytes: &[u8], sizes: &mut [u32; 3]) -> u32
@@ -49,7 +51,7 @@ pub extern "C" fn tz_read_greys(
 ) -> u32
     ensures { λ r. ⌜ answered r (now (target .exit)) ≡ flatGreys (turnedOf (now (bytes .entry)) start width height maxval (now (target .entry))) ⌝ }
 {
-    let answer = pgm::read_greys(bytes, start, width, height, maxval, target);
+    let answer = pgm_greys::read_greys(bytes, start, width, height, maxval, target);
     match answer {
         Turned::Done => 0,
         Turned::Refused(n) => n,
@@ -67,7 +69,7 @@ pub extern "C" fn tz_write(
 ) -> u32
     ensures { λ r. ⌜ writtenAs r (now (out .exit)) (now (count .exit)) ≡ flatWritten (writeOf (now (picture .entry)) width height maxval (now (out .entry))) (now (count .entry)) ⌝ }
 {
-    let answer = pgm::write(picture, width, height, maxval, out);
+    let answer = pgm_write::write(picture, width, height, maxval, out);
     match answer {
         Written::Bytes(n) => {
             *count = n;

@@ -16,8 +16,8 @@ use Rattle.settings.specs.declared.Settings.{Settings}
 use Rattle.settings.specs.declared.MapRecord.{MapRecord}
 use Rattle.settings.specs.declared.Window.{Window}
 use Rattle.settings.specs.Settings.{settingRows}
-use Rattle.draw.specs.Draw.{recordRows, windowRows}
-use Rattle.draw.proofs.Tables.{record-numbers, window-numbers}
+use Rattle.held.specs.Held.{recordRows, windowRows}
+use Rattle.held.proofs.Tables.{record-numbers, window-numbers}
 use Rattle.profile.specs.Profile.{profileRows, byteRows}
 use Rattle.profile.proofs.Profile.{byte-numbers}
 use Rattle.profile.proofs.Outside.{outside-front}

@@ -18,8 +18,11 @@ use Rattle.settings.specs.declared.MapRecord.{MapRecord}
 use Rattle.settings.specs.declared.Window.{Window}
 use Rattle.settings.specs.Settings.{entriesOf}
 use Rattle.render.specs.Render.{rectOf}
-use Rattle.draw.specs.Draw.{recordRows, windowRows, pixelRows}
-use Rattle.draw.proofs.Tables.{record-numbered, window-numbered, window-inside, pixels-within, framed}
+use Rattle.held.specs.Held.{recordRows, windowRows}
+use Rattle.draw.specs.Draw.{pixelRows}
+use Rattle.held.proofs.Tables.{record-numbered, window-numbered, window-inside}
+use Rattle.frame.proofs.Frames.{framed}
+use Rattle.draw.proofs.Tables.{pixels-within}
 use Rattle.draw.proofs.Like.{pixel-free}
 use Rattle.profile.specs.Profile.{byteRows, Profile}
 use Rattle.profile.proofs.Greys.{bytes-within}

@@ -10,7 +10,8 @@ use Rattle.settings.specs.declared.Settings.{Settings}
 use Rattle.settings.specs.declared.MapRecord.{MapRecord}
 use Rattle.settings.specs.declared.Window.{Window}
 use Rattle.draw.specs.declared.Drawn.the-variants.{Done, Refused}
-use Rattle.draw.specs.Draw.{recordRows, windowRows, pixelRows, drawnPixels, Shows, showing, WindowReady}
+use Rattle.held.specs.Held.{recordRows, windowRows}
+use Rattle.draw.specs.Draw.{pixelRows, drawnPixels, Shows, showing, WindowReady}
 use Rattle.profile.specs.Profile.{byteRows, Profile}
 
 -- "1 to 10 as they stand, then 30 .., then 11 and on as in the wide call"; 31 stands behind 9

@@ -27,11 +27,11 @@ fn refusal(
     if shared != 0 {
         return shared;
     }
-    let other = draw::record_refusal(film, width, height, s, record);
+    let other = held::record_refusal(film, width, height, s, record);
     if other != 0 {
         return other;
     }
-    draw::window_refusal(width, height, win, room)
+    held::window_refusal(width, height, win, room)
 }
 
 // The window's bytes in the output: as they are at factor 1.0, else rendered.

@@ -16,7 +16,8 @@ use Rattle.settings.specs.Settings.{binsOf, entriesOf, keptOf, recordOf, clipOn
 use Rattle.tiles.specs.Tiles.{pixelsIn}
 use Rattle.prepare.specs.Prepare.{preparedSays, enhancedSays, Ended, ending, prepareOf, Over, overing, enhanceOf}
 use Rattle.prepare.proofs.Like.{enhance-kept}
-use Rattle.draw.specs.Draw.{drawnSays, Shows, showing, drawOf, Held, DrawReady}
+use Rattle.held.specs.Held.{Held}
+use Rattle.draw.specs.Draw.{drawnSays, Shows, showing, drawOf, DrawReady}
 use Rattle.draw.proofs.Tables.{draw-ready}
 use Rattle.promises.specs.Films.{clippedCounts, ruleGrey, ClippingOn, ClipCase, FooterShows, FilmSound, LimitFits, BinsReached}
 use Rattle.promises.proofs.Accepted.{table-accepted, prepare-work, prepare-record, enhance-work, draw-table}

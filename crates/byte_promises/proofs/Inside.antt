@@ -18,7 +18,8 @@ use Rattle.prepare.specs.declared.Enhanced.the-variants as Enhanced
 use Rattle.tiles.specs.Tiles.{footOf}
 use Rattle.prepare.specs.Prepare.{preparedSays, enhancedSays, Ended, ending, preparedOf, prepareOf, Over, overing, enhancedOf, enhanceOf}
 use Rattle.draw.specs.declared.Drawn.the-variants as Drawn
-use Rattle.draw.specs.Draw.{recordRows, windowRows, pixelRows, drawRows, drawnPixels, drawnSays, Shows, showing, drawOf}
+use Rattle.held.specs.Held.{recordRows, windowRows}
+use Rattle.draw.specs.Draw.{pixelRows, drawRows, drawnPixels, drawnSays, Shows, showing, drawOf}
 use Rattle.draw.proofs.Tables.{draw-rows}
 use Rattle.profile.specs.Profile.{profileRows, byteRows}
 use Rattle.profile.proofs.Profile.{byte-numbered, byte-ready, byte-inside, profile-none}

@@ -3,7 +3,7 @@ ghost use mathlib.Core.Path.{_≡_};
 ghost use lib.ListN.{length};
 ghost use Rattle.tally.specs.Tally.{greysOf};
 ghost use Rattle.render.specs.Render.{rowPlace, rowOf, renderOf, rectOf};
-ghost use Rattle.draw.specs.Draw.{CopyAsks};
+ghost use Rattle.frame.specs.Frame.{CopyAsks};
 ghost use Rattle.byte_render.specs.Bytes.{ByteRowAsks, ByteAsks, FromAsks};
 use settings::Settings;
 use settings::Window;

@@ -1,38 +1,22 @@
--- Laws of draw's refusals: when the record is refused, and when it is not.
+-- Laws of draw's refusals: when the record is refused.
 -- Assumes nothing.
-use Prim.Native.Nat.{ℕ, _*_}
-use mathlib.Core.Bool.{Bool, true, false, _||_, Bool·beq}
+use Prim.Native.Nat.{ℕ}
 use mathlib.Core.List.{List}
 use mathlib.Core.Logic.{_≢_}
-use mathlib.Core.Path.{_≡_, refl, sym, ap, _∙_}
-use lib.Dec.{eqb}
-use lib.Ieee.{Float, nan, inf, fin, up, down, eq}
+use mathlib.Core.Path.{_≡_, refl, sym, _∙_}
 use lib.ListN.{length}
-use native.Mathlib.Omega.{arith}
-use borrow.Author.Tests.{eq-eqb, ne-eqb, eqb-true, not-false}
-use Rattle.limit.specs.declared.Clip.{Clip}
-use Rattle.limit.specs.declared.Clip.the-variants.{Off, Factor}
-use Rattle.limit.specs.Limit.{allowed}
-use Rattle.lists.specs.Lists.{all}
 use Rattle.refuse.specs.Refuse.{first}
-use Rattle.refuse.proofs.Walk.{each-first}
 use Rattle.settings.specs.declared.Settings.{Settings}
 use Rattle.settings.specs.declared.MapRecord.{MapRecord}
 use Rattle.settings.specs.declared.Window.{Window}
-use Rattle.settings.specs.Settings.{binsOf, keptOf, recordOf, clipBad, sameClip, sharedRows}
-use Rattle.settings.proofs.Like.{bins-kept}
-use Rattle.draw.specs.Draw.{filmRows, keptRows, recordRows, drawRows, Held}
-use Rattle.draw.proofs.Tables.{record-numbers, record-held, draw-record}
+use Rattle.settings.specs.Settings.{sharedRows}
+use Rattle.held.specs.Held.{recordRows, Held}
+use Rattle.held.proofs.Tables.{record-held}
+use Rattle.held.proofs.Laws.{record-fifteen}
+use Rattle.draw.specs.Draw.{drawRows}
+use Rattle.draw.proofs.Tables.{draw-record}
 
 -- ---- a record that is another film's, of another size or of other settings
-
--- the rows of 15 give no other number
-pub record-fifteen : (film w h : ℕ) (s : Settings) (r : MapRecord) → first (recordRows film w h s r) ≢ 0 → first (recordRows film w h s r) ≡ 15
-unfolding all
-record-fifteen film w h s r d =
-    eqb-true (first (recordRows film w h s r)) 15
-    (sym (ap (λ b. b || eqb (first (recordRows film w h s r)) 15) (ne-eqb (first (recordRows film w h s r)) 0 d))
-    ∙ each-first (λ n. eqb n 0 || eqb n 15) (recordRows film w h s r) refl (rw (record-numbers film w h s r) refl))
 
 module _ (film w h : ℕ) (pic : List ℕ) (s : Settings) (r : MapRecord) (win : Window) (m : List ℕ) (room : ℕ) (shared : first (sharedRows w h (length pic) s (length m)) ≡ 0) where
   -- where none of the refusals 1 to 11 and 31 applies, a record that differs is refused with 15
@@ -44,42 +28,3 @@ module _ (film w h : ℕ) (pic : List ℕ) (s : Settings) (r : MapRecord) (win :
   -- in any field
   pub other-field : (Held film w h s r → ⊥) → first (drawRows film w h pic s r win m room) ≡ 15
   other-field d = other-record (λ e. d (record-held film w h s r e))
-
--- ---- the record that prepare makes of these settings
-
--- a factor that is a number from 1.0 to 1024.0 is equal to itself
-pub same-factor : (f : Float) → allowed f ≡ true → eq f f ≡ true
-unfolding allowed eq
-same-factor nan h = h
-same-factor (inf s) h = absurd (let z : _≡_ {A = ℕ} 0 1 = cc in omega arith)
-same-factor (fin s m e) h = rw (eq-eqb (m * up e * down e) (m * up e * down e) refl, like s) refl
-  where
-    like : (b : Bool) → Bool·beq b b ≡ true
-    like true = refl
-    like false = refl
-
--- a clip setting that is not refused is the same as itself
-pub same-clip : (clip : Clip) → clipBad clip ≡ false → sameClip clip clip ≡ true
-unfolding sameClip
-same-clip Off h = refl
-same-clip (Factor f) h = same-factor f (not-false (allowed f) h)
-
--- the settings that are kept of these are not refused
-pub own-settings : (s : Settings) → clipBad (s .clip) ≡ false → first (keptRows s (keptOf s)) ≡ 0
-unfolding first keptRows
-own-settings s c =
-    rw (
-      eq-eqb (s .across) (s .across) refl,
-      eq-eqb (s .down) (s .down) refl,
-      bins-kept s,
-      eq-eqb (binsOf s) (binsOf s) refl,
-      eq-eqb (s .min) (s .min) refl,
-      eq-eqb (s .max) (s .max) refl,
-      same-clip (s .clip) c,
-    )
-    refl
-
--- nor is the record of a film, its sizes and these settings
-pub own-record : (film w h : ℕ) (s : Settings) → clipBad (s .clip) ≡ false → first (recordRows film w h s (recordOf film w h s)) ≡ 0
-unfolding first recordRows filmRows
-own-record film w h s c = rw (eq-eqb film film refl, eq-eqb w w refl, eq-eqb h h refl) (own-settings s c)

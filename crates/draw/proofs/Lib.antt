@@ -1,4 +1,3 @@
-pub mod Frames
 pub mod Tables
 pub mod Works
 pub mod Laws

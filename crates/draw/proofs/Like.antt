@@ -1,14 +1,14 @@
--- What draw looks at of what it is handed: bins 0 are 128, of the map buffer the mappings' entries alone, and a window inside the film is free of 16 and 17.
+-- What draw looks at of what it is handed: bins 0 are 128, and of the map buffer the mappings' entries alone.
 -- Assumes nothing.
-use Prim.Native.Nat.{ℕ, zero, suc, _+_, _*_, _≤_, _<_}
+use Prim.Native.Nat.{ℕ, zero, suc, _≤_, _<_}
 use mathlib.Core.Bool.{Bool, true, false, not, cond, _&&_}
 use mathlib.Core.List.{List, [], _∷_, _++_}
 use mathlib.Core.Path.{_≡_, refl, sym, ap, ap₂, _∙_}
 use native.Mathlib.Omega.{arith}
-use lib.Dec.{ltb, eqb}
+use lib.Dec.{ltb}
 use lib.ListN.{length, take, length-take}
 use lib.Seq.{take-all, length-take-le}
-use borrow.Author.Tests.{le-ltb, eq-eqb, ne-eqb, ltb-true, ltb-false}
+use borrow.Author.Tests.{le-ltb, ltb-true, ltb-false}
 use Rattle.lists.specs.Lists.{all}
 use Rattle.refuse.specs.Refuse.{row, first, unless}
 use Rattle.scan.specs.Scan.{within}
@@ -21,8 +21,10 @@ use Rattle.settings.proofs.Ready.{shared-room-alike}
 use Rattle.settings.proofs.Like.{bins-kept, shared-kept}
 use Rattle.render.specs.Render.{renderOf, rectOf}
 use Rattle.render.proofs.Laws.{render-front, render-kept}
+use Rattle.held.specs.Held.{recordRows, windowRows}
+use Rattle.held.proofs.Laws.{record-kept, record-kept-record}
 use Rattle.draw.specs.declared.Drawn.the-variants.{Done, Refused}
-use Rattle.draw.specs.Draw.{filmRows, keptRows, recordRows, windowRows, pixelRows, drawRows, showing, drawnPixels, drawOf, DrawReady}
+use Rattle.draw.specs.Draw.{pixelRows, drawRows, showing, drawnPixels, drawOf, DrawReady}
 use Rattle.draw.proofs.Tables.{draw-ready}
 use Rattle.draw.proofs.Works.{render-asks, ends-refused, ends-well}
 
@@ -33,15 +35,6 @@ unfolding drawnPixels
 drawn-pixels w h pic s win m = refl
 
 -- ---- the settings, with bins 0 kept as 128
-
--- 15 reads the bins so on both sides
-pub record-kept : (film w h : ℕ) (s : Settings) (r : MapRecord) → recordRows film w h (keptOf s) r ≡ recordRows film w h s r
-unfolding recordRows keptRows
-record-kept film w h s r = rw (bins-kept s) refl
-
-pub record-kept-record : (film w h : ℕ) (s : Settings) (r : MapRecord) → recordRows film w h s (recordOf (r .film) (r .width) (r .height) (r .settings)) ≡ recordRows film w h s r
-unfolding recordRows filmRows keptRows
-record-kept-record film w h s r = rw (bins-kept (r .settings)) refl
 
 -- 18 counts the mappings' entries by them
 pub pixel-kept : (w : ℕ) (pic : List ℕ) (s : Settings) (win : Window) (m : List ℕ) → pixelRows w pic (keptOf s) win m ≡ pixelRows w pic s win m
@@ -138,16 +131,7 @@ module _ (film w h : ℕ) (pic : List ℕ) (s : Settings) (r : MapRecord) (win :
       → drawOf film w h pic s r win m out ≡ drawOf film w h pic s r win m′ out
   draw-room m′ out l l′ e = draw-map film w h pic s r win m m′ out (le-ltb (length m) (entriesOf s) l ∙ sym (le-ltb (length m′) (entriesOf s) l′)) e
 
--- ---- when a part of the table is free
-
--- a window inside the film with an output of its area meets neither 16 nor 17
-pub window-free : (w h : ℕ) (win : Window) (room : ℕ) → 0 < win .width → 0 < win .height → win .left + win .width ≤ w → win .top + win .height ≤ h → room ≡ win .height * win .width
-    → first (windowRows w h win room) ≡ 0
-unfolding windowRows first
-window-free w h win room wide high across down area =
-    let a : eqb (win .width) 0 ≡ false = ne-eqb (win .width) 0 (λ z. omega arith) in
-    let b : eqb (win .height) 0 ≡ false = ne-eqb (win .height) 0 (λ z. omega arith) in
-    rw (a, b, le-ltb w (win .left + win .width) across, le-ltb h (win .top + win .height) down, eq-eqb room (win .height * win .width) area) refl
+-- ---- when 13 and 18 are free
 
 -- a window whose pixels lie in Min to Max, with mappings that do too, but at factor 1.0, meets neither 13 nor 18
 pub pixel-free : (w : ℕ) (pic : List ℕ) (s : Settings) (win : Window) (m : List ℕ) → all (within (s .min) (s .max)) (greysOf pic w (rectOf win)) ≡ true

@@ -1,16 +1,13 @@
 -- The parts of draw's table, one behind the other: their numbers, and what they tell where none of their rows applies.
 -- Assumes nothing.
-use Prim.Native.Nat.{ℕ, zero, suc, _+_, _-_, _*_, _≤_, _<_}
+use Prim.Native.Nat.{ℕ, _+_, _-_, _<_}
 use mathlib.Core.Bool.{Bool, true, false, not, _&&_}
 use mathlib.Core.List.{List, [], _∷_, _++_}
-use mathlib.Core.Path.{_≡_, refl, ap, _∙_}
-use lib.Dec.{eqb}
+use mathlib.Core.Path.{_≡_, refl}
 use lib.ListN.{length, take}
-use native.Mathlib.Nat.{mul-comm, mul-le-mul-right}
 use native.Mathlib.Omega.{arith}
-use borrow.Author.Tests.{ltb-false, eqb-false, eqb-true, not-false}
+use borrow.Author.Tests.{not-false}
 use Rattle.lists.specs.Lists.{all}
-use Rattle.lists.proofs.Orders.{pos}
 use Rattle.refuse.specs.Refuse.{first, numbersOf, Numbered}
 use Rattle.refuse.proofs.Walk.{numbers-append, first-none, first-both, front, behind, only-front}
 use Rattle.scan.specs.Scan.{within}
@@ -22,93 +19,52 @@ use Rattle.settings.specs.Settings.{binsOf, entriesOf, clipOne, sharedRows}
 use Rattle.settings.proofs.Ready.{shared-numbers, shared-numbered, ready}
 use Rattle.settings.proofs.Reach.{shared-31}
 use Rattle.render.specs.Render.{rectOf}
-use Rattle.draw.specs.Draw.{filmRows, keptRows, recordRows, windowRows, pixelRows, drawRows, Framed, LookAsks, Held, DrawReady}
+use Rattle.held.specs.Held.{recordRows, windowRows}
+use Rattle.held.proofs.Tables.{record-numbers, window-numbers, record-numbered, window-numbered, record-held, window-inside}
+use Rattle.frame.proofs.Frames.{framed}
+use Rattle.draw.specs.Draw.{pixelRows, drawRows, LookAsks, DrawReady}
 
 -- ---- the numbers, in the order of document 01
-
-pub film-numbers : (film w h : ℕ) (r : MapRecord) → numbersOf (filmRows film w h r) ≡ 15 ∷ 15 ∷ 15 ∷ []
-unfolding numbersOf filmRows
-film-numbers film w h r = refl
-
-pub kept-numbers : (s kept : Settings) → numbersOf (keptRows s kept) ≡ 15 ∷ 15 ∷ 15 ∷ 15 ∷ 15 ∷ 15 ∷ []
-unfolding numbersOf keptRows
-kept-numbers s kept = refl
-
--- of 15
-pub record-numbers : (film w h : ℕ) (s : Settings) (r : MapRecord)
-    → numbersOf (recordRows film w h s r) ≡ 15 ∷ 15 ∷ 15 ∷ 15 ∷ 15 ∷ 15 ∷ 15 ∷ 15 ∷ 15 ∷ []
-unfolding numbersOf recordRows filmRows keptRows
-record-numbers film w h s r = refl
-
--- of 16 and 17
-pub window-numbers : (w h : ℕ) (win : Window) (room : ℕ) → numbersOf (windowRows w h win room) ≡ 16 ∷ 16 ∷ 16 ∷ 16 ∷ 17 ∷ []
-unfolding numbersOf windowRows
-window-numbers w h win room = refl
 
 -- of 13 and 18
 pub pixel-numbers : (w : ℕ) (pic : List ℕ) (s : Settings) (win : Window) (m : List ℕ) → numbersOf (pixelRows w pic s win m) ≡ 13 ∷ 18 ∷ []
 unfolding numbersOf pixelRows
 pixel-numbers w pic s win m = refl
 
+-- of all that stands behind the shared rows
+behind-numbers : (film w h : ℕ) (pic : List ℕ) (s : Settings) (r : MapRecord) (win : Window) (m : List ℕ) (room : ℕ)
+    → numbersOf (recordRows film w h s r ++ (windowRows w h win room ++ pixelRows w pic s win m))
+    ≡ 15 ∷ 15 ∷ 15 ∷ 15 ∷ 15 ∷ 15 ∷ 15 ∷ 15 ∷ 15 ∷ 16 ∷ 16 ∷ 16 ∷ 16 ∷ 17 ∷ 13 ∷ 18 ∷ []
+behind-numbers film w h pic s r win m room =
+    rw (
+      numbers-append (recordRows film w h s r) (windowRows w h win room ++ pixelRows w pic s win m),
+      numbers-append (windowRows w h win room) (pixelRows w pic s win m),
+      record-numbers film w h s r,
+      window-numbers w h win room,
+      pixel-numbers w pic s win m,
+    )
+    refl
+
 -- of draw
 pub draw-numbers : (film w h : ℕ) (pic : List ℕ) (s : Settings) (r : MapRecord) (win : Window) (m : List ℕ) (room : ℕ)
     → numbersOf (drawRows film w h pic s r win m room)
     ≡ 1 ∷ 1 ∷ 1 ∷ 1 ∷ 2 ∷ 3 ∷ 3 ∷ 4 ∷ 4 ∷ 5 ∷ 6 ∷ 7 ∷ 8 ∷ 9 ∷ 9 ∷ 31 ∷ 10 ∷ 11 ∷ 15 ∷ 15 ∷ 15 ∷ 15 ∷ 15 ∷ 15 ∷ 15 ∷ 15 ∷ 15 ∷ 16 ∷ 16 ∷ 16 ∷ 16 ∷ 17 ∷ 13 ∷ 18 ∷ []
-unfolding numbersOf drawRows recordRows filmRows keptRows windowRows pixelRows
+unfolding drawRows
 draw-numbers film w h pic s r win m room =
-    numbers-append (sharedRows w h (length pic) s (length m)) (recordRows film w h s r ++ (windowRows w h win room ++ pixelRows w pic s win m))
-    ∙ ap (λ ns. ns ++ numbersOf (recordRows film w h s r ++ (windowRows w h win room ++ pixelRows w pic s win m))) (shared-numbers w h (length pic) s (length m))
+    rw (
+      numbers-append (sharedRows w h (length pic) s (length m)) (recordRows film w h s r ++ (windowRows w h win room ++ pixelRows w pic s win m)),
+      shared-numbers w h (length pic) s (length m),
+      behind-numbers film w h pic s r win m room,
+    )
+    refl
 
 -- all are above 0
-
-pub film-numbered : (film w h : ℕ) (r : MapRecord) → Numbered (filmRows film w h r)
-unfolding all
-film-numbered film w h r = rw (film-numbers film w h r) refl
-
-pub kept-numbered : (s kept : Settings) → Numbered (keptRows s kept)
-unfolding all
-kept-numbered s kept = rw (kept-numbers s kept) refl
-
-pub record-numbered : (film w h : ℕ) (s : Settings) (r : MapRecord) → Numbered (recordRows film w h s r)
-unfolding all
-record-numbered film w h s r = rw (record-numbers film w h s r) refl
-
-pub window-numbered : (w h : ℕ) (win : Window) (room : ℕ) → Numbered (windowRows w h win room)
-unfolding all
-window-numbered w h win room = rw (window-numbers w h win room) refl
 
 pub pixel-numbered : (w : ℕ) (pic : List ℕ) (s : Settings) (win : Window) (m : List ℕ) → Numbered (pixelRows w pic s win m)
 unfolding all
 pixel-numbered w pic s win m = rw (pixel-numbers w pic s win m) refl
 
 -- ---- what the parts tell
-
--- none of the rows of 15: the record is this film's
-pub record-held : (film w h : ℕ) (s : Settings) (r : MapRecord) → first (recordRows film w h s r) ≡ 0 → Held film w h s r
-unfolding recordRows filmRows keptRows
-record-held film w h s r e =
-    let both = first-both (filmRows film w h r) (keptRows s (r .settings)) (film-numbered film w h r) e in
-    let n = first-none (filmRows film w h r) (film-numbered film w h r) (both .0) in
-    let k = first-none (keptRows s (r .settings)) (kept-numbered s (r .settings)) (both .1) in
-    record {
-      number = eqb-true _ _ (not-false _ (n .0));
-      wide = eqb-true _ _ (not-false _ (n .1 .0));
-      high = eqb-true _ _ (not-false _ (n .1 .1 .0));
-      across = eqb-true _ _ (not-false _ (k .0));
-      down = eqb-true _ _ (not-false _ (k .1 .0));
-      bins = eqb-true _ _ (not-false _ (k .1 .1 .0));
-      least = eqb-true _ _ (not-false _ (k .1 .1 .1 .0));
-      most = eqb-true _ _ (not-false _ (k .1 .1 .1 .1 .0));
-      clip = not-false _ (k .1 .1 .1 .1 .1 .0);
-    }
-
--- neither 16 nor 17: the window has a pixel, lies inside the film, and the output has its area
-pub window-inside : (w h : ℕ) (win : Window) (room : ℕ) → first (windowRows w h win room) ≡ 0
-    → (0 < win .width) × (0 < win .height) × (win .left + win .width ≤ w) × (win .top + win .height ≤ h) × (room ≡ win .height * win .width)
-unfolding windowRows
-window-inside w h win room e =
-    let n = first-none (windowRows w h win room) (window-numbered w h win room) e in
-    (pos _ (n .0), pos _ (n .1 .0), ltb-false _ _ (n .1 .1 .0), ltb-false _ _ (n .1 .1 .1 .0), eqb-true _ _ (not-false _ (n .1 .1 .1 .1 .0)))
 
 -- 18 does not apply: the mappings are as asked, but at factor 1.0
 unlooked : (a b : Bool) → (not a && not b) ≡ false → a ≡ false → b ≡ true
@@ -122,11 +78,6 @@ unfolding pixelRows
 pixels-within w pic s win m e =
     let n = first-none (pixelRows w pic s win m) (pixel-numbered w pic s win m) e in
     (not-false _ (n .0), unlooked _ _ (n .1 .0))
-
--- a window inside the film lies inside the film's picture
-pub framed : {w h size : ℕ} {win : Window} → 0 < win .width → win .left + win .width ≤ w → win .top + win .height ≤ h → size ≡ w * h → Framed size w win
-framed {w} {h} {size} {win} some across down whole =
-    record { some = some; across = across; down = omega (arith, mul-le-mul-right w down, mul-comm h w) }
 
 -- what the search for 13 and 18 asks, where none of the rows before it applies
 pub look-asks : (w h : ℕ) (pic : List ℕ) (s : Settings) (win : Window) (m : List ℕ) (room : ℕ) → first (sharedRows w h (length pic) s (length m)) ≡ 0 → first (windowRows w h win room) ≡ 0
@@ -215,10 +166,4 @@ unfolding all drawRows
 draw-31 film w h pic s r win m room q =
     shared-31 w h (length pic) s (length m)
     (only-front 31 (sharedRows w h (length pic) s (length m)) _ refl
-    (rw (
-      numbers-append (recordRows film w h s r) (windowRows w h win room ++ pixelRows w pic s win m),
-      numbers-append (windowRows w h win room) (pixelRows w pic s win m),
-      record-numbers film w h s r,
-      window-numbers w h win room,
-      pixel-numbers w pic s win m,
-    ) refl) q)
+    (rw (behind-numbers film w h pic s r win m room) refl) q)

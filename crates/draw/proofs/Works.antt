@@ -19,8 +19,9 @@ use Rattle.render.specs.Render.{rectOf, Mapped, Shown}
 use Rattle.tally.proofs.Greys.{length-greys}
 use Rattle.render.proofs.Laws.{ready-mapped}
 use Rattle.draw.specs.declared.Drawn.the-variants.{Done, Refused}
-use Rattle.draw.specs.Draw.{drawRows, drawnPixels, drawOf, showing, CopyAsks, WindowReady}
-use Rattle.draw.proofs.Tables.{framed}
+use Rattle.frame.specs.Frame.{CopyAsks}
+use Rattle.frame.proofs.Frames.{framed}
+use Rattle.draw.specs.Draw.{drawRows, drawnPixels, drawOf, showing, WindowReady}
 
 -- what the copying asks
 pub copy-asks : {w h : ℕ} {pic : List ℕ} {s : Settings} {win : Window} {m : List ℕ} (out : List ℕ) → WindowReady w h pic s win m (length out) → CopyAsks pic w win out

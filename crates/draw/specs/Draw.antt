@@ -5,7 +5,6 @@ use Prim.Native.Nat.{ℕ, _+_, _*_, _≤_, _<_}
 use mathlib.Core.Bool.{true, false, not, _&&_, cond}
 use mathlib.Core.List.{List, [], _∷_, _++_}
 use mathlib.Core.Path.{_≡_}
-use lib.Dec.{ltb, eqb}
 use lib.ListN.{length, take}
 use Rattle.lists.specs.Lists.{all}
 use Rattle.refuse.specs.Refuse.{Row, row, first, unless, Says, accepted, refused}
@@ -14,40 +13,12 @@ use Rattle.tally.specs.Tally.{greysOf}
 use Rattle.settings.specs.declared.Settings.{Settings}
 use Rattle.settings.specs.declared.MapRecord.{MapRecord}
 use Rattle.settings.specs.declared.Window.{Window}
-use Rattle.settings.specs.Settings.{binsOf, entriesOf, clipOne, sameClip, sharedRows, Ready}
+use Rattle.settings.specs.Settings.{binsOf, entriesOf, clipOne, sharedRows, Ready}
 use Rattle.render.specs.Render.{renderOf, rectOf}
+use Rattle.held.specs.Held.{recordRows, windowRows, Held}
+use Rattle.frame.specs.Frame.{Framed}
 use Rattle.draw.specs.declared.Drawn.{Drawn}
 use Rattle.draw.specs.declared.Drawn.the-variants.{Done, Refused}
-
--- 15: "record differs in film number, size ..", a row for each
-unfoldable pub filmRows : ℕ → ℕ → ℕ → MapRecord → List Row
-filmRows film w h r =
-    row 15 (not (eqb film (r .film))) ∷ row 15 (not (eqb w (r .width))) ∷ row 15 (not (eqb h (r .height))) ∷ []
-
--- 15: ".. or any setting (bins 0 read as 128 on both sides)", a row for each
-unfoldable pub keptRows : Settings → Settings → List Row
-keptRows s kept =
-    row 15 (not (eqb (s .across) (kept .across)))
-    ∷ row 15 (not (eqb (s .down) (kept .down)))
-    ∷ row 15 (not (eqb (binsOf s) (binsOf kept)))
-    ∷ row 15 (not (eqb (s .min) (kept .min)))
-    ∷ row 15 (not (eqb (s .max) (kept .max)))
-    ∷ row 15 (not (sameClip (s .clip) (kept .clip)))
-    ∷ []
-
--- 15: the record was made for another film, another size or other settings
-unfoldable pub recordRows : ℕ → ℕ → ℕ → Settings → MapRecord → List Row
-recordRows film w h s r = filmRows film w h r ++ keptRows s (r .settings)
-
--- 16 and 17: "window empty or not inside the film / output length is not the window's area"
-unfoldable pub windowRows : ℕ → ℕ → Window → ℕ → List Row
-windowRows w h win room =
-    row 16 (eqb (win .width) 0)
-    ∷ row 16 (eqb (win .height) 0)
-    ∷ row 16 (ltb w (win .left + win .width))
-    ∷ row 16 (ltb h (win .top + win .height))
-    ∷ row 17 (not (eqb room (win .height * win .width)))
-    ∷ []
 
 -- "then 13 over the window, then 18 (not at factor 1.0)": 18 is "one of the first (grid across) x (grid down) x B map entries outside Min to Max"
 unfoldable pub pixelRows : ℕ → List ℕ → Settings → Window → List ℕ → List Row
@@ -87,17 +58,6 @@ drawOf film w h pic s r win m out =
 
 -- ---- what the functions ask
 
--- a window inside a picture of `size` pixels, `stride` wide, of a column at least
-pub record Framed (size stride : ℕ) (win : Window) : Type 0 where
-  pub some : 0 < win .width
-  pub across : win .left + win .width ≤ stride
-  pub down : (win .top + win .height) * stride ≤ size
-
--- what the copying of a window asks: it lies inside the picture, and the output has its area
-pub record CopyAsks (pic : List ℕ) (stride : ℕ) (win : Window) (out : List ℕ) : Type 0 where
-  pub framed : Framed (length pic) stride win
-  pub size : length out ≡ win .height * win .width
-
 -- what the search for 13 and 18 asks: a window inside the film, a grid and bins as document 01 has them, and room for the mappings
 pub record LookAsks (size w : ℕ) (s : Settings) (win : Window) (room : ℕ) : Type 0 where
   pub framed : Framed size w win
@@ -119,18 +79,6 @@ pub record WindowReady (w h : ℕ) (pic : List ℕ) (s : Settings) (win : Window
   pub mappings : clipOne (s .clip) ≡ false → all (within (s .min) (s .max)) (take (entriesOf s) m) ≡ true
 
 -- ---- what draw knows once none of its rows applies
-
--- a record that was made for this film, this size and these settings
-pub record Held (film w h : ℕ) (s : Settings) (r : MapRecord) : Type 0 where
-  pub number : film ≡ r .film
-  pub wide : w ≡ r .width
-  pub high : h ≡ r .height
-  pub across : s .across ≡ r .settings .across
-  pub down : s .down ≡ r .settings .down
-  pub bins : binsOf s ≡ binsOf (r .settings)
-  pub least : s .min ≡ r .settings .min
-  pub most : s .max ≡ r .settings .max
-  pub clip : sameClip (s .clip) (r .settings .clip) ≡ true
 
 -- what all of draw's rows tell where none applies
 pub record DrawReady (film w h : ℕ) (pic : List ℕ) (s : Settings) (r : MapRecord) (win : Window) (m : List ℕ) (room : ℕ) : Type 0 where

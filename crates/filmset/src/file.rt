@@ -11,8 +11,8 @@ use crate::whole::front;
 use crate::whole::front_bytes;
 use crate::whole::word;
 use pgm::Sizes;
-use pgm::Turned;
-use pgm::Written;
+use pgm_greys::Turned;
+use pgm_write::Written;
 
 // What a target of greys counts up from.
 const TARGET_BASE: u64 = 40000;
@@ -136,7 +136,7 @@ fn turn_by(by_c: bool, bytes: &[u8], start: usize, f: Found, target: &mut [u16])
     if by_c {
         return abi::files::tz_read_greys(bytes, start, f.width, f.height, f.maxval, target);
     }
-    turned_number(pgm::read_greys(bytes, start, f.width, f.height, f.maxval, target))
+    turned_number(pgm_greys::read_greys(bytes, start, f.width, f.height, f.maxval, target))
 }
 
 // The lines of a raster turned into greys: answer, digests and target; and how the front of the target looks.
@@ -275,7 +275,7 @@ fn write_by(by_c: bool, row: Row, picture: &[u16], out: &mut [u8]) -> Laid {
     if by_c {
         return written_c(row, picture, out);
     }
-    laid_of(pgm::write(
+    laid_of(pgm_write::write(
         picture,
         word(row, column::WIDTH),
         word(row, column::HEIGHT),

@@ -22,11 +22,13 @@ use Rattle.header.specs.declared.Head.{Head}
 use Rattle.header.specs.declared.Head.the-variants as Head
 use Rattle.pgm.specs.declared.Sizes.{Sizes}
 use Rattle.pgm.specs.declared.Sizes.the-variants as Sizes
-use Rattle.pgm.specs.declared.Turned.{Turned}
-use Rattle.pgm.specs.declared.Turned.the-variants as Turned
-use Rattle.pgm.specs.declared.Written.{Written}
-use Rattle.pgm.specs.declared.Written.the-variants as Written
-use Rattle.pgm.specs.Pgm.{readOf, sizesOf, rasterOf, sizesSays, turnedSays, Greyed, greyedAs, writtenSays, Wrote, wroteAs}
+use Rattle.pgm_greys.specs.declared.Turned.{Turned}
+use Rattle.pgm_greys.specs.declared.Turned.the-variants as Turned
+use Rattle.pgm_write.specs.declared.Written.{Written}
+use Rattle.pgm_write.specs.declared.Written.the-variants as Written
+use Rattle.pgm.specs.Pgm.{readOf, sizesOf, rasterOf, sizesSays}
+use Rattle.pgm_greys.specs.Greys.{turnedSays, Greyed, greyedAs}
+use Rattle.pgm_write.specs.Write.{writtenSays, Wrote, wroteAs}
 use Rattle.pgm.proofs.Tables.{read-within}
 use Rattle.flat.specs.Flat.{clipFrom, clipNumber, clipFactor, recordNumbers, recordFrom}
 use Rattle.flat.specs.Films.{Foot, footAfter, preparedAs, flatPrepared, enhancedAs, flatEnhanced, drawnAs, flatDrawn}

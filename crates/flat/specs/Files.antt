@@ -6,7 +6,8 @@ use mathlib.Core.List.{List, [], _∷_}
 use Rattle.refuse.specs.Refuse.{Says, accepted, refused}
 use Rattle.header.specs.declared.Head.{Head}
 use Rattle.header.specs.declared.Head.the-variants as Head
-use Rattle.pgm.specs.Pgm.{turnedSays, Greyed, writtenSays, Wrote}
+use Rattle.pgm_greys.specs.Greys.{turnedSays, Greyed}
+use Rattle.pgm_write.specs.Write.{writtenSays, Wrote}
 use Rattle.flat.specs.Flat.{returned}
 
 -- "one answer can't hold numbers and a part": the number returned, and the numbers or the target that were lent for the rest

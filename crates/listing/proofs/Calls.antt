@@ -26,12 +26,17 @@ use Rattle.samples.specs.Samples.{isWide, unpacked, noneAbove}
 use Rattle.samples.proofs.Bounds.{length-unpacked}
 use Rattle.pgm.specs.declared.Sizes.{Sizes}
 use Rattle.pgm.specs.declared.Sizes.the-variants as Sizes
-use Rattle.pgm.specs.declared.Turned.{Turned}
-use Rattle.pgm.specs.declared.Turned.the-variants as Turned
-use Rattle.pgm.specs.declared.Written.{Written}
-use Rattle.pgm.specs.declared.Written.the-variants as Written
-use Rattle.pgm.specs.Pgm.{Wrote, wroteAs, headRows, rasterRows, targetRows, turnRows, RasterAsks, Greyed, greyedAs, turnedOf, readOf, sizesOf, rasterOf}
-use Rattle.pgm.proofs.Tables.{within-none, exact-none, grey-asks, read-header, target-roomy}
+use Rattle.pgm_greys.specs.declared.Turned.{Turned}
+use Rattle.pgm_greys.specs.declared.Turned.the-variants as Turned
+use Rattle.pgm_write.specs.declared.Written.{Written}
+use Rattle.pgm_write.specs.declared.Written.the-variants as Written
+use Rattle.raster.specs.Raster.{headRows, rasterRows, RasterAsks}
+use Rattle.pgm.specs.Pgm.{readOf, sizesOf, rasterOf}
+use Rattle.pgm_greys.specs.Greys.{targetRows, turnRows, Greyed, greyedAs, turnedOf}
+use Rattle.pgm_write.specs.Write.{Wrote, wroteAs}
+use Rattle.raster.proofs.Tables.{within-none, exact-none}
+use Rattle.pgm.proofs.Tables.{read-header}
+use Rattle.pgm_greys.proofs.Tables.{grey-asks, target-roomy}
 use Rattle.pgm.proofs.Laws.{read-asks}
 use Rattle.prepare.specs.declared.Prepared.{Prepared}
 use Rattle.prepare.specs.declared.Prepared.the-variants as Prepared

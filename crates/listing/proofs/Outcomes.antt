@@ -6,8 +6,8 @@ use mathlib.Core.List.{List}
 use mathlib.Core.Path.{_≡_, sym, ap, _∙_}
 use denote.Ref.{now}
 use Rattle.refuse.specs.Run.{Run, Ran}
-use Rattle.pgm.specs.declared.Written.{Written}
-use Rattle.pgm.specs.Pgm.{Wrote, wroteAs}
+use Rattle.pgm_write.specs.declared.Written.{Written}
+use Rattle.pgm_write.specs.Write.{Wrote, wroteAs}
 use Rattle.listing.specs.Listing.{listOf}
 use Rattle.listing.proofs.list.Kinds as list
 use Rattle.listing.proofs.list.Reads as list-reads

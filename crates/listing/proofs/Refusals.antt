@@ -17,8 +17,9 @@ use Rattle.header.specs.declared.Head.{Head}
 use Rattle.header.specs.declared.Head.the-variants as Head
 use Rattle.header.specs.Header.{headerOf}
 use Rattle.header.proofs.Laws.{refused-number}
-use Rattle.pgm.specs.Pgm.{headRows, rasterRows, judgedOf, readOf}
-use Rattle.pgm.proofs.Tables.{read-numbers}
+use Rattle.raster.specs.Raster.{headRows, rasterRows}
+use Rattle.pgm.specs.Pgm.{judgedOf, readOf}
+use Rattle.raster.proofs.Tables.{read-numbers}
 use Rattle.prepare.specs.Prepare.{prepareRows}
 use Rattle.prepare.proofs.Table.{table-numbers}
 

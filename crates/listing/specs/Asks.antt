@@ -7,7 +7,7 @@ use mathlib.Core.Path.{_≡_}
 use lib.Dec.{ltb}
 use lib.ListN.{length, getD}
 use Rattle.lists.specs.Lists.{all, onto, over}
-use Rattle.pgm.specs.Pgm.{RasterAsks}
+use Rattle.raster.specs.Raster.{RasterAsks}
 use Rattle.tiles.specs.Tiles.{mappings, TilesAsk}
 use Rattle.listing.specs.Listing.{settingsOf, limitFor, line}
 

@@ -17,9 +17,10 @@ use Rattle.header.specs.declared.Head.{Head}
 use Rattle.header.specs.declared.Head.the-variants.{Found, Refused}
 use Rattle.header.specs.Header.{headerOf, decimalOf}
 use Rattle.samples.specs.Samples.{isWide, unpacked, noneAbove}
-use Rattle.pgm.specs.declared.Written.{Written}
-use Rattle.pgm.specs.declared.Written.the-variants as Written
-use Rattle.pgm.specs.Pgm.{readOf, Wrote, wrote}
+use Rattle.pgm_write.specs.declared.Written.{Written}
+use Rattle.pgm_write.specs.declared.Written.the-variants as Written
+use Rattle.pgm.specs.Pgm.{readOf}
+use Rattle.pgm_write.specs.Write.{Wrote, wrote}
 use Rattle.tiles.specs.Tiles.{tileOf, pixelsIn, tileMap}
 use Rattle.prepare.specs.Prepare.{prepareRows}
 

@@ -7,15 +7,15 @@ ghost use Rattle.lists.specs.Lists.{onto};
 ghost use Rattle.refuse.specs.Refuse.{first, unless};
 ghost use Rattle.header.specs.Header.{headerOf};
 ghost use Rattle.samples.specs.Samples.{isWide, unpacked};
-ghost use Rattle.pgm.specs.Pgm.{wroteAs};
+ghost use Rattle.pgm_write.specs.Write.{wroteAs};
 ghost use Rattle.prepare.specs.Prepare.{prepareRows};
 ghost use Rattle.listing.specs.Listing.{settingsOf, line, refusedText, excessFor, filmText, isLarger, pictureText, listingOf, listOf, laidOf};
 ghost use Rattle.listing.specs.Asks.{Laid, Told, LineAsks, tileFields, TileLineAsks, ExcessAsks, LinesAsk, ListAsks};
 use header::Head;
 use limit::Clip;
 use pgm::Sizes;
-use pgm::Turned;
-use pgm::Written;
+use pgm_greys::Turned;
+use pgm_write::Written;
 use prepare::Prepared;
 use settings::Settings;
 
@@ -166,7 +166,7 @@ fn list_raster(raster: &[u8], width: u32, height: u32, maxval: u32, out: &mut [u
     ensures { λ r. ⌜ Told (now (out .entry)) (pictureText width height maxval (unpacked (isWide maxval) (now (raster .entry)) (width * height))) (now (out .exit)) r ⌝ }
 {
     let mut film = [0u16; 8192];
-    match pgm::read_greys(raster, 0, width, height, maxval, &mut film) {
+    match pgm_greys::read_greys(raster, 0, width, height, maxval, &mut film) {
         Turned::Done => {
             let count = (width * height) as usize;
             list_film(&film[..count], width, height, maxval, out)

@@ -6,8 +6,8 @@ mod text;
 use given::Given;
 use libc::STDIN_FILENO;
 use pgm::Sizes;
-use pgm::Turned;
-use pgm::Written;
+use pgm_greys::Turned;
+use pgm_write::Written;
 
 // How many samples a raster of so many bytes has.
 fn samples_of(bytes: usize, maxval: u32) -> usize {
@@ -20,7 +20,7 @@ fn samples_of(bytes: usize, maxval: u32) -> usize {
 // Writes the greys again, and prints whether the file comes out.
 fn again(file: &[u8], greys: &[u16], width: u32, height: u32, maxval: u32) {
     let mut out = [0u8; 64];
-    match pgm::write(greys, width, height, maxval, &mut out) {
+    match pgm_write::write(greys, width, height, maxval, &mut out) {
         Written::Bytes(n) => text::written(text::first_bytes(&out, n), file),
         Written::Refused(n) => text::refused(n),
     }
@@ -30,7 +30,7 @@ fn again(file: &[u8], greys: &[u16], width: u32, height: u32, maxval: u32) {
 fn film(file: &[u8], width: u32, height: u32, maxval: u32) {
     let mut target = [0u16; 64];
     let raster = pgm::read_raster(file);
-    match pgm::read_greys(raster, 0, width, height, maxval, &mut target) {
+    match pgm_greys::read_greys(raster, 0, width, height, maxval, &mut target) {
         Turned::Done => {
             let greys = text::first_greys(&target, samples_of(raster.len(), maxval));
             text::plain(greys, width, height, maxval);

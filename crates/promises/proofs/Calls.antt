@@ -14,7 +14,8 @@ use Rattle.settings.specs.declared.Footer.{Footer}
 use Rattle.settings.specs.Settings.{binsOf, entriesOf, keptOf, clipOne, sameClip, sharedRows}
 use Rattle.tiles.specs.Tiles.{pixelsIn}
 use Rattle.prepare.specs.Prepare.{preparedSays, enhancedSays, Ended, prepareOf, Over, overing, enhanceOf}
-use Rattle.draw.specs.Draw.{drawRows, drawnSays, Shows, showing, drawOf, Held}
+use Rattle.held.specs.Held.{Held}
+use Rattle.draw.specs.Draw.{drawRows, drawnSays, Shows, showing, drawOf}
 use Rattle.draw.proofs.Laws.{other-field}
 use Rattle.draw.proofs.Tables.{draw-ready}
 use Rattle.promises.specs.Films.{clippedCounts, ruleGrey, HandedOn}

@@ -12,7 +12,10 @@ use Rattle.refuse.specs.Refuse.{first, accepted, refused, says}
 use Rattle.header.specs.declared.Head.{Head}
 use Rattle.header.specs.declared.Head.the-variants as Head
 use Rattle.header.specs.Grammar.{Header, Hash}
-use Rattle.pgm.specs.Pgm.{rasterSize, headRows, rasterRows, turnRows, writeRows, readOf, sizesOf, rasterOf, sizesSays, turnedSays, writtenSays, turnedOf, Greyed, fileOf, Wrote, wroteAs, writeOf}
+use Rattle.raster.specs.Raster.{rasterSize, headRows, rasterRows}
+use Rattle.pgm.specs.Pgm.{readOf, sizesOf, rasterOf, sizesSays}
+use Rattle.pgm_greys.specs.Greys.{turnRows, turnedSays, turnedOf, Greyed}
+use Rattle.pgm_write.specs.Write.{writeRows, writtenSays, fileOf, Wrote, wroteAs, writeOf}
 use Rattle.pgm.proofs.Tables.{read-within}
 use Rattle.promises.proofs.Accepted.{table-says, table-kept}
 use Rattle.promises.proofs.Files.{found-says, hash-says, other-says, raster-behind, refused-part, greys-table, write-table, written-none, written-count, written-file, file-sizes, file-greys, file-again, file-pixels}

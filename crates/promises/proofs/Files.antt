@@ -18,12 +18,19 @@ use Rattle.header.specs.Grammar.{Header, Hash}
 use Rattle.header.proofs.Grammar.{header-complete, header-longer, header-sound}
 use Rattle.header.proofs.Refusals.{hash-complete, other-exactly}
 use Rattle.samples.specs.Samples.{isWide, unpacked}
-use Rattle.pgm.specs.declared.Turned.the-variants as Turned
-use Rattle.pgm.specs.declared.Written.the-variants as Written
-use Rattle.pgm.specs.Pgm.{rasterSize, headRows, rasterRows, turnRows, writeRows, WriteAsks, judgedOf, readOf, sizesOf, rasterOf, sizesSays, turnedSays, writtenSays, Greyed, greyedAs, turnedOf, fileOf, Wrote, wroteAs, writeOf}
-use Rattle.pgm.proofs.Tables.{limit-numbered, within-none, judged-limit, judged-raster, judged-found, read-judged, read-refused, read-header, write-asks, write-fits, length-file}
-use Rattle.pgm.proofs.Parts.{greys-refused, greys-done, write-refused, write-done}
-use Rattle.pgm.proofs.Laws.{written-read, written-sizes, written-greys, read-asks, turned-part}
+use Rattle.pgm_greys.specs.declared.Turned.the-variants as Turned
+use Rattle.pgm_write.specs.declared.Written.the-variants as Written
+use Rattle.raster.specs.Raster.{rasterSize, headRows, rasterRows}
+use Rattle.pgm.specs.Pgm.{judgedOf, readOf, sizesOf, rasterOf, sizesSays}
+use Rattle.pgm_greys.specs.Greys.{turnRows, turnedSays, Greyed, greyedAs, turnedOf}
+use Rattle.pgm_write.specs.Write.{writeRows, WriteAsks, writtenSays, fileOf, Wrote, wroteAs, writeOf}
+use Rattle.raster.proofs.Tables.{limit-numbered, within-none}
+use Rattle.pgm.proofs.Tables.{judged-limit, judged-raster, judged-found, read-judged, read-refused, read-header}
+use Rattle.pgm.proofs.Laws.{read-asks}
+use Rattle.pgm_greys.proofs.Parts.{greys-refused, greys-done, turned-part}
+use Rattle.pgm_write.proofs.Tables.{write-asks, write-fits, length-file}
+use Rattle.pgm_write.proofs.Parts.{write-refused, write-done}
+use Rattle.pgm_write.proofs.Laws.{written-read, written-sizes, written-greys}
 use Rattle.promises.proofs.Accepted.{refused-says, ByTable, table-accepted, table-done, table-says}
 
 -- ---- what read says

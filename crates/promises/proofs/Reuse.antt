@@ -25,9 +25,11 @@ use Rattle.prepare.specs.Prepare.{preparedSays, Ended, prepareOf, preparedOf}
 use Rattle.prepare.proofs.Table.{table-both}
 use Rattle.tiles.proofs.Films.{length-mappings, mappings-within}
 use Rattle.prepare.proofs.Renders.{laid-front}
-use Rattle.draw.specs.Draw.{recordRows, pixelRows, drawRows}
-use Rattle.draw.proofs.Laws.{own-record}
-use Rattle.draw.proofs.Like.{window-free, pixel-free}
+use Rattle.held.specs.Held.{recordRows}
+use Rattle.draw.specs.Draw.{pixelRows, drawRows}
+use Rattle.held.proofs.Laws.{own-record}
+use Rattle.held.proofs.Tables.{window-free}
+use Rattle.draw.proofs.Like.{pixel-free}
 use Rattle.draw.proofs.Tables.{draw-pixel}
 use Rattle.promises.proofs.Accepted.{prepare-accepts, prepare-work, prepare-done, prepare-record}
 

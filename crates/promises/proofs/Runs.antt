@@ -30,17 +30,19 @@ use Rattle.draw.specs.Draw.{showing, drawOf}
 use Rattle.draw.proofs.draw.Kinds as draw
 use Rattle.draw.proofs.draw.Reads as draw-reads
 use Rattle.pgm.specs.declared.Sizes.{Sizes}
-use Rattle.pgm.specs.declared.Turned.{Turned}
-use Rattle.pgm.specs.declared.Written.{Written}
-use Rattle.pgm.specs.Pgm.{readOf, sizesOf, rasterOf, startOf, turnedOf, greyedAs, writeOf, wroteAs}
+use Rattle.pgm_greys.specs.declared.Turned.{Turned}
+use Rattle.pgm_write.specs.declared.Written.{Written}
+use Rattle.pgm.specs.Pgm.{readOf, sizesOf, rasterOf, startOf}
+use Rattle.pgm_greys.specs.Greys.{turnedOf, greyedAs}
+use Rattle.pgm_write.specs.Write.{writeOf, wroteAs}
 use Rattle.pgm.proofs.read_sizes.Kinds as sizes
 use Rattle.pgm.proofs.read_sizes.Reads as sizes-reads
 use Rattle.pgm.proofs.read_raster.Kinds as raster
 use Rattle.pgm.proofs.read_raster.Reads as raster-reads
-use Rattle.pgm.proofs.read_greys.Kinds as greys
-use Rattle.pgm.proofs.read_greys.Reads as greys-reads
-use Rattle.pgm.proofs.write.Kinds as write
-use Rattle.pgm.proofs.write.Reads as write-reads
+use Rattle.pgm_greys.proofs.read_greys.Kinds as greys
+use Rattle.pgm_greys.proofs.read_greys.Reads as greys-reads
+use Rattle.pgm_write.proofs.write.Kinds as write
+use Rattle.pgm_write.proofs.write.Reads as write-reads
 
 -- ---- prepare
 

@@ -16,7 +16,8 @@ use Rattle.settings.specs.Settings.{binsOf, entriesOf, recordOf, clipOne}
 use Rattle.render.specs.Render.{renderOf, rectOf}
 use Rattle.prepare.specs.Prepare.{preparedSays, prepareOf, enhanceOf}
 use Rattle.draw.specs.declared.Drawn.the-variants.{Done}
-use Rattle.draw.specs.Draw.{drawnSays, Shows, showing, drawOf, Held, DrawReady}
+use Rattle.held.specs.Held.{Held}
+use Rattle.draw.specs.Draw.{drawnSays, Shows, showing, drawOf, DrawReady}
 use Rattle.settings.proofs.Clips.{same-clip-one}
 use Rattle.settings.proofs.Like.{bins-kept}
 use Rattle.render.proofs.Laws.{render-fields}

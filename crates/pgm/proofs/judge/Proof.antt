@@ -1,6 +1,7 @@
 -- The rows 22 to 25 behind a header that was found. Assumes nothing.
 use mathlib.Core.Path.{sym, _∙_}
-use Rattle.pgm.proofs.Tables.{head-within, judged-limit, judged-raster, judged-found}
+use Rattle.raster.proofs.Tables.{head-within}
+use Rattle.pgm.proofs.Tables.{judged-limit, judged-raster, judged-found}
 use borrow.Author.Needs.{needs}
 use Rattle.pgm.proofs.judge.Statement.{statement}
 use Rattle.pgm.proofs.judge.Tie as tie

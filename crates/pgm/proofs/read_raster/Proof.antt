@@ -3,7 +3,7 @@
 use mathlib.Core.Path.{refl, sym, _∙_}
 use native.Mathlib.Nat.{zero-add}
 use Rattle.pgm.proofs.Tables.{read-within}
-use Rattle.pgm.proofs.Parts.{part-tail}
+use Rattle.raster.proofs.Tables.{part-tail}
 use borrow.Author.Needs.{needs}
 use Rattle.pgm.proofs.read_raster.Statement.{statement}
 use Rattle.pgm.proofs.read_raster.Tie as tie

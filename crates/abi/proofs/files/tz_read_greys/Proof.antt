@@ -6,7 +6,7 @@ use Rattle.abi.proofs.files.tz_read_greys.Statement.{statement}
 use Rattle.abi.proofs.files.tz_read_greys.Tie as tie
 use Rattle.abi.proofs.files.tz_read_greys.Reads as reads
 use Rattle.abi.proofs.files.tz_read_greys.Lts as lts
-use Rattle.pgm.proofs.read_greys.Reads as read-greys-reads
+use Rattle.pgm_greys.proofs.read_greys.Reads as read-greys-reads
 
 read-greys-requires : tie.Need-read-greys-requires
 read-greys-requires c κs = search needs

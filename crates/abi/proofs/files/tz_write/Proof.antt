@@ -6,7 +6,7 @@ use Rattle.abi.proofs.files.tz_write.Statement.{statement}
 use Rattle.abi.proofs.files.tz_write.Tie as tie
 use Rattle.abi.proofs.files.tz_write.Reads as reads
 use Rattle.abi.proofs.files.tz_write.Lts as lts
-use Rattle.pgm.proofs.write.Reads as write-reads
+use Rattle.pgm_write.proofs.write.Reads as write-reads
 
 write-requires : tie.Need-write-requires
 write-requires c κs = search needs

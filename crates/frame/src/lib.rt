@@ -1,0 +1,43 @@
+// The rows of a window in a picture: looked at for greys outside a range, and copied.
+ghost use mathlib.Core.Path.{_≡_};
+ghost use lib.ListN.{length};
+ghost use Rattle.lists.specs.Lists.{all};
+ghost use Rattle.scan.specs.Scan.{within};
+ghost use Rattle.tally.specs.Tally.{greysOf};
+ghost use Rattle.render.specs.Render.{rectOf};
+ghost use Rattle.frame.specs.Frame.{Framed, CopyAsks};
+use settings::Window;
+
+// Whether all pixels of the window lie in Min to Max.
+pub fn window_within(picture: &[u16], stride: usize, win: Window, min: u32, max: u32) -> bool
+    requires { ⌜ Framed (length (now picture)) stride win ⌝ }
+    ensures { λ r. ⌜ r ≡ all (within min max) (greysOf (now (picture .entry)) stride (rectOf win)) ⌝ }
+{
+    let mut y = 0;
+    while y < win.height {
+        let a = ((win.top as usize) + (y as usize)) * stride + (win.left as usize);
+        let e = a + (win.width as usize);
+        if !scan::all_within(&picture[a..e], min, max) {
+            return false;
+        }
+        y += 1;
+    }
+    true
+}
+
+// Copies the window's pixels to the output, row by row.
+pub fn copy_window(picture: &[u16], stride: usize, win: Window, out: &mut [u16])
+    requires { ⌜ CopyAsks (now picture) stride win (now out) ⌝ }
+    ensures { λ _. ⌜ now (out .exit) ≡ greysOf (now (picture .entry)) stride (rectOf win) ⌝ }
+{
+    let wide = win.width as usize;
+    let mut y = 0;
+    while y < win.height {
+        let from = ((win.top as usize) + (y as usize)) * stride + (win.left as usize);
+        let to = from + wide;
+        let at = (y as usize) * wide;
+        let end = at + wide;
+        lists::copy(&picture[from..to], &mut out[at..end]);
+        y += 1;
+    }
+}

@@ -1,0 +1,25 @@
+-- `record_refusal` gives 15 where the record is another film's, of another size or of other settings.
+-- Assumes nothing.
+use borrow.Author.Needs.{needs}
+use Rattle.refuse.proofs.Walk.{front, behind}
+use Rattle.held.specs.Held.{recordRows}
+use Rattle.held.proofs.Tables.{film-numbered}
+use Rattle.held.proofs.record_refusal.Statement.{statement}
+use Rattle.held.proofs.record_refusal.Tie as tie
+
+film-refusal-requires : tie.Need-film-refusal-requires
+film-refusal-requires c κs = search needs
+
+returns : tie.Need-returns
+unfolding recordRows
+returns c = front _ _ (c .before .film-refusal .ensures) (c .if1 .taken)
+
+kept-refusal-requires : tie.Need-kept-refusal-requires
+kept-refusal-requires c κs = search needs
+
+returns-2 : tie.Need-returns-2
+unfolding recordRows
+returns-2 c = behind _ _ (film-numbered _ _ _ _) (c .before .before .before .film-refusal .ensures) (c .before .before .if1 .left) (c .kept-refusal .ensures)
+
+pub record-refusal-spec : {M : Type 1} → statement M
+record-refusal-spec = tie.close (tie.spec film-refusal-requires returns kept-refusal-requires returns-2)

@@ -1,0 +1,84 @@
+// What a map record and a window are judged by: whether the record was made for this film, size and settings, and whether the window lies inside the film.
+ghost use mathlib.Core.Path.{_≡_};
+ghost use Rattle.refuse.specs.Refuse.{first};
+ghost use Rattle.held.specs.Held.{filmRows, keptRows, recordRows, windowRows};
+use settings::MapRecord;
+use settings::Settings;
+use settings::Window;
+
+// Refusal 15, where the record is another film's or of another size, else 0.
+pub fn film_refusal(film: u32, width: u32, height: u32, record: MapRecord) -> u32
+    ensures { λ r. ⌜ r ≡ first (filmRows film width height «record») ⌝ }
+{
+    if film != record.film {
+        return 15;
+    }
+    if width != record.width {
+        return 15;
+    }
+    if height != record.height {
+        return 15;
+    }
+    0
+}
+
+// Refusal 15, where the settings are not those that were kept, else 0. Bins 0 are read as 128 on both sides.
+pub fn kept_refusal(s: Settings, kept: Settings) -> u32
+    ensures { λ r. ⌜ r ≡ first (keptRows s kept) ⌝ }
+{
+    if s.across != kept.across {
+        return 15;
+    }
+    if s.down != kept.down {
+        return 15;
+    }
+    if settings::bins(s) != settings::bins(kept) {
+        return 15;
+    }
+    if s.min != kept.min {
+        return 15;
+    }
+    if s.max != kept.max {
+        return 15;
+    }
+    let asked = s.clip;
+    let made = kept.clip;
+    if !settings::same_clip(asked, made) {
+        return 15;
+    }
+    0
+}
+
+// Refusal 15, where the record differs from what comes with the call, else 0.
+pub fn record_refusal(film: u32, width: u32, height: u32, s: Settings, record: MapRecord) -> u32
+    ensures { λ r. ⌜ r ≡ first (recordRows film width height s «record») ⌝ }
+{
+    let differs = film_refusal(film, width, height, record);
+    if differs != 0 {
+        return differs;
+    }
+    let kept = record.settings;
+    kept_refusal(s, kept)
+}
+
+// The first of the refusals 16 and 17 that applies, else 0.
+pub fn window_refusal(width: u32, height: u32, win: Window, room: usize) -> u32
+    ensures { λ r. ⌜ r ≡ first (windowRows width height win room) ⌝ }
+{
+    if win.width == 0 {
+        return 16;
+    }
+    if win.height == 0 {
+        return 16;
+    }
+    if (width as u64) < (win.left as u64) + (win.width as u64) {
+        return 16;
+    }
+    if (height as u64) < (win.top as u64) + (win.height as u64) {
+        return 16;
+    }
+    if room != (win.height as usize) * (win.width as usize) {
+        return 17;
+    }
+    0
+}

@@ -1,0 +1,58 @@
+-- Document 01, "What each call hands back" for write, the refusals 22, 23, 2, 26 and 27, and "Raw PGM".
+-- A file is a list of bytes. w, h and m are width, height and maxval.
+-- Assumes nothing.
+use Prim.Native.Nat.{ℕ, _+_, _*_, _≤_}
+use mathlib.Core.Bool.{true, not}
+use mathlib.Core.List.{List, [], _∷_, _++_}
+use mathlib.Core.Path.{_≡_}
+use lib.Dec.{ltb, eqb}
+use lib.ListN.{length}
+use Rattle.lists.specs.Lists.{onto}
+use Rattle.refuse.specs.Refuse.{Row, row, first, unless, Says, accepted, refused}
+use Rattle.header.specs.Header.{headerBytes}
+use Rattle.samples.specs.Samples.{isWide, packed, noneAbove}
+use Rattle.raster.specs.Raster.{rasterSize, headRows, Within}
+use Rattle.pgm_write.specs.declared.Written.{Written}
+use Rattle.pgm_write.specs.declared.Written.the-variants as Written
+
+-- "the raster is written straight behind the header bytes already laid down"
+unfoldable pub fileOf : List ℕ → ℕ → ℕ → ℕ → List ℕ
+fileOf pic w h m = headerBytes w h m ++ packed (isWide m) pic
+
+-- "Write: 22, 23, 2, 26, 27."
+unfoldable pub writeRows : List ℕ → ℕ → ℕ → ℕ → ℕ → List Row
+writeRows pic w h m room =
+    headRows w h m
+    ++ (row 2 (not (eqb (length pic) (w * h)))
+    ∷ row 26 (not (noneAbove m pic))
+    ∷ row 27 (ltb room (length (fileOf pic w h m)))
+    ∷ [])
+
+-- what the rows of write tell where none applies: a picture of its size, none of it above maxval, and room for the whole file
+pub record WriteAsks (pic : List ℕ) (w h m room : ℕ) : Type 0 where
+  pub within : Within w h m
+  pub whole : length pic ≡ w * h
+  pub bounded : noneAbove m pic ≡ true
+  pub fitting : length (headerBytes w h m) + rasterSize w h m ≤ room
+
+-- document 01's value and number of write's answers: "the byte count", or a refusal
+unfoldable pub writtenSays : Written → Says ℕ
+writtenSays (Written.Bytes n) = accepted n
+writtenSays (Written.Refused n) = refused n
+
+-- what the call leaves: its answer and the output
+pub record Wrote : Type 0 where
+  pub answer : Written
+  pub out : List ℕ
+
+-- an answer and an output as one
+abbrev pub wroteAs : Written → List ℕ → Wrote
+wroteAs answer out = record { answer = answer; out = out }
+
+-- the first row that applies, and the output stays as it was, else bytes at its front: "returns the byte count; bytes behind it keep their contents"
+abbrev pub wrote : List Row → List ℕ → List ℕ → Wrote
+wrote rows out bytes = unless (first rows) (λ n. wroteAs (Written.Refused n) out) (wroteAs (Written.Bytes (length bytes)) (onto out bytes))
+
+-- write: the first row that applies, else the output with the file at its front
+unfoldable pub writeOf : List ℕ → ℕ → ℕ → ℕ → List ℕ → Wrote
+writeOf pic w h m out = wrote (writeRows pic w h m (length out)) out (fileOf pic w h m)

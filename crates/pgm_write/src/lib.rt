@@ -1,0 +1,54 @@
+// Raw PGM: write.
+ghost use mathlib.Core.Path.{_≡_};
+ghost use lib.ListN.{length};
+ghost use Rattle.lists.specs.Lists.{onto};
+ghost use Rattle.refuse.specs.Refuse.{first};
+ghost use Rattle.pgm_write.specs.Write.{fileOf, writeRows, WriteAsks, wroteAs, writeOf};
+
+// How many bytes were written, or the refusal.
+pub enum Written {
+    Bytes(usize),
+    Refused(u32),
+}
+
+// The first refusal of write, else 0.
+fn write_refusal(picture: &[u16], width: u32, height: u32, maxval: u32, room: usize) -> u32
+    ensures { λ r. ⌜ r ≡ first (writeRows (now (picture .entry)) width height maxval room) ⌝ }
+{
+    let limit = raster::limit_refusal(width, height, maxval);
+    if limit != 0 {
+        return limit;
+    }
+    if picture.len() != (width as usize) * (height as usize) {
+        return 2;
+    }
+    if !samples::greys_none_above(picture, maxval) {
+        return 26;
+    }
+    let header = header::header_length(width, height, maxval);
+    if room < header + raster::raster_size(width, height, maxval) {
+        return 27;
+    }
+    0
+}
+
+// Lays the header down, and the raster straight behind it; hands back how many bytes they take.
+fn lay_file(picture: &[u16], width: u32, height: u32, maxval: u32, out: &mut [u8]) -> usize
+    requires { ⌜ WriteAsks (now picture) width height maxval (length (now out)) ⌝ }
+    ensures { λ r. ⌜ (now (out .exit) ≡ onto (now (out .entry)) (fileOf (now (picture .entry)) width height maxval)) × (r ≡ length (fileOf (now (picture .entry)) width height maxval)) ⌝ }
+{
+    let header = header::write_header(out, width, height, maxval);
+    samples::pack(picture, maxval, &mut out[header..]);
+    header + raster::raster_size(width, height, maxval)
+}
+
+// Writes a picture as a raw PGM file at the front of out; bytes behind it keep their contents.
+pub fn write(picture: &[u16], width: u32, height: u32, maxval: u32, out: &mut [u8]) -> Written
+    ensures { λ r. ⌜ wroteAs r (now (out .exit)) ≡ writeOf (now (picture .entry)) width height maxval (now (out .entry)) ⌝ }
+{
+    let refusal = write_refusal(picture, width, height, maxval, out.len());
+    if refusal != 0 {
+        return Written::Refused(refusal);
+    }
+    Written::Bytes(lay_file(picture, width, height, maxval, out))
+}
