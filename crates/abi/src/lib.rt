@@ -1,3 +1,2 @@
-// The calls of prepare, draw and pgm for C: numbers and slices in, 0 or the refusal's number out.
-pub mod files;
+// The calls on films for C: numbers and slices in, 0 or the refusal's number out.
 pub mod films;

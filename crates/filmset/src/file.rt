@@ -76,7 +76,7 @@ fn row_bytes(row: Row, first: usize) -> [u8; 32] {
 
 fn sizes_c(bytes: &[u8]) -> Found {
     let mut sizes = [0u32; 3];
-    let number = abi::files::tz_read_sizes(bytes, &mut sizes);
+    let number = abi_files::tz_read_sizes(bytes, &mut sizes);
     Found {
         number,
         width: sizes[0],
@@ -110,7 +110,7 @@ fn sizes(by_c: bool, bytes: &[u8]) -> Found {
 // The raster by the call for C: all bytes, which no raster is, where its answer is not that for the sizes.
 fn raster_c(bytes: &[u8], number: u32) -> &[u8] {
     let mut place = [bytes.len(), 0];
-    if abi::files::tz_read_raster(bytes, &mut place) != number {
+    if abi_files::tz_read_raster(bytes, &mut place) != number {
         return bytes;
     }
     part(bytes, place[0], place[1])
@@ -134,7 +134,7 @@ fn turned_number(t: Turned) -> u32 {
 // Turns a raster into greys; answers the call's number.
 fn turn_by(by_c: bool, bytes: &[u8], start: usize, f: Found, target: &mut [u16]) -> u32 {
     if by_c {
-        return abi::files::tz_read_greys(bytes, start, f.width, f.height, f.maxval, target);
+        return abi_files::tz_read_greys(bytes, start, f.width, f.height, f.maxval, target);
     }
     turned_number(pgm_greys::read_greys(bytes, start, f.width, f.height, f.maxval, target))
 }
@@ -245,7 +245,7 @@ pub fn greys(by_c: bool, row: Row) {
 
 fn written_c(row: Row, picture: &[u16], out: &mut [u8]) -> Laid {
     let mut count = 0;
-    let number = abi::files::tz_write(
+    let number = abi_files::tz_write(
         picture,
         word(row, column::WIDTH),
         word(row, column::HEIGHT),
@@ -340,7 +340,7 @@ pub fn write(by_c: bool, row: Row) {
 
 fn list_c(bytes: &[u8], out: &mut [u8]) -> Laid {
     let mut count = 0;
-    let number = abi::files::tz_listing(bytes, out, &mut count);
+    let number = abi_files::tz_listing(bytes, out, &mut count);
     Laid { number, count }
 }
 

@@ -1,24 +1,19 @@
--- Laws of the listing's calls: what prepare, greys and read left, and the text that follows.
+-- Laws of the listing's calls: what greys and read left, and the text that follows.
 -- Assumes nothing.
 use Prim.Native.Nat.{ℕ, zero, suc, _-_, _*_, _≤_, _<_}
 use mathlib.Core.Bool.{Bool, true, false, cond}
 use mathlib.Core.List.{List}
 use mathlib.Core.Path.{_≡_, refl, sym, ap, _∙_}
-use lib.Dec.{ltb, lit<}
+use lib.Dec.{ltb}
 use lib.ListN.{length, take, drop, length-drop}
 use lib.Seq.{length-take-le}
+use native.Mathlib.Nat.{mul-le-mul}
 use native.Mathlib.Omega.{arith}
 use borrow.Author.Tests.{ltb-true, ltb-false, lt-ltb, le-ltb}
-use Rattle.lists.specs.Lists.{onto, filled}
-use Rattle.lists.proofs.Fills.{length-filled, take-onto}
-use Rattle.lists.proofs.Maps.{onto-whole}
+use Rattle.lists.specs.Lists.{onto}
+use Rattle.lists.proofs.Fills.{take-onto}
 use Rattle.refuse.specs.Refuse.{first, unless}
 use Rattle.refuse.proofs.Walk.{first-behind}
-use Rattle.limit.proofs.Laws.{above-not-one}
-use Rattle.settings.specs.declared.Settings.{Settings}
-use Rattle.settings.specs.declared.MapRecord.{MapRecord}
-use Rattle.settings.specs.declared.Footer.{Footer}
-use Rattle.settings.specs.Settings.{binsOf}
 use Rattle.header.specs.declared.Head.{Head}
 use Rattle.header.specs.declared.Head.the-variants as Head
 use Rattle.header.specs.Header.{headerOf}
@@ -30,106 +25,36 @@ use Rattle.pgm_greys.specs.declared.Turned.{Turned}
 use Rattle.pgm_greys.specs.declared.Turned.the-variants as Turned
 use Rattle.pgm_write.specs.declared.Written.{Written}
 use Rattle.pgm_write.specs.declared.Written.the-variants as Written
-use Rattle.raster.specs.Raster.{headRows, rasterRows, RasterAsks}
-use Rattle.pgm.specs.Pgm.{readOf, sizesOf, rasterOf}
-use Rattle.pgm_greys.specs.Greys.{targetRows, turnRows, Greyed, greyedAs, turnedOf}
 use Rattle.pgm_write.specs.Write.{Wrote, wroteAs}
+use Rattle.raster.specs.Raster.{headRows, rasterRows, RasterAsks}
+use Rattle.pgm_greys.specs.Greys.{targetRows, turnRows, Greyed, greyedAs, turnedOf}
+use Rattle.pgm.specs.Pgm.{readOf, sizesOf, rasterOf}
 use Rattle.raster.proofs.Tables.{within-none, exact-none}
-use Rattle.pgm.proofs.Tables.{read-header}
 use Rattle.pgm_greys.proofs.Tables.{grey-asks, target-roomy}
+use Rattle.pgm.proofs.Tables.{read-header}
 use Rattle.pgm.proofs.Laws.{read-asks}
-use Rattle.prepare.specs.declared.Prepared.{Prepared}
-use Rattle.prepare.specs.declared.Prepared.the-variants as Prepared
-use Rattle.tiles.specs.Tiles.{mappings, TilesAsk}
-use Rattle.prepare.specs.Prepare.{prepareRows, Ended, ending, preparedOf, prepareOf}
-use Rattle.tiles.proofs.Footers.{foot-limit}
-use Rattle.prepare.proofs.Table.{work}
-use Rattle.tiles.proofs.Films.{length-mappings}
-use Rattle.listing.specs.Listing.{two, settingsOf, limitFor, filmText, refusedText, isLarger, pictureText, readText, listingOf, textRows, listOf, laidOf}
-use Rattle.listing.specs.Asks.{Told, ListAsks}
-use Rattle.listing.proofs.Lines.{length-refused}
-use Rattle.listing.proofs.Films.{length-film}
-use Rattle.listing.proofs.Refusals.{prepare-below}
+use Rattle.prepare.specs.Prepare.{prepareRows}
+use Rattle.lines.specs.Lines.{refusedText}
+use Rattle.lines.specs.Asks.{Told}
+use Rattle.lines.proofs.Lines.{length-refused}
+use Rattle.film_lines.specs.FilmText.{settingsOf, filmText}
+use Rattle.film_lines.proofs.Films.{length-film}
+use Rattle.listing.specs.Listing.{isLarger, pictureText, readText, listingOf, textRows, listOf, laidOf}
+use Rattle.listing.specs.Asks.{ListAsks}
+
+-- a product of two 32-bit numbers fits 64 bits
+pub product-fits : (a b : ℕ) → a < 4294967296 → b < 4294967296 → a * b < 18446744073709551616
+product-fits a b l m =
+    let p : a ≤ 4294967295 = omega arith in
+    let q : b ≤ 4294967295 = omega arith in
+    let r : a * b ≤ 18446744065119617025 = mul-le-mul p q in
+    omega arith
 
 -- ---- texts
-
--- the same text by another name
-pub told-as : {d text text′ out : List ℕ} {r : ℕ} → Told d text out r → text ≡ text′ → Told d text′ out r
-told-as t e = record { bytes = t .bytes ∙ ap (onto _) e; count = t .count ∙ ap length e }
-
--- the text of a film that is not refused
-pub told-none : {n r : ℕ} {d text out : List ℕ} → n ≡ 0 → Told d text out r → Told d (unless n refusedText text) out r
-told-none e t = rw e t
 
 -- what `lay_text` leaves
 pub told-both : {d text text′ out : List ℕ} {r : ℕ} → Told d text out r → text ≡ text′ → (out ≡ onto d text′) × (r ≡ length text′)
 told-both t e = (t .bytes ∙ ap (onto _) e, t .count ∙ ap length e)
-
--- ---- what prepare left
-
-module _ (w h m : ℕ) (pic : List ℕ) where
-  -- the number of the rows 1 to 13 and 31, with the listing's buffers
-  abbrev pub number : ℕ
-  number = first (prepareRows w h pic (settingsOf m) 16 4)
-
-  -- a film that is not refused
-  pub record Made (limit : ℕ) (map scratch : List ℕ) : Type 0 where
-    pub none : number ≡ 0
-    pub film : TilesAsk w h pic (settingsOf m) 16 4
-    pub bound : limit ≡ limitFor w h m
-    pub mapped : map ≡ mappings w h pic (settingsOf m)
-    pub counts : length scratch ≡ 4
-
-  -- what the tiles ask, since the factor 2 is above one
-  tiles-asks : number ≡ 0 → TilesAsk w h pic (settingsOf m) 16 4
-  tiles-asks z = record { work = work w h pic (settingsOf m) 16 4 z; changes = above-not-one two (refl, lit< tt) }
-
-  made : (map₀ scratch₀ : List ℕ) {rec : MapRecord} {foot : Footer} {map scratch : List ℕ} → length map₀ ≡ 16 → length scratch₀ ≡ 4 → number ≡ 0
-      → ending (Prepared.Done rec foot) map scratch ≡ preparedOf 0 w h pic (settingsOf m) map₀ scratch₀ → Made (foot .limit) map scratch
-  unfolding preparedOf binsOf
-  made map₀ scratch₀ {rec} {foot} {map} {scratch} n k z e =
-      record {
-        none = z;
-        film = tiles-asks z;
-        bound = ap (λ (f : Footer). f .limit) (same (ap (λ (x : Ended). x .answer) e)) ∙ foot-limit w h (settingsOf m) refl (tiles-asks z .changes);
-        mapped = ap (λ (x : Ended). x .map) e ∙ ap (λ b. cond b map₀ (onto map₀ (mappings w h pic (settingsOf m)))) (tiles-asks z .changes) ∙ onto-whole map₀ (mappings w h pic (settingsOf m)) (omega (arith, length-mappings w h pic (settingsOf m)));
-        counts = ap (λ (x : Ended). length (x .scratch)) e ∙ ap (λ b. length (cond b scratch₀ (filled (λ i. 0) scratch₀ 4))) (tiles-asks z .changes) ∙ (length-filled (λ i. 0) scratch₀ 4 (omega arith) ∙ k);
-      }
-    where
-      same : {a b : MapRecord} {f g : Footer} → Prepared.Done a f ≡ Prepared.Done b g → f ≡ g
-      same q = cc
-
-  -- the answer is a record: no row applied
-  pub prepared-done : (map₀ scratch₀ : List ℕ) {s : Settings} {answer : Prepared} {rec : MapRecord} {foot : Footer} {map scratch : List ℕ} → length map₀ ≡ 16 → length scratch₀ ≡ 4
-      → s ≡ settingsOf m → answer ≡ Prepared.Done rec foot → ending answer map scratch ≡ prepareOf 0 w h pic s map₀ scratch₀ → Made (foot .limit) map scratch
-  unfolding prepareOf
-  prepared-done map₀ scratch₀ {s} {answer} {rec} {foot} {map} {scratch} n k q a e =
-      go number refl (rw (q, a, n, k) at e)
-    where
-      go : (i : ℕ) → number ≡ i → ending (Prepared.Done rec foot) map scratch ≡ unless i (λ n. ending (Prepared.Refused n) map₀ scratch₀) (preparedOf 0 w h pic (settingsOf m) map₀ scratch₀)
-          → Made (foot .limit) map scratch
-      go zero z f = made map₀ scratch₀ n k z f
-      go (suc i) z f =
-          let a : Prepared.Done rec foot ≡ Prepared.Refused (suc i) = ap (λ (x : Ended). x .answer) f in
-          absurd (let o : _≡_ {A = ℕ} 0 1 = cc in omega arith)
-
-  -- the answer is a refusal: it is the rows' number
-  pub prepared-refused : (map₀ scratch₀ : List ℕ) {s : Settings} {answer : Prepared} {r : ℕ} {map scratch : List ℕ} → length map₀ ≡ 16 → length scratch₀ ≡ 4
-      → s ≡ settingsOf m → answer ≡ Prepared.Refused r → ending answer map scratch ≡ prepareOf 0 w h pic s map₀ scratch₀
-      → (r < 100000) × ((text : List ℕ) → refusedText r ≡ unless number refusedText text)
-  unfolding prepareOf preparedOf
-  prepared-refused map₀ scratch₀ {s} {answer} {r} {map} {scratch} n k q a e =
-      go number refl (rw (q, a, n, k) at e)
-    where
-      go : (i : ℕ) → number ≡ i → ending (Prepared.Refused r) map scratch ≡ unless i (λ n. ending (Prepared.Refused n) map₀ scratch₀) (preparedOf 0 w h pic (settingsOf m) map₀ scratch₀)
-          → (r < 100000) × ((text : List ℕ) → refusedText r ≡ unless number refusedText text)
-      go zero z f =
-          let a : Prepared.Refused r ≡ preparedOf 0 w h pic (settingsOf m) map₀ scratch₀ .answer = ap (λ (x : Ended). x .answer) f in
-          absurd (let o : _≡_ {A = ℕ} 0 1 = cc in omega arith)
-      go (suc i) z f =
-          let a : Prepared.Refused r ≡ Prepared.Refused (suc i) = ap (λ (x : Ended). x .answer) f in
-          let b : r ≡ suc i = cc in
-          (omega (arith, prepare-below w h pic (settingsOf m) 16 4), λ text. rw (z, b) refl)
 
 -- ---- what greys left
 

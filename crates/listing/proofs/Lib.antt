@@ -1,6 +1,3 @@
-pub mod Lines
-pub mod Tiles
-pub mod Films
 pub mod Refusals
 pub mod Calls
 pub mod Outcomes

@@ -1,4 +1,4 @@
--- Laws of the refusals that the listing prints: their numbers are short.
+-- Law of the refusals of read that the listing prints: their numbers are short.
 -- Assumes nothing.
 use Prim.Native.Nat.{ℕ, zero, suc, _+_, _-_, _<_}
 use mathlib.Core.List.{List, _++_}
@@ -11,8 +11,6 @@ use borrow.Author.Tests.{ltb-true}
 use Rattle.lists.specs.Lists.{all}
 use Rattle.refuse.specs.Refuse.{first, unless}
 use Rattle.refuse.proofs.Walk.{each-first}
-use Rattle.settings.specs.declared.Settings.{Settings}
-use Rattle.settings.proofs.Ready.{shared-numbers}
 use Rattle.header.specs.declared.Head.{Head}
 use Rattle.header.specs.declared.Head.the-variants as Head
 use Rattle.header.specs.Header.{headerOf}
@@ -20,15 +18,6 @@ use Rattle.header.proofs.Laws.{refused-number}
 use Rattle.raster.specs.Raster.{headRows, rasterRows}
 use Rattle.pgm.specs.Pgm.{judgedOf, readOf}
 use Rattle.raster.proofs.Tables.{read-numbers}
-use Rattle.prepare.specs.Prepare.{prepareRows}
-use Rattle.prepare.proofs.Table.{table-numbers}
-
--- a refusal of prepare
-pub prepare-below : (w h : ℕ) (pic : List ℕ) (s : Settings) (room scratch : ℕ) → first (prepareRows w h pic s room scratch) < 100
-unfolding all
-prepare-below w h pic s room scratch =
-    ltb-true _ 100
-    (each-first (λ n. ltb n 100) (prepareRows w h pic s room scratch) refl (rw (table-numbers w h pic s room scratch, shared-numbers w h (length pic) s room) refl))
 
 judged-below : (w h m size : ℕ) → first (headRows w h m ++ rasterRows w h m size) < 100
 unfolding all

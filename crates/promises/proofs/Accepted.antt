@@ -1,6 +1,6 @@
 -- What an answer tells, in document 01's terms: a refusal which row of its table was met, and that all memory stayed; that all is done, that no row was.
 -- Assumes nothing.
-use Prim.Native.Nat.{ℕ, zero, suc}
+use Prim.Native.Nat.{ℕ, zero, suc, _<_}
 use mathlib.Core.Bool.{cond}
 use mathlib.Core.List.{List}
 use mathlib.Core.Path.{_≡_, refl, sym, ap, _∙_}
@@ -77,6 +77,23 @@ module _ {Y A : Type 0} {said : Y → Says A} {n : ℕ} {v : A} {done : Y} {lent
       call .when-some
       (λ z. let q : accepted v ≡ refused k = sym (ap said (call .when-none z) ∙ call .says-done) ∙ e in let o : _≡_ {A = ℕ} 0 1 = cc in omega arith)
       ∙ ap lent (table-refused e)
+
+-- such a call, flattened to a number and what is lent: the number is 0 where no row applies, else the row's
+module _ {Y A : Type 0} {said : Y → Says A} {n : ℕ} {v : A} {done : Y} {lent : ℕ → Y} {y : Y} (call : ByTable said n v done lent y) {Z : Type 0} (flat : Y → Z) (number : Z → ℕ)
+    (none : number (flat done) ≡ 0) (numbered : (k : ℕ) → number (flat (lent k)) ≡ k) where
+  -- so it is that of the first row that applies
+  pub returned-number : number (flat y) ≡ n
+  returned-number = go n refl
+    where
+      go : (k : ℕ) → n ≡ k → number (flat y) ≡ n
+      go zero e = ap (λ x. number (flat x)) (call .when-none e) ∙ (none ∙ sym e)
+      go (suc k) e = ap (λ x. number (flat x)) (call .when-some (λ z. omega arith)) ∙ numbered n
+
+  -- and a number that is not 0 leaves what was lent
+  pub returned-kept : {z : Z} → z ≡ flat y → 0 < number z → z ≡ flat (lent (number z))
+  returned-kept {z} e l =
+      let k : n ≡ number z = sym (ap number e ∙ returned-number) in
+      e ∙ ap flat (call .when-some (λ o. omega arith) ∙ ap lent k)
 
 -- ---- prepare
 

@@ -2,7 +2,7 @@
 use mathlib.Core.Path.{sym, ap, _∙_}
 use native.Mathlib.Omega.{arith}
 use Rattle.listing.specs.Listing.{isLarger}
-use Rattle.listing.proofs.Tiles.{product-fits}
+use Rattle.listing.proofs.Calls.{product-fits}
 use borrow.Author.Needs.{needs}
 use Rattle.listing.proofs.is_larger.Statement.{statement}
 use Rattle.listing.proofs.is_larger.Tie as tie

@@ -1,8 +1,9 @@
 -- By what the greys answer. Assumes nothing.
 use mathlib.Core.Path.{refl, ap, _∙_}
 use native.Mathlib.Omega.{arith}
-use Rattle.listing.specs.Listing.{refusedText}
-use Rattle.listing.proofs.Calls.{told-as, greys-told, greys-refused, film-count, film-front, picture-listed, picture-above}
+use Rattle.lines.specs.Lines.{refusedText}
+use Rattle.film_lines.proofs.Calls.{told-as}
+use Rattle.listing.proofs.Calls.{greys-told, greys-refused, film-count, film-front, picture-listed, picture-above}
 use borrow.Author.Needs.{needs}
 use Rattle.listing.proofs.list_raster.Statement.{statement}
 use Rattle.listing.proofs.list_raster.Tie as tie

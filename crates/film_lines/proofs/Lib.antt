@@ -1,0 +1,4 @@
+pub mod Tiles
+pub mod Films
+pub mod Refusals
+pub mod Calls

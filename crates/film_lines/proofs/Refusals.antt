@@ -1,0 +1,22 @@
+-- Law of the refusals of prepare that the listing prints: their numbers are short.
+-- Assumes nothing.
+use Prim.Native.Nat.{ℕ, _<_}
+use mathlib.Core.List.{List}
+use mathlib.Core.Path.{refl}
+use lib.Dec.{ltb}
+use lib.ListN.{length}
+use borrow.Author.Tests.{ltb-true}
+use Rattle.lists.specs.Lists.{all}
+use Rattle.refuse.specs.Refuse.{first}
+use Rattle.refuse.proofs.Walk.{each-first}
+use Rattle.settings.specs.declared.Settings.{Settings}
+use Rattle.settings.proofs.Ready.{shared-numbers}
+use Rattle.prepare.specs.Prepare.{prepareRows}
+use Rattle.prepare.proofs.Table.{table-numbers}
+
+-- a refusal of prepare
+pub prepare-below : (w h : ℕ) (pic : List ℕ) (s : Settings) (room scratch : ℕ) → first (prepareRows w h pic s room scratch) < 100
+unfolding all
+prepare-below w h pic s room scratch =
+    ltb-true _ 100
+    (each-first (λ n. ltb n 100) (prepareRows w h pic s room scratch) refl (rw (table-numbers w h pic s room scratch, shared-numbers w h (length pic) s room) refl))

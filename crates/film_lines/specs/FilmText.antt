@@ -1,0 +1,45 @@
+-- Document 01, "Numbers to check by hand": the text that the listing program prints for a film that prepare does not refuse.
+-- Assumes nothing.
+use Prim.Native.Nat.{ℕ, _/_, _%_}
+use mathlib.Core.Bool.{false}
+use mathlib.Core.List.{List, [], _∷_, _++_}
+use lib.IntN.{pos}
+use lib.Ieee.{Float, fin}
+use Rattle.limit.specs.declared.Clip.the-variants.{Factor}
+use Rattle.limit.specs.Limit.{limitOf}
+use Rattle.clip.specs.Clip.{excess}
+use Rattle.tally.specs.Tally.{greysOf, countsOf}
+use Rattle.settings.specs.declared.Settings.{Settings}
+use Rattle.tiles.specs.Tiles.{tileOf, pixelsIn, tileMap}
+use Rattle.lines.specs.Lines.{line}
+
+-- "factor 2", as a float
+abbrev pub two : Float
+two = fin false 1 (pos 1)
+
+-- "uses grid 2 by 2, 4 bins, range 0 to maxval, factor 2"
+abbrev pub settingsOf : ℕ → Settings
+settingsOf maxval = record { across = 2; down = 2; bins = 4; min = 0; max = maxval; clip = Factor two }
+
+-- the limit of a film's tiles, which have the pixels of the first
+abbrev pub limitFor : ℕ → ℕ → ℕ → ℕ
+limitFor w h maxval = limitOf two (pixelsIn w h (settingsOf maxval) 0) 4
+
+-- "First line: width, height, grid across, grid down, bins, Min, Max, L."
+unfoldable pub firstLine : ℕ → ℕ → ℕ → List ℕ
+firstLine w h maxval = line (w ∷ h ∷ 2 ∷ 2 ∷ 4 ∷ 0 ∷ maxval ∷ limitFor w h maxval ∷ [])
+
+-- "Excess E is the sum over bins of what stands above L": that of tile k
+unfoldable pub excessFor : ℕ → ℕ → ℕ → List ℕ → ℕ → ℕ
+excessFor w h maxval pic k =
+    excess (limitFor w h maxval) (countsOf 0 maxval 4 (greysOf pic w (tileOf w h (settingsOf maxval) k)))
+
+-- "Then a line per tile: row, column, E, the mapping."
+unfoldable pub tileLine : ℕ → ℕ → ℕ → List ℕ → ℕ → List ℕ
+tileLine w h maxval pic k = line (k / 2 ∷ k % 2 ∷ excessFor w h maxval pic k ∷ tileMap w h pic (settingsOf maxval) k)
+
+-- the first line, "Then a line per tile": the four of them row by row
+unfoldable pub filmText : ℕ → ℕ → ℕ → List ℕ → List ℕ
+filmText w h maxval pic =
+    firstLine w h maxval
+    ++ (tileLine w h maxval pic 0 ++ (tileLine w h maxval pic 1 ++ (tileLine w h maxval pic 2 ++ tileLine w h maxval pic 3)))

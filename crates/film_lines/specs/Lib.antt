@@ -1,0 +1,2 @@
+pub mod FilmText
+pub mod Asks
