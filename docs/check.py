@@ -70,14 +70,15 @@ def papers(stated):
 
 
 def uses(crate):
-    """The crates that a crate's own files name."""
-    named = set()
+    """The crates that a crate's own files name; a module of its own may have another crate's name."""
+    named, own = set(), {crate}
     for path in glob.glob(f"{TOP}/crates/{crate}/**/*", recursive=True):
         if path.endswith(".rt"):
+            own.update(re.findall(r"^(?:pub )?mod ([a-z_]+);", read(path), re.M))
             named.update(re.findall(r"(?<![:\w])([a-z_]+)::", re.sub("//.*", "", read(path))))
         if path.endswith((".rt", ".antt")):
             named.update(re.findall(r"Rattle·([a-z_]+)\.", read(path)))
-    return named - {crate}
+    return named - own
 
 
 def listed():

@@ -1,7 +1,7 @@
 // Lent bytes: each entry is the one that the wide rows have, taken modulo 256.
 use filmset::made;
 use filmset::whole::Row;
-use filmset::whole::front;
+use filmset::whole::fitting;
 
 // Room for the wide entries of the largest picture.
 pub fn room() -> [u16; 262144] {
@@ -28,7 +28,8 @@ pub fn taken(wide: &[u16], entries: &mut [u8]) {
 // Makes the picture of a row.
 pub fn picture(row: Row, entries: &mut [u8]) {
     let mut wide = room();
-    let w = front(&mut wide, entries.len() as u64);
+    let n = fitting(entries.len() as u64, 262144);
+    let w = &mut wide[0..n];
     made::picture(row, w);
     taken(&w[..], entries);
 }
@@ -36,7 +37,8 @@ pub fn picture(row: Row, entries: &mut [u8]) {
 // Fills a map.
 pub fn map(row: Row, entries: &mut [u8]) {
     let mut wide = room();
-    let w = front(&mut wide, entries.len() as u64);
+    let n = fitting(entries.len() as u64, 262144);
+    let w = &mut wide[0..n];
     made::map(row, w);
     taken(&w[..], entries);
 }
@@ -44,7 +46,8 @@ pub fn map(row: Row, entries: &mut [u8]) {
 // Fills an output of draw.
 pub fn output(entries: &mut [u8], base: u64) {
     let mut wide = room();
-    let w = front(&mut wide, entries.len() as u64);
+    let n = fitting(entries.len() as u64, 262144);
+    let w = &mut wide[0..n];
     made::output(w, base);
     taken(&w[..], entries);
 }

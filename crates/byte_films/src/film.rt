@@ -17,12 +17,9 @@ use filmset::kept;
 use filmset::kept::Kept;
 use filmset::kept::Ten;
 use filmset::made;
-use filmset::text;
 use filmset::whole::Row;
 use filmset::whole::at;
-use filmset::whole::front;
-use filmset::whole::front_bytes;
-use filmset::whole::front_words;
+use filmset::whole::fitting;
 use filmset::whole::word;
 use prepare::Enhanced;
 use prepare::Prepared;
@@ -78,22 +75,24 @@ fn called_lines(letter: u8, no: u64, picture: &[u8], map: &[u8], scratch: &[u32]
     }
     let b = digest::bytes(map);
     let c = digest::words(scratch);
-    text::three(letter % 128 + 32, no, digest, b, c);
+    text::print(text::three(letter % 128 + 32, no, digest, b, c));
     if letter == b'E' {
-        text::small_bytes(b'i', no, picture);
+        text::print(text::small_bytes(b'i', no, picture));
         return digest;
     }
-    text::small_bytes(b'm', no, map);
+    text::print(text::small_bytes(b'm', no, map));
     digest
 }
 
 // Makes map and scratch and calls, and prints what comes of it under the letter.
 fn called(letter: u8, row: Row, picture: &mut [u8]) -> Made {
     let mut map = [0; 16640];
-    let mut scratch = made::scratch();
-    let m = front_bytes(&mut map, at(row, column::MAP_ROOM));
+    let n = fitting(at(row, column::MAP_ROOM), 16640);
+    let m = &mut map[0..n];
     bytes::map(row, m);
-    let s = front_words(&mut scratch, at(row, column::SCRATCH_ROOM));
+    let mut scratch = made::scratch();
+    let k = fitting(at(row, column::SCRATCH_ROOM), 4200);
+    let s = &mut scratch[0..k];
     let kept = call(letter, row, picture, m, s);
     let digest = called_lines(letter, at(row, column::NO), &picture[..], &m[..], &s[..]);
     Made { kept, digest, map }
@@ -102,7 +101,8 @@ fn called(letter: u8, row: Row, picture: &mut [u8]) -> Made {
 // Prepares the film by the wide call, and takes its map as bytes.
 fn called_wide(row: Row) -> Made {
     let mut picture = bytes::room();
-    let p = front(&mut picture, at(row, column::LENGTH));
+    let n = fitting(at(row, column::LENGTH), 262144);
+    let p = &mut picture[0..n];
     made::picture(row, p);
     let left = filmset::film::called(false, 0, row, p);
     let kept = left.kept;
@@ -148,21 +148,22 @@ fn drawn_lines(drawn: Row, number: u32, picture: &[u8], map: &[u8], out: &[u8]) 
     let no = at(drawn, column::NO);
     let of_film = is_film(drawn);
     let digest = digest::bytes(out);
-    text::one(text::either(of_film, b'D', b'W'), no, number);
-    text::three(
+    text::print(text::one(text::either(of_film, b'D', b'W'), no, number));
+    text::print(text::three(
         text::either(of_film, b'd', b'w'),
         no,
         digest::bytes(picture),
         digest::bytes(map),
         digest,
-    );
-    text::small_bytes(text::either(of_film, b'o', b'v'), no, out);
+    ));
+    text::print(text::small_bytes(text::either(of_film, b'o', b'v'), no, out));
     Shot { number, digest }
 }
 
 // Makes the output and draws from the map.
 fn drawn_from(drawn: Row, t: Ten, kept: Ten, picture: &[u8], map: &[u8], out: &mut [u8]) -> Shot {
-    let o = front_bytes(out, at(drawn, column::OUT_ROOM));
+    let n = fitting(at(drawn, column::OUT_ROOM), out.len());
+    let o = &mut out[0..n];
     bytes::output(o, OUTPUT_BASE);
     let number = draw_by(drawn, t, kept, picture, map, o);
     drawn_lines(drawn, number, picture, map, &o[..])
@@ -172,7 +173,9 @@ fn drawn_from(drawn: Row, t: Ten, kept: Ten, picture: &[u8], map: &[u8], out: &m
 fn drawn_of(row: Row, drawn: Row, made: Made, picture: &[u8], out: &mut [u8]) -> Shot {
     let mut map = made.map;
     let k = made.kept;
-    let m = front_bytes(&mut map, at(row, column::MAP_ROOM));
+    let whole: &mut [u8] = &mut map;
+    let n = fitting(at(row, column::MAP_ROOM), whole.len());
+    let m = &mut whole[0..n];
     bytes::poke(
         m,
         own(drawn, column::MAP_AT, NOWHERE),
@@ -184,7 +187,8 @@ fn drawn_of(row: Row, drawn: Row, made: Made, picture: &[u8], out: &mut [u8]) ->
 
 // Makes the film, prepares it, and draws; the lines of prepare are a film's own.
 fn shot_of(row: Row, drawn: Row, picture: &mut [u8], out: &mut [u8]) -> Shot {
-    let p = front_bytes(picture, at(row, column::LENGTH));
+    let n = fitting(at(row, column::LENGTH), picture.len());
+    let p = &mut picture[0..n];
     bytes::picture(row, p);
     let letter = text::either(is_film(drawn), b'P', 0);
     let made = first(letter, row, drawn, p);
@@ -200,7 +204,8 @@ fn shot_of(row: Row, drawn: Row, picture: &mut [u8], out: &mut [u8]) -> Shot {
 
 // Makes the film anew and enhances it.
 fn enhanced_of(row: Row, picture: &mut [u8]) -> Shot {
-    let p = front_bytes(picture, at(row, column::LENGTH));
+    let n = fitting(at(row, column::LENGTH), picture.len());
+    let p = &mut picture[0..n];
     bytes::picture(row, p);
     let made = called(b'E', row, p);
     let k = made.kept;
@@ -213,7 +218,7 @@ fn enhanced_of(row: Row, picture: &mut [u8]) -> Shot {
 // A row of the films, over rooms for the largest picture and the largest output.
 pub fn film(row: Row, picture: &mut [u8], out: &mut [u8]) {
     let drawn = shot_of(row, row, picture, out);
-    same(at(row, column::NO), drawn, enhanced_of(row, picture));
+    text::print(same(at(row, column::NO), drawn, enhanced_of(row, picture)));
 }
 
 // A row of the draws, with that of its film.

@@ -6,15 +6,14 @@ use filmset::digest;
 use filmset::kept;
 use filmset::kept::Kept;
 use filmset::made;
-use filmset::text;
 use filmset::whole::Row;
 use filmset::whole::at;
-use filmset::whole::front;
-use filmset::whole::front_words;
+use filmset::whole::fitting;
 use filmset::whole::minus;
 use filmset::whole::with;
 use prepare::Prepared;
 use settings::Settings;
+use text::Text;
 
 // The columns that these rows alone have. Of a film: how many counts are lent.
 const COUNTS_ROOM: usize = 23;
@@ -65,9 +64,9 @@ fn call_count(row: Row, picture: &[u16], lent: &mut [u32]) -> u32 {
 
 // The lines of counting: the answer, the digests of picture and counts, and the counts.
 fn counted_lines(no: u64, number: u32, picture: &[u16], lent: &[u32]) {
-    text::one(b'C', no, number);
-    text::two(b'c', no, digest::greys(picture), digest::words(lent));
-    words::small(b'n', no, lent);
+    text::print(text::one(b'C', no, number));
+    text::print(text::two(b'c', no, digest::greys(picture), digest::words(lent)));
+    text::print(text::small_words(b'n', no, lent));
 }
 
 // Makes the picture and the counts of a film, and counts; answers the call's number.
@@ -91,8 +90,8 @@ fn mapped(row: Row, lent: &[u32], m: &mut [u16], s: &mut [u32]) -> Left {
     let k = call_map(row, lent, m, s);
     let a = digest::greys(&m[..]);
     let b = digest::words(&s[..]);
-    text::three(b'm', no, digest::words(lent), a, b);
-    text::small(b'q', no, &m[..]);
+    text::print(text::three(b'm', no, digest::words(lent), a, b));
+    text::print(text::small(b'q', no, &m[..]));
     Left {
         number: k.number,
         map: a,
@@ -113,7 +112,7 @@ fn prepared(row: Row, picture: &[u16], m: &mut [u16], s: &mut [u32]) -> Left {
     let k = call_prepare(row, picture, m, s);
     let a = digest::greys(&m[..]);
     let b = digest::words(&s[..]);
-    text::three(b'p', at(row, column::NO), digest::greys(picture), a, b);
+    text::print(text::three(b'p', at(row, column::NO), digest::greys(picture), a, b));
     Left {
         number: k.number,
         map: a,
@@ -124,20 +123,24 @@ fn prepared(row: Row, picture: &[u16], m: &mut [u16], s: &mut [u32]) -> Left {
 // Makes map and scratch and maps.
 fn mapped_anew(row: Row, lent: &[u32]) -> Left {
     let mut map = [0; 65536];
-    let mut scratch = made::scratch();
-    let m = front(&mut map, at(row, column::MAP_ROOM));
+    let n = fitting(at(row, column::MAP_ROOM), 65536);
+    let m = &mut map[0..n];
     made::map(row, m);
-    let s = front_words(&mut scratch, at(row, column::SCRATCH_ROOM));
+    let mut scratch = made::scratch();
+    let k = fitting(at(row, column::SCRATCH_ROOM), 4200);
+    let s = &mut scratch[0..k];
     mapped(row, lent, m, s)
 }
 
 // Makes map and scratch and prepares.
 fn prepared_anew(row: Row, picture: &[u16]) -> Left {
     let mut map = [0; 65536];
-    let mut scratch = made::scratch();
-    let m = front(&mut map, at(row, column::MAP_ROOM));
+    let n = fitting(at(row, column::MAP_ROOM), 65536);
+    let m = &mut map[0..n];
     made::map(row, m);
-    let s = front_words(&mut scratch, at(row, column::SCRATCH_ROOM));
+    let mut scratch = made::scratch();
+    let k = fitting(at(row, column::SCRATCH_ROOM), 4200);
+    let s = &mut scratch[0..k];
     prepared(row, picture, m, s)
 }
 
@@ -153,31 +156,35 @@ fn alike(a: Left, b: Left) -> u32 {
 }
 
 // The line K: whether mapping and prepare left the same, where both accepted.
-fn same(no: u64, a: Left, b: Left) {
+fn same(no: u64, a: Left, b: Left) -> Text {
     if a.number != 0 {
-        return;
+        return text::blank();
     }
     if b.number != 0 {
-        return;
+        return text::blank();
     }
-    text::one(b'K', no, alike(a, b));
+    text::one(b'K', no, alike(a, b))
 }
 
 // A row of the films, over rooms for the largest picture and the most counts.
 pub fn film(row: Row, picture: &mut [u16], counts: &mut [u32]) {
     let no = at(row, column::NO);
-    let p = front(picture, at(row, column::LENGTH));
-    let c = front_words(counts, at(row, COUNTS_ROOM));
+    let n = fitting(at(row, column::LENGTH), picture.len());
+    let p = &mut picture[0..n];
+    let k = fitting(at(row, COUNTS_ROOM), counts.len());
+    let c = &mut counts[0..k];
     let number = counted(row, p, c);
     counted_lines(no, number, &p[..], &c[..]);
     let a = mapped_anew(row, &c[..]);
-    same(no, a, prepared_anew(row, &p[..]));
+    text::print(same(no, a, prepared_anew(row, &p[..])));
 }
 
 // Counts the film of a mapping, printing nothing.
 fn counted_case(case: Row, picture: &mut [u16], counts: &mut [u32]) {
-    let p = front(picture, at(case, column::LENGTH));
-    let c = front_words(counts, at(case, COUNTS_ROOM));
+    let n = fitting(at(case, column::LENGTH), picture.len());
+    let p = &mut picture[0..n];
+    let k = fitting(at(case, COUNTS_ROOM), counts.len());
+    let c = &mut counts[0..k];
     counted(case, p, c);
 }
 
@@ -211,10 +218,12 @@ fn turns(row: Row, count: u64, lent: &[u32], m: &mut [u16], s: &mut [u32]) {
 // Makes map and scratch and maps in turn.
 fn all_turns(row: Row, lent: &[u32]) {
     let mut map = [0; 65536];
-    let mut scratch = made::scratch();
-    let m = front(&mut map, at(row, column::MAP_ROOM));
+    let n = fitting(at(row, column::MAP_ROOM), 65536);
+    let m = &mut map[0..n];
     made::map(row, m);
-    let s = front_words(&mut scratch, at(row, column::SCRATCH_ROOM));
+    let mut scratch = made::scratch();
+    let k = fitting(at(row, column::SCRATCH_ROOM), 4200);
+    let s = &mut scratch[0..k];
     mapped(row, lent, m, s);
     turns(row, at(row, TURNS), lent, m, s);
 }
@@ -222,7 +231,8 @@ fn all_turns(row: Row, lent: &[u32]) {
 // A row of the mappings, with that of its film.
 pub fn mappings(case: Row, row: Row, picture: &mut [u16], counts: &mut [u32]) {
     counted_case(case, picture, counts);
-    let c = front_words(counts, at(row, LENT_ROOM));
+    let n = fitting(at(row, LENT_ROOM), counts.len());
+    let c = &mut counts[0..n];
     changed(row, c);
     all_turns(row, &c[..]);
 }

@@ -43,24 +43,3 @@ pub fn gain_each(entries: &mut [u32], step: u64, more: u64) {
         i += 1;
     }
 }
-
-// The fields of all entries, each behind a tab.
-fn fields(entries: &[u32]) {
-    let mut i = 0;
-    while i < entries.len() {
-        filmset::text::word(entries[i]);
-        i += 1;
-    }
-}
-
-// Small counts of 1 to 64 entries, listed; no line for any other.
-pub fn small(letter: u8, no: u64, entries: &[u32]) {
-    if entries.len() == 0 {
-        return;
-    }
-    if entries.len() <= 64 {
-        filmset::text::start(letter, no);
-        fields(entries);
-        filmset::text::end();
-    }
-}

@@ -1,18 +1,11 @@
--- Where a float, or a bit pattern, is no NaN. Assumes nothing.
+-- Where a bit pattern is no NaN's. Assumes nothing.
 use Prim.Native.Nat.{ℕ, _%_, _/_, _≤_}
 use native.Mathlib.Omega.{arith}
 use mathlib.Core.Bool.{Bool, true, false, not, _&&_}
 use mathlib.Core.Path.{_≡_, refl}
 use lib.Dec.{T, eqb}
-use lib.Ieee.{Float, nan, inf, fin, binary32, eq, isNan, nanBits}
+use lib.Ieee.{binary32, nanBits}
 use borrow.Author.Tests.{eqb-true, eqb-false}
-
--- a float that is level with itself is no NaN
-pub level-no-nan : (x : Float) → not (eq x x) ≡ false → T (not (isNan x))
-unfolding eq isNan
-level-no-nan nan e = absurd (let z : _≡_ {A = ℕ} 0 1 = cc in omega arith)
-level-no-nan (inf s) e = tt
-level-no-nan (fin s m n) e = tt
 
 -- a pattern that is at most the infinity's, but for its sign, is no NaN's
 pub low-no-nan : (b : ℕ) → b % 2147483648 ≤ 2139095040 → T (not (nanBits binary32 b))

@@ -4,8 +4,10 @@ use Prim.Native.Nat.{ℕ, _+_, _-_, _*_, _%_, _^_}
 use mathlib.Core.Bool.{Bool, cond, _&&_}
 use mathlib.Core.List.{List, [], _∷_}
 use lib.Dec.{eqb, ltb, leb}
-use lib.Ieee.{Float, nan, binary32, ofBits}
+use lib.Ieee.{Float, nan, binary32, binary64, ofBits, toBits}
 use lib.ListN.{getD, set, length, replicate}
+use Rattle.text.specs.declared.Text.{Text}
+use Rattle.text.specs.Text.{run, blankText, fieldOf, fieldsOf, hexFieldOf, startOf, endOf, lineOf}
 use Rattle.limit.specs.declared.Clip.{Clip}
 use Rattle.limit.specs.declared.Clip.the-variants.{Off, Factor}
 use Rattle.settings.specs.declared.Settings.{Settings}
@@ -21,11 +23,8 @@ use Rattle.filmset.specs.declared.row.Line.{Line}
 use Rattle.filmset.specs.declared.kept.Ten.{Ten}
 use Rattle.filmset.specs.declared.kept.Kept.{Kept}
 use Rattle.filmset.specs.declared.film.Shot.{Shot}
-
--- f over the entries of a list, from a on
-unfoldable pub run : {A : Type 0} → (A → ℕ → A) → A → List ℕ → A
-run f a [] = a
-run f a (b ∷ bs) = run f (f a b) bs
+use Rattle.filmset.specs.declared.file.Found.{Found}
+use Rattle.filmset.specs.declared.file.Laid.{Laid}
 
 -- ---- whole numbers and columns
 
@@ -181,6 +180,40 @@ keptPrepared t (prepared.Refused n) = keptAs n t
 abbrev pub keptEnhanced : Ten → Enhanced → Kept
 keptEnhanced t (enhanced.Done foot) = keptAs 0 t
 keptEnhanced t (enhanced.Refused n) = keptAs n t
+
+-- ---- printed lines
+
+-- the fields of the ten
+unfoldable pub tenFields : Text → Ten → Text
+tenFields line t = hexFieldOf (fieldsOf line (nineOf t)) 8 (toBits binary32 (t .factor))
+
+-- the fields of an accepted call: limit, factor asked for and factor used; under the letter P the record
+unfoldable pub doneFields : Text → ℕ → Ten → ℕ → Float → Float → Text
+doneFields line letter t limit asked used =
+    let foot = hexFieldOf (hexFieldOf (fieldOf line limit) 8 (toBits binary32 asked)) 16 (toBits binary64 used) in
+    cond (eqb letter 80) (tenFields foot t) foot
+
+-- the line of prepare or enhance: the answer, and of an accepted call its fields; none under the letter 0
+unfoldable pub answerLine : ℕ → ℕ → Kept → ℕ → Float → Float → Text
+answerLine letter n k limit asked used =
+    let line = fieldOf (startOf letter n) (k .number) in
+    cond (eqb letter 0) blankText
+    (cond (eqb (k .number) 0) (endOf (doneFields line letter (k .ten) limit asked used)) (endOf line))
+
+-- the line K, 1 or 0: whether two pictures have the same digest, where all calls accepted
+unfoldable pub sameLine : ℕ → Shot → Shot → Text
+sameLine n a b =
+    cond (eqb (a .number) 0 && eqb (b .number) 0) (lineOf 75 n (cond (eqb (a .digest) (b .digest)) 1 0 ∷ [])) blankText
+
+-- the line of the sizes: the refusal, or 0, width, height and maxval
+unfoldable pub sizesLine : ℕ → Found → Text
+sizesLine n f =
+    cond (eqb (f .number) 0) (lineOf 83 n (0 ∷ f .width ∷ f .height ∷ f .maxval ∷ [])) (lineOf 83 n (f .number ∷ []))
+
+-- the line of write or of the listing: the refusal, or 0 and the byte count
+unfoldable pub laidLine : ℕ → ℕ → Laid → Text
+laidLine letter n laid =
+    cond (eqb (laid .number) 0) (lineOf letter n (0 ∷ laid .count ∷ [])) (lineOf letter n (laid .number ∷ []))
 
 -- ---- films and draws
 

@@ -1,9 +1,9 @@
 // The digest of a buffer: from 7 on, each entry and last the buffer's length are taken in.
 
 ghost use mathlib.Core.Path.{_≡_};
-ghost use Prim.Native.Nat.{min};
 ghost use lib.ListN.{take};
 ghost use Rattle.filmset.specs.Filmset.{mixed, digestOf};
+use crate::whole::fitting;
 
 const SPAN: u64 = 4294967296;
 
@@ -15,10 +15,10 @@ fn taken(h: u64, v: u64) -> u64
 }
 
 // Of the first n entries, or of all where there are no more.
-pub fn first(entries: &[u16], n: u64) -> u64
+pub(crate) fn first(entries: &[u16], n: u64) -> u64
     ensures { λ r. ⌜ r ≡ digestOf (take n (now (entries .entry))) ⌝ }
 {
-    let end = least(n as usize, entries.len());
+    let end = fitting(n, entries.len());
     let mut h = 7;
     let mut i = 0;
     while i < end {
@@ -26,15 +26,6 @@ pub fn first(entries: &[u16], n: u64) -> u64
         i += 1;
     }
     taken(h, end as u64)
-}
-
-fn least(a: usize, b: usize) -> usize
-    ensures { λ r. ⌜ r ≡ min a b ⌝ }
-{
-    if a < b {
-        return a;
-    }
-    b
 }
 
 pub fn greys(entries: &[u16]) -> u64

@@ -1,18 +1,19 @@
 // The files, greys, writes and listings: raw PGM read, turned into greys, written and listed.
+ghost use mathlib.Core.Path.{_≡_};
+ghost use Rattle.filmset.specs.Filmset.{sizesLine, laidLine};
 use crate::column;
 use crate::digest;
 use crate::film;
 use crate::film::Shot;
 use crate::made;
-use crate::text;
 use crate::whole::Row;
 use crate::whole::at;
-use crate::whole::front;
-use crate::whole::front_bytes;
+use crate::whole::fitting;
 use crate::whole::word;
 use pgm::Sizes;
 use pgm_greys::Turned;
 use pgm_write::Written;
+use text::Text;
 
 // What a target of greys counts up from.
 const TARGET_BASE: u64 = 40000;
@@ -142,14 +143,14 @@ fn turn_by(by_c: bool, bytes: &[u8], start: usize, f: Found, target: &mut [u16])
 // The lines of a raster turned into greys: answer, digests and target; and how the front of the target looks.
 fn turned_lines(t: Turn, number: u32, bytes: &[u8], target: &[u16]) -> Shot {
     let of_file = t.letter == b'G';
-    text::one(t.letter, t.no, number);
-    text::two(
+    text::print(text::one(t.letter, t.no, number));
+    text::print(text::two(
         text::either(of_file, b'g', b'h'),
         t.no,
         digest::bytes(bytes),
         digest::greys(target),
-    );
-    text::small(text::either(of_file, b't', b'u'), t.no, target);
+    ));
+    text::print(text::small(text::either(of_file, b't', b'u'), t.no, target));
     Shot {
         number,
         digest: digest::first(target, t.seen),
@@ -159,42 +160,40 @@ fn turned_lines(t: Turn, number: u32, bytes: &[u8], target: &[u16]) -> Shot {
 // Makes the target and turns the raster into greys.
 fn turned(by_c: bool, t: Turn, f: Found, bytes: &[u8]) -> Shot {
     let mut target = [0u16; 9219];
-    let g = front(&mut target, t.room);
+    let n = fitting(t.room, 9219);
+    let g = &mut target[0..n];
     made::output(g, TARGET_BASE);
     let number = turn_by(by_c, bytes, t.start, f, g);
     turned_lines(t, number, bytes, &g[..])
 }
 
 // The line of the sizes.
-fn sizes_line(no: u64, f: Found) {
+fn sizes_line(no: u64, f: Found) -> Text
+    ensures { λ r. ⌜ r ≡ sizesLine no f ⌝ }
+{
     if f.number != 0 {
-        text::one(b'S', no, f.number);
-        return;
+        return text::one(b'S', no, f.number);
     }
-    text::start(b'S', no);
-    text::word(0);
-    text::word(f.width);
-    text::word(f.height);
-    text::word(f.maxval);
-    text::end();
+    let sizes = [0, f.width, f.height, f.maxval];
+    text::end(text::word_fields(text::start(b'S', no), &sizes))
 }
 
 // The line of the raster; answers where it starts.
 fn raster_line(no: u64, raster: &[u8], bytes: &[u8]) -> usize {
-    text::three(
+    text::print(text::three(
         b'R',
         no,
         raster.len() as u64,
         digest::bytes(raster),
         digest::bytes(bytes),
-    );
+    ));
     std::num::wrapping_sub_usize(bytes.len(), raster.len())
 }
 
 // The reading steps over the bytes of a file.
 fn reading(by_c: bool, no: u64, room: u64, seen: u64, bytes: &[u8]) -> Shot {
     let f = sizes(by_c, bytes);
-    sizes_line(no, f);
+    text::print(sizes_line(no, f));
     let start = raster_line(no, raster(by_c, bytes, f.number), bytes);
     if f.number != 0 {
         return Shot {
@@ -213,7 +212,7 @@ fn reading(by_c: bool, no: u64, room: u64, seen: u64, bytes: &[u8]) -> Shot {
 }
 
 // A row of the files: no, target length, count and the bytes.
-pub fn file(by_c: bool, row: Row) {
+pub(crate) fn file(by_c: bool, row: Row) {
     let bytes = row_bytes(row, column::FILE_BYTES);
     reading(
         by_c,
@@ -225,7 +224,7 @@ pub fn file(by_c: bool, row: Row) {
 }
 
 // A row of the greys: no, target length, count, start, width, height, maxval and the bytes.
-pub fn greys(by_c: bool, row: Row) {
+pub(crate) fn greys(by_c: bool, row: Row) {
     let bytes = row_bytes(row, column::RASTER_BYTES);
     let t = Turn {
         letter: b'H',
@@ -285,20 +284,20 @@ fn write_by(by_c: bool, row: Row, picture: &[u16], out: &mut [u8]) -> Laid {
 }
 
 // The answer of write or of the listing.
-fn laid_line(letter: u8, no: u64, laid: Laid) {
-    text::start(letter, no);
-    text::word(laid.number);
-    if laid.number == 0 {
-        text::field(laid.count as u64);
+fn laid_line(letter: u8, no: u64, laid: Laid) -> Text
+    ensures { λ r. ⌜ r ≡ laidLine letter no laid ⌝ }
+{
+    if laid.number != 0 {
+        return text::one(letter, no, laid.number);
     }
-    text::end();
+    text::two(letter, no, 0, laid.count as u64)
 }
 
 // The lines of write: the answer, the digests of picture and out, and the out.
 fn written_lines(no: u64, laid: Laid, picture: &[u16], out: &[u8]) {
-    laid_line(b'B', no, laid);
-    text::two(b'b', no, digest::greys(picture), digest::bytes(out));
-    text::small_bytes(b'c', no, out);
+    text::print(laid_line(b'B', no, laid));
+    text::print(text::two(b'b', no, digest::greys(picture), digest::bytes(out)));
+    text::print(text::small_bytes(b'c', no, out));
 }
 
 // What was written, if it was, is read back and held against the picture.
@@ -318,22 +317,24 @@ fn read_back(by_c: bool, row: Row, laid: Laid, picture: &[u16], out: &[u8]) {
         number: 0,
         digest: digest::greys(picture),
     };
-    film::same(at(row, column::NO), made, shot);
+    text::print(film::same(at(row, column::NO), made, shot));
 }
 
 // Makes the out and writes the picture.
 fn written(by_c: bool, row: Row, picture: &[u16]) {
     let mut out = out_room();
-    let o = front_bytes(&mut out, at(row, column::BYTES_ROOM));
+    let n = fitting(at(row, column::BYTES_ROOM), 20000);
+    let o = &mut out[0..n];
     let laid = write_by(by_c, row, picture, o);
     written_lines(at(row, column::NO), laid, picture, &o[..]);
     read_back(by_c, row, laid, picture, &o[..]);
 }
 
 // A row of the writes: no, maxval, the film rule's columns, out length and target length.
-pub fn write(by_c: bool, row: Row) {
+pub(crate) fn write(by_c: bool, row: Row) {
     let mut picture = [0u16; 9216];
-    let p = front(&mut picture, at(row, column::LENGTH));
+    let n = fitting(at(row, column::LENGTH), 9216);
+    let p = &mut picture[0..n];
     made::picture(row, p);
     written(by_c, row, &p[..]);
 }
@@ -355,19 +356,20 @@ fn list_by(by_c: bool, bytes: &[u8], out: &mut [u8]) -> Laid {
 // Makes the out and lists; the answer, and the digests of the bytes and of the out.
 fn listed(by_c: bool, row: Row, bytes: &[u8]) {
     let mut out = out_room();
-    let o = front_bytes(&mut out, at(row, column::ROOM));
+    let n = fitting(at(row, column::ROOM), 20000);
+    let o = &mut out[0..n];
     let laid = list_by(by_c, bytes, o);
-    laid_line(b'L', at(row, column::NO), laid);
-    text::two(
+    text::print(laid_line(b'L', at(row, column::NO), laid));
+    text::print(text::two(
         b'l',
         at(row, column::NO),
         digest::bytes(bytes),
         digest::bytes(&o[..]),
-    );
+    ));
 }
 
 // A row of the listings: no, out length, count and the bytes.
-pub fn list(by_c: bool, row: Row) {
+pub(crate) fn list(by_c: bool, row: Row) {
     let bytes = row_bytes(row, column::FILE_BYTES);
     listed(by_c, row, part(&bytes, 0, at(row, column::COUNT) as usize));
 }

@@ -1,23 +1,22 @@
 // The films and the draws: prepare, draw and enhance.
 ghost use mathlib.Core.Path.{_≡_};
 ghost use lib.ListN.{length};
-ghost use Rattle.filmset.specs.Filmset.{isFilm, ownOf, windowOf, drawnNumber, placeOf, handedOf, joinedOf};
+ghost use Rattle.filmset.specs.Filmset.{digestOf, isFilm, ownOf, windowOf, drawnNumber, placeOf, handedOf, joinedOf, sameLine};
 use crate::column;
 use crate::digest;
 use crate::kept;
 use crate::kept::Kept;
 use crate::kept::Ten;
 use crate::made;
-use crate::text;
 use crate::whole::Row;
 use crate::whole::at;
-use crate::whole::front;
-use crate::whole::front_words;
+use crate::whole::fitting;
 use crate::whole::low;
 use crate::whole::with;
 use crate::whole::word;
 use draw::Drawn;
 use settings::Window;
+use text::Text;
 
 // What an output of draw counts up from.
 pub const OUTPUT_BASE: u64 = 50000;
@@ -151,7 +150,7 @@ fn enhance_c(no: u64, t: Ten, picture: &mut [u16], map: &mut [u16], scratch: &mu
         &mut used,
     );
     let k = Kept { number, ten: t };
-    kept::line(b'E', no, k, limit, asked, used);
+    text::print(kept::line(b'E', no, k, limit, asked, used));
     k
 }
 
@@ -189,31 +188,35 @@ fn call_by(
 }
 
 // The digests of picture, map and scratch behind a call, and what it wrote; nothing under the letter 0. Answers the picture's.
-fn called_lines(letter: u8, no: u64, picture: &[u16], map: &[u16], scratch: &[u32]) -> u64 {
+fn called_lines(letter: u8, no: u64, picture: &[u16], map: &[u16], scratch: &[u32]) -> u64
+    ensures { λ r. ⌜ r ≡ digestOf (now (picture .entry)) ⌝ }
+{
     let digest = digest::greys(picture);
     if letter == 0 {
         return digest;
     }
     let b = digest::greys(map);
     let c = digest::words(scratch);
-    text::three(letter % 128 + 32, no, digest, b, c);
+    text::print(text::three(letter % 128 + 32, no, digest, b, c));
     if letter == b'E' {
-        text::small(b'i', no, picture);
+        text::print(text::small(b'i', no, picture));
         return digest;
     }
-    text::small(b'm', no, map);
+    text::print(text::small(b'm', no, map));
     digest
 }
 
 // Makes map and scratch and calls, and prints what comes of it under the letter.
 pub fn called(by_c: bool, letter: u8, row: Row, picture: &mut [u16]) -> Made
-    ensures { λ _. ⌜ length (now (picture .exit)) ≡ length (now (picture .entry)) ⌝ }
+    ensures { λ r. ⌜ (length (now (picture .exit)) ≡ length (now (picture .entry))) × (r .digest ≡ digestOf (now (picture .exit))) ⌝ }
 {
     let mut map = [0; 65536];
-    let mut scratch = made::scratch();
-    let m = front(&mut map, at(row, column::MAP_ROOM));
+    let n = fitting(at(row, column::MAP_ROOM), 65536);
+    let m = &mut map[0..n];
     made::map(row, m);
-    let s = front_words(&mut scratch, at(row, column::SCRATCH_ROOM));
+    let mut scratch = made::scratch();
+    let k = fitting(at(row, column::SCRATCH_ROOM), 4200);
+    let s = &mut scratch[0..k];
     let kept = call_by(by_c, letter, row, picture, m, s);
     let digest = called_lines(letter, at(row, column::NO), &picture[..], &m[..], &s[..]);
     Made { kept, digest, map }
@@ -310,15 +313,15 @@ fn drawn_lines(drawn: Row, number: u32, picture: &[u16], map: &[u16], out: &[u16
     let no = at(drawn, column::NO);
     let of_film = is_film(drawn);
     let digest = digest::greys(out);
-    text::one(text::either(of_film, b'D', b'W'), no, number);
-    text::three(
+    text::print(text::one(text::either(of_film, b'D', b'W'), no, number));
+    text::print(text::three(
         text::either(of_film, b'd', b'w'),
         no,
         digest::greys(picture),
         digest::greys(map),
         digest,
-    );
-    text::small(text::either(of_film, b'o', b'v'), no, out);
+    ));
+    text::print(text::small(text::either(of_film, b'o', b'v'), no, out));
     Shot { number, digest }
 }
 
@@ -332,7 +335,8 @@ fn drawn_from(
     map: &[u16],
     out: &mut [u16],
 ) -> Shot {
-    let o = front(out, at(drawn, column::OUT_ROOM));
+    let n = fitting(at(drawn, column::OUT_ROOM), out.len());
+    let o = &mut out[0..n];
     made::output(o, OUTPUT_BASE);
     let number = draw_by(by_c, drawn, t, kept, picture, map, o);
     drawn_lines(drawn, number, picture, map, &o[..])
@@ -349,7 +353,9 @@ fn drawn_of(
 ) -> Shot {
     let mut map = made.map;
     let k = made.kept;
-    let m = front(&mut map, at(row, column::MAP_ROOM));
+    let whole: &mut [u16] = &mut map;
+    let n = fitting(at(row, column::MAP_ROOM), whole.len());
+    let m = &mut whole[0..n];
     made::poke(
         m,
         own(drawn, column::MAP_AT, NOWHERE),
@@ -371,7 +377,8 @@ pub fn joined(number: u32, shot: Shot) -> Shot
 
 // Makes the film, prepares it, and draws; the lines of prepare are a film's own.
 fn shot_of(by_c: bool, row: Row, drawn: Row, picture: &mut [u16], out: &mut [u16]) -> Shot {
-    let p = front(picture, at(row, column::LENGTH));
+    let n = fitting(at(row, column::LENGTH), picture.len());
+    let p = &mut picture[0..n];
     made::picture(row, p);
     let letter = text::either(is_film(drawn), b'P', 0);
     let made = called(by_c, letter, row, p);
@@ -387,7 +394,8 @@ fn shot_of(by_c: bool, row: Row, drawn: Row, picture: &mut [u16], out: &mut [u16
 
 // Makes the film anew and enhances it.
 fn enhanced_of(by_c: bool, row: Row, picture: &mut [u16]) -> Shot {
-    let p = front(picture, at(row, column::LENGTH));
+    let n = fitting(at(row, column::LENGTH), picture.len());
+    let p = &mut picture[0..n];
     made::picture(row, p);
     let made = called(by_c, b'E', row, p);
     let k = made.kept;
@@ -398,28 +406,31 @@ fn enhanced_of(by_c: bool, row: Row, picture: &mut [u16]) -> Shot {
 }
 
 // The line K: whether two pictures have the same digest, where all calls accepted.
-pub fn same(no: u64, a: Shot, b: Shot) {
-    let c = joined(a.number, b);
-    if c.number != 0 {
-        return;
+pub fn same(no: u64, a: Shot, b: Shot) -> Text
+    ensures { λ r. ⌜ r ≡ sameLine no a b ⌝ }
+{
+    if a.number != 0 {
+        return text::blank();
+    }
+    if b.number != 0 {
+        return text::blank();
     }
     if a.digest == b.digest {
-        text::one(b'K', no, 1);
-        return;
+        return text::one(b'K', no, 1);
     }
-    text::one(b'K', no, 0);
+    text::one(b'K', no, 0)
 }
 
 // A row of the films, over rooms for the largest picture and the largest output.
-pub fn film(by_c: bool, row: Row, picture: &mut [u16], out: &mut [u16])
+pub(crate) fn film(by_c: bool, row: Row, picture: &mut [u16], out: &mut [u16])
     ensures { λ _. ⌜ (length (now (picture .exit)) ≡ length (now (picture .entry))) × (length (now (out .exit)) ≡ length (now (out .entry))) ⌝ }
 {
     let drawn = shot_of(by_c, row, row, picture, out);
-    same(at(row, column::NO), drawn, enhanced_of(by_c, row, picture));
+    text::print(same(at(row, column::NO), drawn, enhanced_of(by_c, row, picture)));
 }
 
 // A row of the draws, with that of its film.
-pub fn draw(by_c: bool, row: Row, drawn: Row, picture: &mut [u16], out: &mut [u16])
+pub(crate) fn draw(by_c: bool, row: Row, drawn: Row, picture: &mut [u16], out: &mut [u16])
     ensures { λ _. ⌜ (length (now (picture .exit)) ≡ length (now (picture .entry))) × (length (now (out .exit)) ≡ length (now (out .entry))) ⌝ }
 {
     shot_of(by_c, row, drawn, picture, out);

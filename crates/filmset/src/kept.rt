@@ -1,9 +1,8 @@
 // The ten numbers of a film's record, and what the calls of prepare make of them.
 ghost use mathlib.Core.Path.{_≡_};
 ghost use lib.ListN.{getD};
-ghost use Rattle.filmset.specs.Filmset.{factorOf, tenOf, clipOf, settingsOf, recordOf, clipNumber, clipFactor, flatOf, nineOf, tenFrom, keptAs, keptPrepared, keptEnhanced};
+ghost use Rattle.filmset.specs.Filmset.{factorOf, tenOf, clipOf, settingsOf, recordOf, clipNumber, clipFactor, flatOf, nineOf, tenFrom, keptAs, keptPrepared, keptEnhanced, tenFields, doneFields, answerLine};
 use crate::column;
-use crate::text;
 use crate::whole::Row;
 use crate::whole::word;
 use limit::Clip;
@@ -11,6 +10,7 @@ use prepare::Enhanced;
 use prepare::Prepared;
 use settings::MapRecord;
 use settings::Settings;
+use text::Text;
 
 // A film's number, sizes and settings, as flat as C hands them.
 pub struct Ten {
@@ -134,40 +134,42 @@ fn flat(r: MapRecord) -> Ten
     }
 }
 
-fn ten_fields(t: Ten) {
-    text::word(t.film);
-    text::word(t.width);
-    text::word(t.height);
-    text::word(t.across);
-    text::word(t.down);
-    text::word(t.bins);
-    text::word(t.min);
-    text::word(t.max);
-    text::word(t.clip);
-    text::factor_field(t.factor);
+// The fields of the ten.
+fn ten_fields(line: Text, t: Ten) -> Text
+    ensures { λ r. ⌜ r ≡ tenFields line t ⌝ }
+{
+    let numbers = nine(t);
+    text::factor_field(text::word_fields(line, &numbers), t.factor)
 }
 
-// The line of prepare or enhance: the answer, of an accepted call the footer, and of prepare the record. None under the letter 0.
-pub fn line(letter: u8, no: u64, k: Kept, limit: u32, asked: f32, used: f64) {
+// The fields of an accepted call: the footer, and of prepare the record.
+fn done_fields(line: Text, letter: u8, t: Ten, limit: u32, asked: f32, used: f64) -> Text
+    ensures { λ r. ⌜ r ≡ doneFields line letter t limit asked used ⌝ }
+{
+    let foot = text::used_field(text::factor_field(text::word(line, limit), asked), used);
+    if letter == b'P' {
+        return ten_fields(foot, t);
+    }
+    foot
+}
+
+// The line of prepare or enhance: the answer, and of an accepted call its fields. None under the letter 0.
+pub(crate) fn line(letter: u8, no: u64, k: Kept, limit: u32, asked: f32, used: f64) -> Text
+    ensures { λ r. ⌜ r ≡ answerLine letter no k limit asked used ⌝ }
+{
     if letter == 0 {
-        return;
+        return text::blank();
     }
-    text::start(letter, no);
-    text::word(k.number);
-    if k.number == 0 {
-        text::word(limit);
-        text::factor_field(asked);
-        text::used_field(used);
-        if letter == b'P' {
-            let ten = k.ten;
-            ten_fields(ten);
-        }
+    let line = text::word(text::start(letter, no), k.number);
+    if k.number != 0 {
+        return text::end(line);
     }
-    text::end();
+    let ten = k.ten;
+    text::end(done_fields(line, letter, ten, limit, asked, used))
 }
 
 // The ten but for the factor, in the order in which C has them.
-pub fn nine(t: Ten) -> [u32; 9]
+pub(crate) fn nine(t: Ten) -> [u32; 9]
     ensures { λ r. ⌜ r ≡ nineOf t ⌝ }
 {
     [
@@ -211,7 +213,7 @@ fn ten_of(n: [u32; 9], factor: f32) -> Ten
 }
 
 // What prepare for C left, printed under the letter if that is not 0.
-pub fn of_c(
+pub(crate) fn of_c(
     letter: u8,
     no: u64,
     number: u32,
@@ -225,7 +227,7 @@ pub fn of_c(
 {
     let ten = ten_of(numbers, factor);
     let k = Kept { number, ten };
-    line(letter, no, k, limit, asked, used);
+    text::print(line(letter, no, k, limit, asked, used));
     k
 }
 
@@ -237,12 +239,12 @@ pub fn of_prepared(letter: u8, no: u64, asked: Ten, p: Prepared) -> Kept
         Prepared::Done(record, footer) => {
             let ten = flat(record);
             let k = Kept { number: 0, ten };
-            line(letter, no, k, footer.limit, footer.asked, footer.used);
+            text::print(line(letter, no, k, footer.limit, footer.asked, footer.used));
             k
         }
         Prepared::Refused(number) => {
             let k = Kept { number, ten: asked };
-            line(letter, no, k, 0, 0.0, 0.0);
+            text::print(line(letter, no, k, 0, 0.0, 0.0));
             k
         }
     }
@@ -258,12 +260,12 @@ pub fn of_enhanced(no: u64, asked: Ten, e: Enhanced) -> Kept
                 number: 0,
                 ten: asked,
             };
-            line(b'E', no, k, footer.limit, footer.asked, footer.used);
+            text::print(line(b'E', no, k, footer.limit, footer.asked, footer.used));
             k
         }
         Enhanced::Refused(number) => {
             let k = Kept { number, ten: asked };
-            line(b'E', no, k, 0, 0.0, 0.0);
+            text::print(line(b'E', no, k, 0, 0.0, 0.0));
             k
         }
     }

@@ -7,9 +7,9 @@ pub mod film;
 pub mod kept;
 pub mod made;
 pub mod row;
-pub mod text;
 pub mod whole;
 
+ghost use Prim.Native.Nat.{_≤_};
 use libc::STDIN_FILENO;
 
 // Room for the largest picture. Behind a call its zeros stay unread where a proof looks at the room's length.
@@ -17,11 +17,14 @@ fn room() -> [u16; 1050624] {
     [0; 1050624]
 }
 
-// Runs the set. A set of more than 65,536 bytes is cut, and then its text is not the stored one.
-pub fn run(by_c: bool) {
+// Runs the set, and answers how many bytes of it were read. A set of more than 65,536 bytes is cut, and then its text is not the stored one.
+pub fn run(by_c: bool) -> usize
+    ensures { λ r. ⌜ r ≤ 65536 ⌝ }
+{
     let mut bytes = io::large_buffer();
     let mut picture = room();
     let mut out = room();
     let n = io::read_full(STDIN_FILENO, &mut bytes);
     row::rows(by_c, &bytes[..n], &mut picture, &mut out);
+    n
 }

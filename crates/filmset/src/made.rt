@@ -141,7 +141,7 @@ pub fn picture(row: Row, entries: &mut [u16])
 }
 
 // Sets the entry at a place, if there is one.
-pub fn poke(entries: &mut [u16], place: u64, value: u64)
+pub(crate) fn poke(entries: &mut [u16], place: u64, value: u64)
     ensures { λ _. ⌜ now (entries .exit) ≡ set (now (entries .entry)) place (value % 65536) ⌝ }
 {
     let i = place as usize;

@@ -112,7 +112,7 @@ fn turn(by_c: bool, text: &[u8], r: Row, picture: &mut [u16], out: &mut [u16]) {
 }
 
 // Runs all rows of the set, over rooms for the largest picture and the largest output.
-pub fn rows(by_c: bool, text: &[u8], picture: &mut [u16], out: &mut [u16])
+pub(crate) fn rows(by_c: bool, text: &[u8], picture: &mut [u16], out: &mut [u16])
     ensures { λ _. ⌜ (length (now (picture .exit)) ≡ length (now (picture .entry))) × (length (now (out .exit)) ≡ length (now (out .entry))) ⌝ }
 {
     let mut line = fresh();

@@ -2,8 +2,8 @@
 // caller has to show it; a number that is not there reads as 0.
 
 ghost use mathlib.Core.Path.{_≡_};
-ghost use Prim.Native.Nat.{_+_, _-_, _*_, _%_, _^_};
-ghost use lib.ListN.{getD, set, take};
+ghost use Prim.Native.Nat.{_+_, _-_, _*_, _%_, _^_, min};
+ghost use lib.ListN.{getD, set};
 ghost use Rattle.filmset.specs.Filmset.{restOf, wordOf};
 
 // The numbers of a row, 0 behind the last.
@@ -26,7 +26,7 @@ pub fn minus(a: u64, b: u64) -> u64
 }
 
 // The product of two numbers below 2^32.
-pub fn times(a: u64, b: u64) -> u64
+pub(crate) fn times(a: u64, b: u64) -> u64
     ensures { λ r. ⌜ r ≡ a % 4294967296 * (b % 4294967296) ⌝ }
 {
     (a % 4294967296) * (b % 4294967296)
@@ -77,33 +77,13 @@ pub fn with(row: Row, column: usize, n: u64) -> Row
     next
 }
 
-// As much of a buffer as is asked for: its first n entries, or all.
-pub fn front(entries: &mut [u16], n: u64) -> &mut [u16]
-    ensures { λ r. ⌜ now r ≡ take n (now (entries .entry)) ⌝ }
+// How much of a buffer of so many entries is lent where so many are asked for: all where there are no more.
+pub fn fitting(asked: u64, len: usize) -> usize
+    ensures { λ r. ⌜ r ≡ min asked len ⌝ }
 {
-    let asked = n as usize;
-    if asked < entries.len() {
-        return &mut entries[0..asked];
+    let n = asked as usize;
+    if n < len {
+        return n;
     }
-    entries
-}
-
-pub fn front_words(entries: &mut [u32], n: u64) -> &mut [u32]
-    ensures { λ r. ⌜ now r ≡ take n (now (entries .entry)) ⌝ }
-{
-    let asked = n as usize;
-    if asked < entries.len() {
-        return &mut entries[0..asked];
-    }
-    entries
-}
-
-pub fn front_bytes(entries: &mut [u8], n: u64) -> &mut [u8]
-    ensures { λ r. ⌜ now r ≡ take n (now (entries .entry)) ⌝ }
-{
-    let asked = n as usize;
-    if asked < entries.len() {
-        return &mut entries[0..asked];
-    }
-    entries
+    len
 }

@@ -4,8 +4,10 @@ use native.Mathlib.Omega.{arith}
 use Prim.Native.Nat.{_≤_, _-_}
 use lib.ListN.{length}
 use mathlib.Core.Path.{_≡_, refl}
-use Rattle.filmset.specs.Filmset.{run, mixed}
-use Rattle.filmset.proofs.Runs.{from, run-start, run-step, digest-end}
+use Rattle.text.specs.Text.{run}
+use Rattle.filmset.specs.Filmset.{mixed}
+use Rattle.text.proofs.Runs.{from, run-start, run-step}
+use Rattle.filmset.proofs.Digests.{digest-end}
 use Rattle.filmset.proofs.digest.bytes.Statement.{statement}
 use Rattle.filmset.proofs.digest.bytes.Tie as tie
 

@@ -4,8 +4,9 @@ use native.Mathlib.Omega.{arith}
 use Prim.Native.Nat.{_≤_, _-_, min}
 use lib.ListN.{length, take}
 use mathlib.Core.Path.{_≡_, refl}
-use Rattle.filmset.specs.Filmset.{run, mixed}
-use Rattle.filmset.proofs.Runs.{from-first, first-start, first-step, first-end}
+use Rattle.text.specs.Text.{run}
+use Rattle.filmset.specs.Filmset.{mixed}
+use Rattle.filmset.proofs.Digests.{from-first, first-start, first-step, first-end}
 use Rattle.filmset.proofs.digest.first.Statement.{statement}
 use Rattle.filmset.proofs.digest.first.Tie as tie
 
@@ -15,11 +16,11 @@ Inv-loop entries n end h₀ i₀ h i = (i ≤ end) × (end ≤ length entries) �
 abbrev μ-loop : tie.MeasureT-loop
 μ-loop entries n end h₀ i₀ h i = end - i
 
-least-requires : tie.Need-least-requires Inv-loop μ-loop
-least-requires c κs = search needs
+fitting-requires : tie.Need-fitting-requires Inv-loop μ-loop
+fitting-requires c κs = search needs
 
 loop-holds : tie.Need-loop-holds Inv-loop μ-loop
-loop-holds c = (search needs, search needs, c .least .ensures, first-start _ _)
+loop-holds c = (search needs, search needs, c .fitting .ensures, first-start _ _)
 
 mul-taken : tie.Need-mul-taken Inv-loop μ-loop
 mul-taken c = search needs
@@ -54,7 +55,7 @@ first-spec =
     (tie.spec
     Inv-loop
     μ-loop
-    least-requires
+    fitting-requires
     loop-holds
     mul-taken
     shared-slice-read-taken

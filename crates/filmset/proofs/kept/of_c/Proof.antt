@@ -9,8 +9,11 @@ ten-of-requires c κs = search needs
 line-requires : tie.Need-line-requires
 line-requires c κs = search needs
 
+print-requires : tie.Need-print-requires
+print-requires c κs = search needs
+
 returns : tie.Need-returns
 returns c = cc
 
 pub of-c-spec : {M : Type 1} → statement M
-of-c-spec = tie.close (tie.spec ten-of-requires line-requires returns)
+of-c-spec = tie.close (tie.spec ten-of-requires line-requires print-requires returns)

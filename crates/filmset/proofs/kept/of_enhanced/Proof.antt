@@ -10,19 +10,25 @@ enum-known-e c = search needs
 line-requires : tie.Need-line-requires
 line-requires c κs = search needs
 
+print-requires : tie.Need-print-requires
+print-requires c κs = search needs
+
 enum-known-e-2 : tie.Need-enum-known-e-2
 enum-known-e-2 c = search needs
 
 line-requires-2 : tie.Need-line-requires-2
 line-requires-2 c κs = search needs
 
+print-requires-2 : tie.Need-print-requires-2
+print-requires-2 c κs = search needs
+
 returns : tie.Need-returns
-returns c = rw (c .before .before .e .given .1) refl
+returns c = rw (c .before .before .before .e .given .1) refl
 
 returns-2 : tie.Need-returns-2
-returns-2 c = rw (c .before .before .e2 .given .1) refl
+returns-2 c = rw (c .before .before .before .e2 .given .1) refl
 
 pub of-enhanced-spec : {M : Type 1} → statement M
 of-enhanced-spec =
     tie.close
-    (tie.spec enum-known-e line-requires enum-known-e-2 line-requires-2 returns returns-2)
+    (tie.spec enum-known-e line-requires print-requires enum-known-e-2 line-requires-2 print-requires-2 returns returns-2)

@@ -13,17 +13,23 @@ flat-requires c κs = search needs
 line-requires : tie.Need-line-requires
 line-requires c κs = search needs
 
+print-requires : tie.Need-print-requires
+print-requires c κs = search needs
+
 enum-known-p-2 : tie.Need-enum-known-p-2
 enum-known-p-2 c = search needs
 
 line-requires-2 : tie.Need-line-requires-2
 line-requires-2 c κs = search needs
 
+print-requires-2 : tie.Need-print-requires-2
+print-requires-2 c κs = search needs
+
 returns : tie.Need-returns
-returns c = rw (c .before .before .before .p .given .1, c .before .flat .ensures) refl
+returns c = rw (c .before .before .before .before .p .given .1, c .before .before .flat .ensures) refl
 
 returns-2 : tie.Need-returns-2
-returns-2 c = rw (c .before .before .p2 .given .1) refl
+returns-2 c = rw (c .before .before .before .p2 .given .1) refl
 
 pub of-prepared-spec : {M : Type 1} → statement M
 of-prepared-spec =
@@ -32,7 +38,9 @@ of-prepared-spec =
     enum-known-p
     flat-requires
     line-requires
+    print-requires
     enum-known-p-2
     line-requires-2
+    print-requires-2
     returns
     returns-2)

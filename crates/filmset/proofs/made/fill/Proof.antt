@@ -6,7 +6,7 @@ use lib.ListN.{length, length-set}
 use Rattle.lists.specs.Lists.{filled}
 use Rattle.lists.proofs.Fills.{filled-none, filled-step, filled-end}
 use Rattle.filmset.specs.Filmset.{fillOf}
-use Rattle.filmset.proofs.Runs.{filled-full}
+use Rattle.filmset.proofs.Digests.{filled-full}
 use Rattle.filmset.proofs.made.fill.Statement.{statement}
 use Rattle.filmset.proofs.made.fill.Tie as tie
 

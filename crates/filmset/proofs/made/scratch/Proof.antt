@@ -6,7 +6,7 @@ use lib.ListN.{length, length-replicate}
 use Rattle.lists.specs.Lists.{filled}
 use Rattle.lists.proofs.Fills.{filled-none, filled-step, filled-end}
 use Rattle.filmset.specs.Filmset.{scratchOf}
-use Rattle.filmset.proofs.Runs.{filled-full}
+use Rattle.filmset.proofs.Digests.{filled-full}
 use Rattle.filmset.proofs.made.scratch.Statement.{statement}
 use Rattle.filmset.proofs.made.scratch.Tie as tie
 

@@ -3,8 +3,9 @@ use borrow.Author.Needs.{needs}
 use Prim.Native.Nat.{_≤_, _-_}
 use lib.ListN.{length}
 use mathlib.Core.Path.{_≡_, refl, ap}
-use Rattle.filmset.specs.Filmset.{run, lookedLine, freshLine}
-use Rattle.filmset.proofs.Runs.{from, run-start, run-step, run-end}
+use Rattle.text.specs.Text.{run}
+use Rattle.filmset.specs.Filmset.{lookedLine, freshLine}
+use Rattle.text.proofs.Runs.{from, run-start, run-step, run-end}
 use Rattle.filmset.specs.declared.row.Line.{Line}
 use Rattle.filmset.proofs.row.found.Statement.{statement}
 use Rattle.filmset.proofs.row.found.Tie as tie

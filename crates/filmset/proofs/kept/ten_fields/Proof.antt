@@ -1,0 +1,31 @@
+-- `filmset::kept::ten_fields` meets its contract: nine numbers and the factor. Assumes nothing.
+use borrow.Author.Needs.{needs}
+use Rattle.filmset.specs.Filmset.{tenFields}
+use Rattle.filmset.proofs.kept.ten_fields.Statement.{statement}
+use Rattle.filmset.proofs.kept.ten_fields.Tie as tie
+
+nine-requires : tie.Need-nine-requires
+nine-requires c κs = search needs
+
+slice-aggregate-word-fields : tie.Need-slice-aggregate-word-fields
+slice-aggregate-word-fields c = search needs
+
+word-fields-requires : tie.Need-word-fields-requires
+word-fields-requires c κs = search needs
+
+factor-field-requires : tie.Need-factor-field-requires
+factor-field-requires c κs = search needs
+
+returns : tie.Need-returns
+unfolding tenFields
+returns c = cc
+
+pub ten-fields-spec : {M : Type 1} → statement M
+ten-fields-spec =
+    tie.close
+    (tie.spec
+    nine-requires
+    slice-aggregate-word-fields
+    word-fields-requires
+    factor-field-requires
+    returns)
