@@ -2,36 +2,24 @@
 -- Document 00, demand 1: "after a refusal all lent memory holds what it held before", where a refusal is a returned number that is not 0.
 -- Of every run of the calls by their contracts (Runs); a name with ′ is lent memory at the end.
 -- Assumes nothing.
-use Prim.Native.Nat.{ℕ, zero, suc, _<_}
+use Prim.Native.Nat.{ℕ, _<_}
 use mathlib.Core.List.{List}
-use mathlib.Core.Logic.{_⊎_, inl, inr}
+use mathlib.Core.Logic.{inl, inr}
 use mathlib.Core.Path.{_≡_, refl, sym, ap, _∙_}
-use native.Mathlib.Omega.{arith}
 use lib.ListN.{length}
-use Rattle.lists.specs.Lists.{onto}
-use Rattle.refuse.specs.Refuse.{first, unless, Says, accepted, refused}
+use Rattle.refuse.specs.Refuse.{Says, accepted, refused}
 use Rattle.header.specs.declared.Head.{Head}
 use Rattle.header.specs.declared.Head.the-variants as Head
-use Rattle.pgm_write.specs.declared.Written.the-variants as Written
 use Rattle.pgm.specs.Pgm.{readOf, sizesOf, sizesSays}
 use Rattle.pgm_greys.specs.Greys.{turnedSays, turnedOf}
-use Rattle.pgm_write.specs.Write.{writtenSays, wroteAs, writeOf}
-use Rattle.listing.specs.Listing.{listingOf, textRows, listOf}
+use Rattle.pgm_write.specs.Write.{writtenSays, writeOf}
 use Rattle.promises.proofs.Accepted.{returned-kept}
 use Rattle.promises.proofs.Files.{greys-table, write-table}
-use Rattle.flat.specs.Files.{Answer, answered, flatSizes, flatRaster, flatGreys, FlatWritten, writtenAs, flatWritten}
-use Rattle.abi_files.proofs.Runs.{TzSizesCall, TzReadsSizes, tz-sizes-given, tz-sizes-ends, TzRasterCall, TzReadsRaster, tz-raster-given, tz-raster-ends, TzGreysCall, TzGreys, tz-greys-given, tz-greys-ends, TzWriteCall, TzWrites, tz-write-given, tz-write-ends, TzListingCall, TzLists, tz-listing-given, tz-listing-ends}
+use Rattle.flat.specs.Files.{Answer, answered, flatSizes, flatRaster, flatGreys, FlatWritten, flatWritten}
+use Rattle.flat.proofs.Kept.{Keeps, kept}
+use Rattle.abi_files.proofs.Runs.{TzSizesCall, TzReadsSizes, tz-sizes-given, tz-sizes-ends, TzRasterCall, TzReadsRaster, tz-raster-given, tz-raster-ends, TzGreysCall, TzGreys, tz-greys-given, tz-greys-ends, TzWriteCall, TzWrites, tz-write-given, tz-write-ends}
 
 -- ---- what a returned number tells
-
--- of the calls that are not flattened from a table: an outcome that is accepted, or that holds what was lent beside its number
-abbrev Keeps : {Y : Type 0} → (Y → ℕ) → (ℕ → Y) → Y → Type 0
-Keeps number lent z = (number z ≡ 0) ⊎ (z ≡ lent (number z))
-
--- what stands at the end of a refused call with such an outcome
-kept : {Y : Type 0} (number : Y → ℕ) (lent : ℕ → Y) {y z : Y} → y ≡ z → Keeps number lent z → 0 < number y → y ≡ lent (number y)
-kept number lent {y} e (inl n) l = let k : number y ≡ 0 = ap number e ∙ n in absurd (omega arith)
-kept number lent e (inr k) l = e ∙ (k ∙ ap (λ x. lent (number x)) (sym e))
 
 sizes-keeps : (x : Says (ℕ × ℕ × ℕ)) (old : List ℕ) → Keeps (λ (z : Answer). z .number) (λ n. answered n old) (flatSizes x old)
 unfolding flatSizes
@@ -42,16 +30,6 @@ raster-keeps : (hd : Head) (size : ℕ) (old : List ℕ) → Keeps (λ (z : Answ
 unfolding flatRaster
 raster-keeps (Head.Found w h m at) size old = inl refl
 raster-keeps (Head.Refused k) size old = inr refl
-
-listing-keeps : (s out : List ℕ) (count : ℕ) → Keeps (λ (z : FlatWritten). z .number) (λ n. writtenAs n out count) (flatWritten (listOf s out) count)
-unfolding flatWritten writtenSays listOf
-listing-keeps s out count = go (first (textRows (length out)))
-  where
-    go : (n : ℕ)
-        → Keeps (λ (z : FlatWritten). z .number) (λ n. writtenAs n out count)
-        (flatWritten (unless n (λ k. wroteAs (Written.Refused k) out) (wroteAs (Written.Bytes (length (listingOf s))) (onto out (listingOf s)))) count)
-    go zero = inl refl
-    go (suc n) = inr refl
 
 -- ---- tz_read_sizes
 
@@ -112,19 +90,4 @@ pub tz-write-refusal-keeps : {c : TzWriteCall} → TzWrites c → 0 < c .number 
 unfolding flatWritten writtenSays
 tz-write-refusal-keeps {c} ran l =
     let e = returned-kept (write-table _ _ _ _ _) (λ w. flatWritten w (c .count)) (λ (z : FlatWritten). z .number) refl (λ k. refl) (tz-write-ends ran) l in
-    (ap (λ (z : FlatWritten). z .out) e, ap (λ (z : FlatWritten). z .count) e)
-
--- ---- tz_listing
-
--- any two outcomes are equal: its number, output and byte count
-pub tz-listing-determined : {c k : TzListingCall} → TzLists c → TzLists k → tz-listing-given c ≡ tz-listing-given k
-    → (c .number ≡ k .number) × (c .out′ ≡ k .out′) × (c .count′ ≡ k .count′)
-tz-listing-determined x y same =
-    let e = tz-listing-ends x ∙ ap (λ g. flatWritten (listOf (g .0) (g .1)) (g .2)) same ∙ sym (tz-listing-ends y) in
-    (ap (λ (z : FlatWritten). z .number) e, ap (λ (z : FlatWritten). z .out) e, ap (λ (z : FlatWritten). z .count) e)
-
--- a refusal keeps lent memory
-pub tz-listing-refusal-keeps : {c : TzListingCall} → TzLists c → 0 < c .number → (c .out′ ≡ c .out) × (c .count′ ≡ c .count)
-tz-listing-refusal-keeps {c} ran l =
-    let e = kept (λ (z : FlatWritten). z .number) (λ n. writtenAs n (c .out) (c .count)) (tz-listing-ends ran) (listing-keeps _ _ _) l in
     (ap (λ (z : FlatWritten). z .out) e, ap (λ (z : FlatWritten). z .count) e)

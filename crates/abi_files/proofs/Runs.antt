@@ -10,7 +10,6 @@ use Rattle.refuse.specs.Run.{Run, Ran}
 use Rattle.pgm.specs.Pgm.{readOf, sizesOf, sizesSays}
 use Rattle.pgm_greys.specs.Greys.{turnedOf}
 use Rattle.pgm_write.specs.Write.{writeOf}
-use Rattle.listing.specs.Listing.{listOf}
 use Rattle.flat.specs.Files.{answered, flatSizes, flatRaster, flatGreys, writtenAs, flatWritten}
 use Rattle.abi_files.proofs.tz_read_sizes.Kinds as sizes
 use Rattle.abi_files.proofs.tz_read_sizes.Reads as sizes-reads
@@ -20,8 +19,6 @@ use Rattle.abi_files.proofs.tz_read_greys.Kinds as greys
 use Rattle.abi_files.proofs.tz_read_greys.Reads as greys-reads
 use Rattle.abi_files.proofs.tz_write.Kinds as write
 use Rattle.abi_files.proofs.tz_write.Reads as write-reads
-use Rattle.abi_files.proofs.tz_listing.Kinds as listing
-use Rattle.abi_files.proofs.tz_listing.Reads as listing-reads
 
 -- ---- tz_read_sizes
 
@@ -131,30 +128,3 @@ TzWrites = Ran tz-write-values
 
 pub tz-write-ends : {c : TzWriteCall} → TzWrites c → writtenAs (c .number) (c .out′) (c .count′) ≡ flatWritten (writeOf (c .pixels) (c .width) (c .height) (c .maxval) (c .out)) (c .count)
 tz-write-ends ran = rw (ran .named) (ran .run .allowed)
-
--- ---- tz_listing
-
-pub record TzListingCall : Type 0 where
-  pub bytes : List ℕ
-  pub out : List ℕ
-  pub count : ℕ
-  pub number : ℕ
-  pub out′ : List ℕ
-  pub count′ : ℕ
-
-abbrev pub tz-listing-values : Run listing.ps listing.r listing-reads.Post → TzListingCall
-tz-listing-values run =
-    let (bytes, (out, (count, end))) = run .handed in
-    let (_, (out′, (count′, end′))) = run .left in
-    record { bytes = now bytes; out = now out; count = now count; number = run .answer; out′ = now out′; count′ = now count′ }
-
--- what it is handed
-abbrev pub tz-listing-given : TzListingCall → List ℕ × List ℕ × ℕ
-tz-listing-given c = (c .bytes, c .out, c .count)
-
--- tz_listing ran with these values
-abbrev pub TzLists : TzListingCall → Type 0
-TzLists = Ran tz-listing-values
-
-pub tz-listing-ends : {c : TzListingCall} → TzLists c → writtenAs (c .number) (c .out′) (c .count′) ≡ flatWritten (listOf (c .bytes) (c .out)) (c .count)
-tz-listing-ends ran = rw (ran .named) (ran .run .allowed)

@@ -4,7 +4,6 @@ ghost use lib.ListN.{length};
 ghost use Rattle.pgm.specs.Pgm.{readOf, sizesOf, sizesSays};
 ghost use Rattle.pgm_greys.specs.Greys.{turnedOf};
 ghost use Rattle.pgm_write.specs.Write.{writeOf};
-ghost use Rattle.listing.specs.Listing.{listOf};
 ghost use Rattle.flat.specs.Files.{answered, flatSizes, flatRaster, flatGreys, writtenAs, flatWritten};
 use pgm::Sizes;
 use pgm_greys::Turned;
@@ -76,20 +75,5 @@ pub extern "C" fn tz_write(
             0
         }
         Written::Refused(n) => n,
-    }
-}
-
-// The listing of a PGM file: a refusal is part of its text. 27 where the output has no 512 bytes.
-#[no_mangle]
-pub extern "C" fn tz_listing(bytes: &[u8], out: &mut [u8], count: &mut usize) -> u32
-    ensures { λ r. ⌜ writtenAs r (now (out .exit)) (now (count .exit)) ≡ flatWritten (listOf (now (bytes .entry)) (now (out .entry))) (now (count .entry)) ⌝ }
-{
-    let answer = listing::list(bytes, out);
-    match answer {
-        Written::Bytes(laid) => {
-            *count = laid;
-            0
-        }
-        Written::Refused(number) => number,
     }
 }

@@ -1,11 +1,11 @@
--- `abi_files::tz_listing` meets its contract: the text's length goes to its cell, or the refusal is returned.
+-- `abi::tz_listing` meets its contract: the text's length goes to its cell, or the refusal is returned.
 -- Assumes nothing.
 use Rattle.flat.proofs.Handed.{written-bytes, written-refused}
 use borrow.Author.Needs.{needs}
-use Rattle.abi_files.proofs.tz_listing.Statement.{statement}
-use Rattle.abi_files.proofs.tz_listing.Tie as tie
-use Rattle.abi_files.proofs.tz_listing.Reads as reads
-use Rattle.abi_files.proofs.tz_listing.Lts as lts
+use Rattle.abi.proofs.listed.tz_listing.Statement.{statement}
+use Rattle.abi.proofs.listed.tz_listing.Tie as tie
+use Rattle.abi.proofs.listed.tz_listing.Reads as reads
+use Rattle.abi.proofs.listed.tz_listing.Lts as lts
 use Rattle.listing.proofs.list.Reads as list-reads
 
 list-requires : tie.Need-list-requires
