@@ -91,11 +91,11 @@ static void take_turn(struct bench *b, enum call c, double *best)
         *best = took;
 }
 
-static int rounds(uint32_t side) { return side >= 4096 ? 15 : side >= 2048 ? 30 : side >= 1024 ? 60 : 100; }
+static int rounds(uint32_t side) { return side > 2048 ? 15 : side > 1024 ? 30 : side > 512 ? 60 : 100; }
 
 static double share_of(const struct bench *b)
 {
-    return film_share(b->film, b->of.side, b->settings.bins, b->settings.max + 1);
+    return film_share(b->film, b->of.width, b->of.height, b->settings.bins, b->settings.max + 1);
 }
 
 /* Measures the calls of the set `which` on a film, when its check is passed. */
@@ -109,7 +109,7 @@ static struct result measure(const struct subject *of, unsigned which)
     if ((which & COUNTS) != 0)
         check_counts(&b);
     struct result r = {.pixels = (double)b.pixels, .area = (double)b.area, .share = share_of(&b)};
-    for (int i = rounds(of->side); i > 0; i--)
+    for (int i = rounds(of->height); i > 0; i--)
         for (int c = 0; c < CALLS; c++)
             if ((which & ONE(c)) != 0)
                 take_turn(&b, (enum call)c, &r.best[c]);
@@ -119,7 +119,7 @@ static struct result measure(const struct subject *of, unsigned which)
 
 static struct subject usual(enum kind kind, uint32_t side, uint32_t bits)
 {
-    return (struct subject){kind, side, bits, GRID, BINS, WINDOW};
+    return (struct subject){kind, side, side, bits, GRID, BINS, WINDOW};
 }
 
 /* ---- the films ---- */
@@ -159,7 +159,7 @@ static double opencv_time(const char *path, const struct subject *of)
     if (from == NULL)
         return 0;
     while (fgets(line, sizeof line, from) != NULL)
-        if (sscanf(line, "%u %u %15s %lf", &side, &bits, name, &ns) == 4 && side == of->side && bits == of->bits &&
+        if (sscanf(line, "%u %u %15s %lf", &side, &bits, name, &ns) == 4 && side == of->width && bits == of->bits &&
             strcmp(name, film_name(of->kind)) == 0)
             found = ns;
     fclose(from);
@@ -181,7 +181,7 @@ static void ratio(double ours, double theirs)
 
 static void call_row(const struct subject *of, const char *call, double ns, const struct against *a)
 {
-    printf("| %4u | %2u | %-5s |", (unsigned)of->side, (unsigned)of->bits, film_name(of->kind));
+    printf("| %4u | %2u | %-5s |", (unsigned)of->width, (unsigned)of->bits, film_name(of->kind));
     printf(" %-9s | %8.3f |", call, ns);
     ratio(ns, a->by_1994);
     ratio(ns, a->opencv);
@@ -289,7 +289,7 @@ static void compare(struct bench *b)
         differ += by != 0;
         most = by > most ? by : most;
     }
-    printf("\n%u square, %u bits, %s: ", (unsigned)b->of.side, (unsigned)b->of.bits, film_name(b->of.kind));
+    printf("\n%u square, %u bits, %s: ", (unsigned)b->of.width, (unsigned)b->of.bits, film_name(b->of.kind));
     printf("the 1994 rendering differs from ours in %.1f%% of the pixels, by at most %d greys.\n",
            100.0 * (double)differ / (double)b->pixels, most);
 }
@@ -341,10 +341,10 @@ static void bins_table(void)
 /* Prepare with clip off does all that prepare at a factor does but clipping. */
 static void near_one_row(enum kind kind, uint32_t grid, uint32_t bins)
 {
-    struct subject of = {kind, 4096, 12, grid, bins, SMALL_WINDOW};
+    struct subject of = {kind, 4096, 4096, 12, grid, bins, SMALL_WINDOW};
     struct result r = measure(&of, ONE(UNCLIPPED) | ONE(NEAR_ONE));
     double off = r.best[UNCLIPPED] / 1e6, near = r.best[NEAR_ONE] / 1e6;
-    printf("| %4u | %-6s | %u by %u | %4u |", (unsigned)of.side, film_name(kind), (unsigned)grid, (unsigned)grid,
+    printf("| %4u | %-6s | %u by %u | %4u |", (unsigned)of.width, film_name(kind), (unsigned)grid, (unsigned)grid,
            (unsigned)bins);
     printf(" %7.1f | %7.1f | %7.1f |\n", off, near, near - off);
     fflush(stdout);
@@ -368,7 +368,7 @@ static void counts_row(enum kind kind)
     struct subject of = usual(kind, 4096, 12);
     struct result r = measure(&of, COUNTS | ONE(PREPARE));
     double prepare = r.best[PREPARE] / 1e6, count = r.best[COUNT] / 1e6, map = r.best[MAP] / 1e6;
-    printf("| %4u | %-5s | %7.3f | %7.3f | %7.3f | %6.4f |\n", (unsigned)of.side, film_name(kind), prepare, count, map,
+    printf("| %4u | %-5s | %7.3f | %7.3f | %7.3f | %6.4f |\n", (unsigned)of.width, film_name(kind), prepare, count, map,
            map / prepare);
     fflush(stdout);
 }
@@ -382,11 +382,38 @@ static void counts_table(void)
     counts_row(CALM);
 }
 
+/* ---- odd sides ---- */
+
+/* Prints a film's times, and gives the time of enhance. */
+static double sides_row(uint32_t width, uint32_t height, double square)
+{
+    struct subject of = {NOISY, width, height, 12, GRID, BINS, WINDOW};
+    struct result r = measure(&of, COUNTS | ONE(ENHANCE) | ONE(PREPARE) | ONE(DRAW));
+    const double *best = r.best;
+    double enhance = best[ENHANCE] / r.pixels;
+    printf("| %4u by %-4u |", (unsigned)width, (unsigned)height);
+    printf(" %8.3f | %8.3f | %8.3f | %8.3f |", enhance, best[PREPARE] / r.pixels,
+           (best[ENHANCE] - best[PREPARE]) / r.pixels, best[DRAW] / r.area);
+    ratio(enhance, square);
+    printf("\n");
+    fflush(stdout);
+    return enhance;
+}
+
+static void sides_table(void)
+{
+    printf("\n### Odd sides\n\n"
+           "A film whose sides the grid does not divide, beside the square one: nanoseconds a pixel, noisy, 12 bits.\n\n");
+    printf("| sides | enhance | prepare | rendering | draw | enhance of the square one's |\n|---|---|---|---|---|---|\n");
+    double square = sides_row(4096, 4096, 0);
+    sides_row(4095, 4093, square);
+}
+
 /* ---- how time grows ---- */
 
 static void growth_row(const char *grows, uint32_t side, uint32_t grid, uint32_t bins)
 {
-    struct subject of = {NOISY, side, 12, grid, bins, SMALL_WINDOW};
+    struct subject of = {NOISY, side, side, 12, grid, bins, SMALL_WINDOW};
     struct result r = measure(&of, ONE(PREPARE) | ONE(ENHANCE) | ONE(DRAW));
     printf("| %-6s | %4u | %2u by %-2u | %4u | %8.3f | %8.3f | %8.1f |\n", grows, (unsigned)side, (unsigned)grid,
            (unsigned)grid, (unsigned)bins, r.best[PREPARE] / r.pixels, r.best[ENHANCE] / r.pixels, r.best[DRAW] / 1e3);
@@ -417,11 +444,11 @@ static void write_film(const char *folder, const struct subject *of)
     struct bench b;
     char path[4096];
     open_bench(&b, of);
-    snprintf(path, sizeof path, "%s/%u-%u-%s.pgm", folder, (unsigned)of->side, (unsigned)of->bits,
+    snprintf(path, sizeof path, "%s/%u-%u-%s.pgm", folder, (unsigned)of->width, (unsigned)of->bits,
              film_name(of->kind));
     FILE *to = fopen(path, "wb");
     if (call_write(&b) != 0 || to == NULL || fwrite(b.file, 1, b.file_len, to) != b.file_len || fclose(to) != 0)
-        end("a film cannot be written", of->side);
+        end("a film cannot be written", of->width);
     close_bench(&b);
 }
 
@@ -443,6 +470,7 @@ static void run(const char *opencv)
     bins_table();
     near_one_table();
     counts_table();
+    sides_table();
     growth_table();
 }
 

@@ -33,16 +33,18 @@ static void open_bytes(struct bench *b)
         b->bytes[i] = (uint8_t)b->film[i];
 }
 
+static uint32_t least(uint32_t a, uint32_t b) { return a < b ? a : b; }
+
 void open_bench(struct bench *b, const struct subject *of)
 {
-    uint32_t side = of->side, window = side < of->window ? side : of->window;
+    uint32_t wide = least(of->width, of->window), high = least(of->height, of->window);
     memset(b, 0, sizeof *b);
     b->of = *of;
-    b->pixels = (size_t)side * side;
-    b->sizes = (tz_sizes){side, side, of->bits == 8 ? 255 : 4095};
+    b->pixels = (size_t)of->width * of->height;
+    b->sizes = (tz_sizes){of->width, of->height, of->bits == 8 ? 255 : 4095};
     b->settings = (tz_settings){of->grid, of->grid, of->bins, 0, b->sizes.maxval, 1, 3.0f};
-    b->window = (tz_window){(side - window) / 2, (side - window) / 2, window, window};
-    b->area = (size_t)window * window;
+    b->window = (tz_window){(of->width - wide) / 2, (of->height - high) / 2, wide, high};
+    b->area = (size_t)wide * high;
     b->film = room(2 * b->pixels);
     b->picture = room(2 * b->pixels);
     b->drawn = room(2 * b->pixels);
@@ -50,8 +52,8 @@ void open_bench(struct bench *b, const struct subject *of)
     b->scratch = room(4 * tz_scratch_entries(&b->settings));
     b->counts = room(4 * tz_counts_entries(&b->settings));
     b->mapped = room(2 * tz_map_entries(&b->settings));
-    b->file = room(tz_write_bytes(side, side));
-    film_draw(b->film, of->kind, side, of->bits);
+    b->file = room(tz_write_bytes(of->width, of->height));
+    film_draw(b->film, of->kind, of->width, of->height, of->bits);
     if (of->bits == 8)
         open_bytes(b);
 }
@@ -80,13 +82,13 @@ void lay_out_bytes(struct bench *b) { memcpy(b->byte_picture, b->bytes, b->pixel
 
 long call_enhance(struct bench *b)
 {
-    return tzofnadir_enhance(b->of.side, b->of.side, b->picture, b->pixels, &b->settings, b->map,
+    return tzofnadir_enhance(b->of.width, b->of.height, b->picture, b->pixels, &b->settings, b->map,
                              tz_map_entries(&b->settings), b->scratch, tz_scratch_entries(&b->settings), &b->footer);
 }
 
 static long prepare_by(struct bench *b, const tz_settings *s)
 {
-    return tzofnadir_prepare(FILM, b->of.side, b->of.side, b->film, b->pixels, s, b->map, tz_map_entries(s),
+    return tzofnadir_prepare(FILM, b->of.width, b->of.height, b->film, b->pixels, s, b->map, tz_map_entries(s),
                              b->scratch, tz_scratch_entries(s), &b->record, &b->footer);
 }
 
@@ -117,13 +119,13 @@ long call_near_one(struct bench *b)
 
 long call_count(struct bench *b)
 {
-    return tzofnadir_count(b->of.side, b->of.side, b->film, b->pixels, &b->settings, b->counts,
+    return tzofnadir_count(b->of.width, b->of.height, b->film, b->pixels, &b->settings, b->counts,
                            tz_counts_entries(&b->settings));
 }
 
 static long map_by(struct bench *b, const tz_settings *s, size_t counts)
 {
-    return tzofnadir_map(FILM, b->of.side, b->of.side, s, b->counts, counts, b->mapped, tz_map_entries(s), b->scratch,
+    return tzofnadir_map(FILM, b->of.width, b->of.height, s, b->counts, counts, b->mapped, tz_map_entries(s), b->scratch,
                          tz_scratch_entries(s), &b->record, &b->footer);
 }
 
@@ -131,13 +133,13 @@ long call_map(struct bench *b) { return map_by(b, &b->settings, tz_counts_entrie
 
 long call_draw(struct bench *b)
 {
-    return tzofnadir_draw(FILM, b->of.side, b->of.side, b->film, b->pixels, &b->settings, &b->record, &b->window,
+    return tzofnadir_draw(FILM, b->of.width, b->of.height, b->film, b->pixels, &b->settings, &b->record, &b->window,
                           b->map, tz_map_entries(&b->settings), b->drawn, b->area);
 }
 
 long call_write(struct bench *b)
 {
-    return tzofnadir_write(b->film, b->pixels, &b->sizes, b->file, tz_write_bytes(b->of.side, b->of.side),
+    return tzofnadir_write(b->film, b->pixels, &b->sizes, b->file, tz_write_bytes(b->of.width, b->of.height),
                            &b->file_len);
 }
 
@@ -156,7 +158,7 @@ long call_read(struct bench *b)
 long call_1994(struct bench *b)
 {
     const tz_settings *s = &b->settings;
-    return clahe1994(b->picture, b->of.side, b->of.side, s->min, s->max, s->across, s->down, s->bins, s->factor);
+    return clahe1994(b->picture, b->of.width, b->of.height, s->min, s->max, s->across, s->down, s->bins, s->factor);
 }
 
 long call_copy(struct bench *b)
@@ -168,20 +170,20 @@ long call_copy(struct bench *b)
 long call_enhance_bytes(struct bench *b)
 {
     const tz_settings *s = &b->settings;
-    return tzofnadir_enhance_bytes(b->of.side, b->of.side, b->byte_picture, b->pixels, s, b->byte_map,
+    return tzofnadir_enhance_bytes(b->of.width, b->of.height, b->byte_picture, b->pixels, s, b->byte_map,
                                    tz_map_entries(s), b->scratch, tz_scratch_entries(s), &b->footer);
 }
 
 long call_prepare_bytes(struct bench *b)
 {
     const tz_settings *s = &b->settings;
-    return tzofnadir_prepare_bytes(FILM, b->of.side, b->of.side, b->bytes, b->pixels, s, b->byte_map,
+    return tzofnadir_prepare_bytes(FILM, b->of.width, b->of.height, b->bytes, b->pixels, s, b->byte_map,
                                    tz_map_entries(s), b->scratch, tz_scratch_entries(s), &b->record, &b->footer);
 }
 
 long call_draw_bytes(struct bench *b)
 {
-    return tzofnadir_draw_bytes(FILM, b->of.side, b->of.side, b->bytes, b->pixels, &b->settings, &b->record,
+    return tzofnadir_draw_bytes(FILM, b->of.width, b->of.height, b->bytes, b->pixels, &b->settings, &b->record,
                                 &b->window, b->byte_map, tz_map_entries(&b->settings), b->byte_drawn, b->area);
 }
 
@@ -198,7 +200,7 @@ static void check_file(struct bench *b)
     must("write", call_write(b));
     must("read", call_read(b));
     if (memcmp(b->picture, b->film, 2 * b->pixels) != 0)
-        end("a film written and read back is another", b->of.side);
+        end("a film written and read back is another", b->of.width);
 }
 
 static void check_window(struct bench *b)
@@ -209,7 +211,7 @@ static void check_window(struct bench *b)
     must("enhance", call_enhance(b));
     for (uint32_t y = 0; y < b->window.height; y++)
         if (memcmp(b->drawn + (size_t)y * b->window.width,
-                   b->picture + (size_t)(b->window.top + y) * b->of.side + b->window.left, 2 * b->window.width) != 0)
+                   b->picture + (size_t)(b->window.top + y) * b->of.width + b->window.left, 2 * b->window.width) != 0)
             end("a drawn row is not enhance's", y);
 }
 
@@ -251,9 +253,9 @@ static void check_mapped(struct bench *b, uint32_t clip, float factor)
     tz_footer footer = b->footer;
     must("mapping", map_by(b, &s, tz_counts_entries(&s)));
     if (memcmp(b->mapped, b->map, 2 * tz_map_entries(&s)) != 0)
-        end("a mapping from counts is not prepare's", b->of.side);
+        end("a mapping from counts is not prepare's", b->of.width);
     if (memcmp(&b->record, &record, sizeof record) != 0 || memcmp(&b->footer, &footer, sizeof footer) != 0)
-        end("mapping's record or footer is not prepare's", b->of.side);
+        end("mapping's record or footer is not prepare's", b->of.width);
 }
 
 void check_counts(struct bench *b)
@@ -265,10 +267,10 @@ void check_counts(struct bench *b)
     check_mapped(b, 1, 1.0f);
     check_mapped(b, 1, b->settings.factor);
     if (map_by(b, &b->settings, entries - 1) != TZ_COUNTS_SHORT)
-        end("counts that are too few are not refused", b->of.side);
+        end("counts that are too few are not refused", b->of.width);
     b->counts[0]++;
     if (call_map(b) != TZ_COUNTS_SUM)
-        end("counts that do not add up are not refused", b->of.side);
+        end("counts that do not add up are not refused", b->of.width);
     b->counts[0]--;
 }
 

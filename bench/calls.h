@@ -11,7 +11,7 @@
 /* What a bench is opened for. The range is 0 to maxval and the factor 3.0, but where a call says otherwise. */
 struct subject {
     enum kind kind;
-    uint32_t side, bits;
+    uint32_t width, height, bits;
     uint32_t grid, bins;
     uint32_t window; /* the side of the drawn window; the film's own where that is less */
 };

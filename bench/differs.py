@@ -152,8 +152,11 @@ def walk_ours(counts, limit, left):
 
 
 def places_ours(side, tile, tiles):
-    """For each column (or row) the two tiles, the place between them and the tile's size."""
-    return [clahe.pair(at, tile, tiles) + (tile,) for at in range(side)]
+    """For each column (or row) the two tiles, the place between their centres and how far these are apart. With tiles of one
+    size that is the tile's."""
+    places = [clahe.place_of(side, tiles, at) for at in range(side)]
+    assert all(place.span == tile for place in places)
+    return [(place.tile, place.other, place.other_weight, place.span) for place in places]
 
 
 def quotient_ours(total, area):

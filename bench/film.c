@@ -23,21 +23,21 @@ static uint32_t noise(enum kind kind, uint64_t state)
 }
 
 /* 900 greys in the middle row, less by the distance, none from a sixth of the film on. */
-static uint32_t band(uint32_t side, uint32_t y)
+static uint32_t band(uint32_t height, uint32_t y)
 {
-    uint32_t middle = side / 2, half = side / 6;
+    uint32_t middle = height / 2, half = height / 6;
     uint32_t away = y > middle ? y - middle : middle - y;
     return away < half ? (half - away) * 900u / half : 0;
 }
 
-static void draw_plate(uint16_t *film, enum kind kind, uint32_t side, uint32_t bits)
+static void draw_plate(uint16_t *film, enum kind kind, uint32_t width, uint32_t height, uint32_t bits)
 {
-    uint64_t state = 20 * side + bits;
-    for (uint32_t y = 0; y < side; y++) {
-        uint32_t row = 500u + y * 500u / side + band(side, y);
-        for (uint32_t x = 0; x < side; x++) {
+    uint64_t state = 20 * height + bits;
+    for (uint32_t y = 0; y < height; y++) {
+        uint32_t row = 500u + y * 500u / height + band(height, y);
+        for (uint32_t x = 0; x < width; x++) {
             state = state * 6364136223846793005u + 1442695040888963407u;
-            uint32_t grey = row + x * rise[kind] / side + noise(kind, state);
+            uint32_t grey = row + x * rise[kind] / width + noise(kind, state);
             *film++ = (uint16_t)(bits == 8 ? grey >> 4 : grey);
         }
     }
@@ -90,19 +90,19 @@ const char *film_name(enum kind kind)
     return names[kind];
 }
 
-void film_draw(uint16_t *film, enum kind kind, uint32_t side, uint32_t bits)
+void film_draw(uint16_t *film, enum kind kind, uint32_t width, uint32_t height, uint32_t bits)
 {
     if (kind == COMBED)
-        draw_combed(film, side);
+        draw_combed(film, width);
     else
-        draw_plate(film, kind, side, bits);
+        draw_plate(film, kind, width, height, bits);
 }
 
-double film_share(const uint16_t *film, uint32_t side, uint32_t bins, uint32_t greys)
+double film_share(const uint16_t *film, uint32_t width, uint32_t height, uint32_t bins, uint32_t greys)
 {
     size_t same = 0;
-    for (uint32_t y = 0; y < side; y++, film += side)
-        for (uint32_t x = 1; x < side; x++)
+    for (uint32_t y = 0; y < height; y++, film += width)
+        for (uint32_t x = 1; x < width; x++)
             same += film[x] * bins / greys == film[x - 1] * bins / greys;
-    return (double)same / ((double)side * (side - 1));
+    return (double)same / ((double)height * (width - 1));
 }

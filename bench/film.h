@@ -8,10 +8,10 @@ enum kind { NOISY, CALM, COMBED, KINDS };
 
 const char *film_name(enum kind kind);
 
-/* Draws a square film of 8 or 12 bits into `film`, row by row; the combed one is of 12 bits. */
-void film_draw(uint16_t *film, enum kind kind, uint32_t side, uint32_t bits);
+/* Draws a film of 8 or 12 bits into `film`, row by row; the combed one is square and of 12 bits. */
+void film_draw(uint16_t *film, enum kind kind, uint32_t width, uint32_t height, uint32_t bits);
 
 /* Of the pixels that have a left neighbour, the share that lies in its bin, where the `greys` from 0 on have `bins` bins. */
-double film_share(const uint16_t *film, uint32_t side, uint32_t bins, uint32_t greys);
+double film_share(const uint16_t *film, uint32_t width, uint32_t height, uint32_t bins, uint32_t greys);
 
 #endif

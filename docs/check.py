@@ -16,7 +16,11 @@ STATED = re.compile(r"^ *(?:(?:pub|unfoldable|abbrev|record|data) )*([^\s:(){}]+
 PART = re.compile(r"^(?:`(?P<crate>\w+)` )?(?P<module>[A-Z]\w*): ")
 
 # a crate that holds a value of another's type without naming anything of it
-REACHED = {"listing_program": {"pgm_write"}, "draw": {"limit"}, "prepare": {"limit"}, "counts": {"limit"}, "byte_film": {"limit"}, "byte_draw": {"limit"}}
+REACHED = {"listing_program": {"pgm_write"}, "draw": {"limit"}, "byte_draw": {"limit"}}
+# a map record holds what `grid` keeps of an axis
+REACHED.update({"prepare": {"limit", "grid"}, "counts": {"limit", "grid"}, "byte_film": {"limit", "grid"}})
+REACHED.update({name: {"grid"} for name in ("film_lines", "abi", "abi_bytes", "byte_films", "count_films")})
+REACHED["abi_counts"] = {"grid", "prepare"}
 
 
 def read(path):

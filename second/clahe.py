@@ -1,6 +1,6 @@
 """Prepare, draw and enhance: a second reading of document 01, and of document
 02's orders 1 (byte films), 2 (no more refusal 14), 3 (bins that no pixel
-reaches) and 5 (a new factor without a new count).
+reaches), 5 (a new factor without a new count) and 6 (films of any size).
 
 Plain and slow. Whole numbers and fractions.Fraction only; the one float is
 the division behind the footer's "factor used", which Python rounds correctly
@@ -16,14 +16,30 @@ Pictures, map buffers, scratch and outputs are lists that the caller lends.
 import struct
 from collections import namedtuple
 from fractions import Fraction
+from functools import lru_cache
 
 # "The clip setting is one of two: off, or a factor carried as f32. It sits
 # inside the settings record."  clip is None for off, else the f32's 32 bits.
 Settings = namedtuple("Settings", "across down bins min max clip")
 
 # "A map record holds the film's number (any 32-bit number), sizes and
-# settings, with bins 0 kept as 128."
-Record = namedtuple("Record", "film_number width height settings")
+# settings, with bins 0 kept as 128."  Order 6: "The map record keeps the
+# edges and centres": those of the columns and those of the rows.
+Record = namedtuple("Record", "film_number width height settings columns rows")
+
+# The edges and centres of the columns (rows), as many as the largest grid has;
+# behind the last of a smaller grid they are 0.
+Axis = namedtuple("Axis", "edges centres")
+EDGES = 17
+CENTRES = 16
+
+# A tile: its first column and the column after its last, and its rows
+# likewise.
+Tile = namedtuple("Tile", "left right top bottom")
+
+# Where a column (row) stands: the two tile columns (rows) that it uses, what
+# each of them weighs, and what both weigh together.
+Place = namedtuple("Place", "tile other weight other_weight span")
 
 # "a footer record with L, the factor asked as f32 and the factor used as f64"
 # asked holds 32 bits, used holds 64 bits.
@@ -61,9 +77,37 @@ def entries_of(settings):
     return settings.across * settings.down * bin_count(settings.bins)
 
 
-def tile_pixels(width, height, settings):
-    """N, the pixels of a tile."""
-    return (width // settings.across) * (height // settings.down)
+def edge_of(side, grid, i):
+    """Order 6: "Tile column i shall run from floor(i x width / grid) up to
+    floor((i + 1) x width / grid), rows likewise."  The first column (row) of
+    tile i; that of tile i + 1 is the one after its last."""
+    return i * side // grid
+
+
+def centre_of(side, grid, i):
+    """Order 6: "A tile's centre is floor((its first column + the column after
+    its last) / 2)"."""
+    return (edge_of(side, grid, i) + edge_of(side, grid, i + 1)) // 2
+
+
+def axis_of(side, grid):
+    """The edges and centres that the record keeps of the columns (rows)."""
+    edges = [edge_of(side, grid, i) for i in range(grid + 1)]
+    centres = [centre_of(side, grid, i) for i in range(grid)]
+    return Axis(edges + [0] * (EDGES - len(edges)), centres + [0] * (CENTRES - len(centres)))
+
+
+def tiles_of(width, height, settings):
+    """Every tile of a film, "tiles row by row"."""
+    across, down = settings.across, settings.down
+    return [Tile(edge_of(width, across, column), edge_of(width, across, column + 1),
+                 edge_of(height, down, row), edge_of(height, down, row + 1))
+            for row in range(down) for column in range(across)]
+
+
+def pixels_of(tile):
+    """Order 6: "N and L are each tile's own": N, the pixels of a tile."""
+    return (tile.right - tile.left) * (tile.bottom - tile.top)
 
 
 def bin_of(grey, low, high, bins):
@@ -144,13 +188,13 @@ def mapping_of(counts, low, high, pixels):
     return result
 
 
-def tile_counts(picture, width, tile_width, tile_height, row, column, low, high, bins):
-    """The raw counts of the tile in the given tile row and tile column."""
+def tile_counts(picture, width, tile, settings):
+    """The raw counts of a tile."""
+    bins = bin_count(settings.bins)
     counts = [0] * bins
-    for y in range(row * tile_height, (row + 1) * tile_height):
-        at = y * width + column * tile_width
-        for grey in picture[at:at + tile_width]:
-            counts[bin_of(grey, low, high, bins)] += 1
+    for y in range(tile.top, tile.bottom):
+        for grey in picture[y * width + tile.left:y * width + tile.right]:
+            counts[bin_of(grey, settings.min, settings.max, bins)] += 1
     return counts
 
 
@@ -165,41 +209,39 @@ def tile_mapping(counts, settings, pixels):
 def all_mappings(width, height, picture, settings):
     """Every tile's mapping in one list: "the mappings, tiles row by row, bins
     upward"."""
-    across, down, bins, low, high, _ = settings
-    bins = bin_count(bins)
-    tile_width = width // across
-    tile_height = height // down
     result = []
-    for row in range(down):
-        for column in range(across):
-            counts = tile_counts(picture, width, tile_width, tile_height,
-                                 row, column, low, high, bins)
-            result.extend(tile_mapping(counts, settings, tile_width * tile_height))
+    for tile in tiles_of(width, height, settings):
+        counts = tile_counts(picture, width, tile, settings)
+        result.extend(tile_mapping(counts, settings, pixels_of(tile)))
     return result
 
 
-def pair(place, tile, count):
-    """"Half = floor(tw / 2). A column x below half uses tile column 0 alone.
-    Otherwise k = floor((x - half) / tw), o the remainder; if k is the last
-    tile column it is used alone, else columns k and k + 1 with weights tw - o
-    and o."  Hands back the two tile columns (rows) and o.  "Where one tile
-    column (or row) is used alone, both sides of that pair are the same
-    tile." """
-    half = tile // 2
-    if place < half:
-        return 0, 0, 0
-    k = (place - half) // tile
-    o = (place - half) % tile
-    if k == count - 1:
-        return k, k, o
-    return k, k + 1, o
+# Kept, since all pixels of a column ask for the same.
+@lru_cache(maxsize=None)
+def place_of(side, grid, x):
+    """Order 6: "a column between two centres weighs each of the two tiles by
+    its distance from the other's centre, over the distance between the
+    centres, and one outside the first or last centre uses that tile alone." """
+    centres = [centre_of(side, grid, k) for k in range(grid)]
+    for k in range(grid - 1):
+        here, there = centres[k], centres[k + 1]
+        # On a centre the distance from it is 0, and so is the other's weight.
+        if here <= x < there:
+            return Place(k, k + 1, there - x, x - here, there - here)
+    # "Where one tile column (or row) is used alone, both sides of that pair
+    # are the same tile": it has all the weight, as much as it is wide.
+    k = 0 if x < centres[0] else grid - 1
+    wide = edge_of(side, grid, k + 1) - edge_of(side, grid, k)
+    return Place(k, k, wide, 0, wide)
 
 
-def blend(tile_width, tile_height, o, p, a, b, c, d):
-    """"floor(((th - p)((tw - o)A + oB') + p((tw - o)C + oD)) / (tw x th))." """
-    upper = (tile_width - o) * a + o * b
-    lower = (tile_width - o) * c + o * d
-    return ((tile_height - p) * upper + p * lower) // (tile_width * tile_height)
+def blend(column, row, a, b, c, d):
+    """"floor(((th - p)((tw - o)A + oB') + p((tw - o)C + oD)) / (tw x th))",
+    with the weights and distances of order 6 in the place of tw - o and o, of
+    th - p and p, and of tw and th."""
+    upper = column.weight * a + column.other_weight * b
+    lower = column.weight * c + column.other_weight * d
+    return (row.weight * upper + row.other_weight * lower) // (column.span * row.span)
 
 
 def grey_at(x, y, grey, width, height, settings, maps):
@@ -208,17 +250,16 @@ def grey_at(x, y, grey, width, height, settings, maps):
     pixel's bin"."""
     across, down, bins, low, high, _ = settings
     bins = bin_count(bins)
-    tile_width = width // across
-    tile_height = height // down
-    k0, k1, o = pair(x, tile_width, across)
-    j0, j1, p = pair(y, tile_height, down)
+    column = place_of(width, across, x)
+    row = place_of(height, down, y)
     b = bin_of(grey, low, high, bins)
 
-    def mapped(row, column):
-        return maps[(row * across + column) * bins + b]
+    def mapped(j, k):
+        return maps[(j * across + k) * bins + b]
 
-    return blend(tile_width, tile_height, o, p,
-                 mapped(j0, k0), mapped(j0, k1), mapped(j1, k0), mapped(j1, k1))
+    return blend(column, row,
+                 mapped(row.tile, column.tile), mapped(row.tile, column.other),
+                 mapped(row.other, column.tile), mapped(row.other, column.other))
 
 
 def refusal_of_sides(width, height):
@@ -245,10 +286,10 @@ def refusal_3_to_9(width, height, settings):
         return 3
     if not 2 <= down <= 16:
         return 4
-    # 5 / 6: "width / height is no multiple of the grid"
-    if width % across != 0:
+    # Order 6: "5 and 6 now mean a side shorter than the grid".
+    if width < across:
         return 5
-    if height % down != 0:
+    if height < down:
         return 6
     # 7 / 8: "Max above 4095 / Min not below Max"
     if high > 4095:
@@ -330,22 +371,25 @@ def factor_is_one(clip):
 def footer_of(width, height, settings):
     """"a footer record with L, the factor asked as f32 and the factor used as
     f64: L x B and N are each converted exactly and divided once. Clip off: L
-    0, both factors 0.0. Factor 1.0: L 0, both 1.0" """
+    0, both factors 0.0. Factor 1.0: L 0, both 1.0"  Order 6: of N and L "the
+    footer shows those of tile 0, 0." """
     if settings.clip is None:
         return Footer(0, 0, f64_bits(0.0))
     if factor_is_one(settings.clip):
         return Footer(0, ONE_F32, f64_bits(1.0))
     bins = bin_count(settings.bins)
-    pixels = tile_pixels(width, height, settings)
+    pixels = pixels_of(tiles_of(width, height, settings)[0])
     limit = limit_of(settings.clip, pixels, bins)
     # int / int is the correctly rounded quotient; both fit an f64 exactly.
     return Footer(limit, settings.clip, f64_bits(limit * bins / pixels))
 
 
 def kept_record(film_number, width, height, settings):
-    """The map record, "with bins 0 kept as 128." """
+    """The map record, "with bins 0 kept as 128.", and with its edges and
+    centres."""
     kept = settings._replace(bins=bin_count(settings.bins))
-    return Record(film_number, width, height, kept)
+    return Record(film_number, width, height, kept,
+                  axis_of(width, settings.across), axis_of(height, settings.down))
 
 
 def lay_down(maps, settings, map_buffer, scratch):
@@ -399,7 +443,9 @@ def same_clip(asked, kept):
 def record_differs(film_number, width, height, settings, record):
     """15: "draw: record differs in film number, size or any setting (bins 0
     read as 128 on both sides)"; "the film number and settings for 15 come
-    with the call"."""
+    with the call".  Order 6: "15 is also given where the record's edges or
+    centres aren't those of this rule", for the sizes and the grid of the call;
+    the zeros behind the last are compared too."""
     kept = record.settings
     return not (film_number == record.film_number
                 and width == record.width
@@ -409,7 +455,9 @@ def record_differs(film_number, width, height, settings, record):
                 and bin_count(settings.bins) == bin_count(kept.bins)
                 and settings.min == kept.min
                 and settings.max == kept.max
-                and same_clip(settings.clip, kept.clip))
+                and same_clip(settings.clip, kept.clip)
+                and record.columns == axis_of(width, settings.across)
+                and record.rows == axis_of(height, settings.down))
 
 
 def refusal_of_draw(film_number, width, height, picture, settings, record, window,
@@ -526,11 +574,11 @@ def refusal_of_counts(settings, counts):
 
 
 def refusal_of_sums(width, height, settings, counts):
-    """"34, a tile's counts don't add up to its pixels": each tile by itself.
-    0 when it doesn't apply."""
+    """"34, a tile's counts don't add up to its pixels": each tile by itself,
+    and each by its own N.  0 when it doesn't apply."""
     bins = bin_count(settings.bins)
-    for at in range(0, entries_of(settings), bins):
-        if sum(counts[at:at + bins]) != tile_pixels(width, height, settings):
+    for k, tile in enumerate(tiles_of(width, height, settings)):
+        if sum(counts[k * bins:(k + 1) * bins]) != pixels_of(tile):
             return 34
     return 0
 
@@ -566,13 +614,8 @@ def count(width, height, picture, settings, counts):
     if refusal:
         return refusal
     bins = bin_count(settings.bins)
-    at = 0
-    for row in range(settings.down):
-        for column in range(settings.across):
-            counts[at:at + bins] = tile_counts(picture, width, width // settings.across,
-                                               height // settings.down, row, column,
-                                               settings.min, settings.max, bins)
-            at += bins
+    for k, tile in enumerate(tiles_of(width, height, settings)):
+        counts[k * bins:(k + 1) * bins] = tile_counts(picture, width, tile, settings)
     return 0
 
 
@@ -586,8 +629,7 @@ def map_counts(film_number, width, height, settings, counts, map_buffer, scratch
         return refusal
     bins = bin_count(settings.bins)
     maps = []
-    for at in range(0, entries_of(settings), bins):
-        maps.extend(tile_mapping(counts[at:at + bins], settings,
-                                 tile_pixels(width, height, settings)))
+    for k, tile in enumerate(tiles_of(width, height, settings)):
+        maps.extend(tile_mapping(counts[k * bins:(k + 1) * bins], settings, pixels_of(tile)))
     lay_down(maps, settings, map_buffer, scratch)
     return kept_record(film_number, width, height, settings), footer_of(width, height, settings)

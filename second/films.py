@@ -49,6 +49,9 @@ WIDE = Calls(clahe.prepare, clahe.draw, clahe.enhance, list)
 # The number in the column field of a draw whose film is prepared by the wide calls.
 WIDE_RECORD = 11
 
+# The numbers in the column field of a draw that changes an entry of the record's edges or centres, and where that entry is.
+ENTRIES = {20: ("columns", "edges"), 21: ("columns", "centres"), 22: ("rows", "edges"), 23: ("rows", "centres")}
+
 
 def lines(crate):
     """The rows of a set: each a letter and its numbers."""
@@ -154,11 +157,28 @@ def record_numbers(row):
             row["min"], row["max"], row["clip"], row["factor"]]
 
 
-def record_of(numbers):
-    """The record that ten numbers make."""
+def made_axis(side, grid):
+    """An axis of a made record: all 0 where the rule has none."""
+    if 2 <= grid <= 16 and grid <= side <= 4096:
+        return clahe.axis_of(side, grid)
+    return clahe.Axis([0] * clahe.EDGES, [0] * clahe.CENTRES)
+
+
+def record_of(numbers, row):
+    """The record that ten numbers make, with the axes of a film row's made record."""
     number, width, height, across, down, bins, low, high, clip, factor = numbers
     return clahe.Record(number, width, height,
-                        clahe.Settings(across, down, bins, low, high, factor if clip else None))
+                        clahe.Settings(across, down, bins, low, high, factor if clip else None),
+                        made_axis(row["width"], row["across"]), made_axis(row["height"], row["down"]))
+
+
+def changed_entry(record, field, value):
+    """The record with the entry value / 65536 of the field's list, if there is one, made value mod 65536."""
+    axis, part = ENTRIES[field]
+    entries = list(getattr(getattr(record, axis), part))
+    if value // 65536 < len(entries):
+        entries[value // 65536] = value % 65536
+    return record._replace(**{axis: getattr(record, axis)._replace(**{part: entries})})
 
 
 # --- printing ---------------------------------------------------------------
@@ -197,10 +217,11 @@ def footer_fields(footer):
 
 
 def record_fields(record):
-    """The ten fields of a returned record."""
+    """The ten fields of a returned record, and the digests of its edges and centres."""
     s = record.settings
-    return [record.film_number, record.width, record.height, s.across, s.down, s.bins, s.min,
-            s.max, 0 if s.clip is None else 1, "%08x" % (s.clip or 0)]
+    return ([record.film_number, record.width, record.height, s.across, s.down, s.bins, s.min,
+             s.max, 0 if s.clip is None else 1, "%08x" % (s.clip or 0)]
+            + [digest(entries) for entries in record.columns + record.rows])
 
 
 # --- the six tables --------------------------------------------------------
@@ -211,7 +232,7 @@ def run_film(text, row, calls=WIDE):
     settings = settings_of(row)
     picture, maps, scratch = calls.lent(film(row)), calls.lent(map_fill(row)), scratch_fill(row)
     prepared = calls.prepare(row["film"], width, height, picture, settings, maps, scratch)
-    record = record_of(record_numbers(row))
+    record = record_of(record_numbers(row), row)
     if isinstance(prepared, int):
         text.line("P", no, prepared)
     else:
@@ -252,11 +273,13 @@ def run_draw(text, row, films, calls=WIDE):
     numbers = record_numbers(case)
     if row["field"] < RECORD_FIELDS:
         numbers[row["field"]] = row["value"]
-        record = record_of(numbers)
+        record = record_of(numbers, case)
     elif isinstance(prepared, int):
-        record = record_of(numbers)
+        record = record_of(numbers, case)
     else:
         record = prepared[0]
+    if row["field"] in ENTRIES:
+        record = changed_entry(record, row["field"], row["value"])
     if row["pixat"] < len(picture):
         picture[row["pixat"]] = row["pixval"]
     if row["mapat"] < len(maps):

@@ -1,4 +1,5 @@
-"""The listing program of document 01, "Numbers to check by hand".
+"""The listing program of document 01, "Numbers to check by hand", for films of
+any size as document 02's order 6 has them.
 
 As a function, bytes -> bytes; as a program, standard input -> standard output.
 """
@@ -56,15 +57,14 @@ def listing(data):
     answer = clahe.prepare(0, width, height, picture, settings, maps, [0] * BINS)
     if isinstance(answer, int):
         return refused(answer)
-    limit = answer[1].limit
-    text = line([width, height, GRID, GRID, BINS, 0, maxval, limit])
-    for row in range(GRID):
-        for column in range(GRID):
-            counts = clahe.tile_counts(picture, width, width // GRID, height // GRID,
-                                       row, column, 0, maxval, BINS)
-            tile = row * GRID + column
-            text += line([row, column, clahe.excess_of(counts, limit)]
-                         + maps[tile * BINS:(tile + 1) * BINS])
+    # Order 6: "the footer shows those of tile 0, 0", and so does the first
+    # line; each tile's E stands above its own L.
+    text = line([width, height, GRID, GRID, BINS, 0, maxval, answer[1].limit])
+    for k, tile in enumerate(clahe.tiles_of(width, height, settings)):
+        counts = clahe.tile_counts(picture, width, tile, settings)
+        limit = clahe.limit_of(FACTOR_TWO, clahe.pixels_of(tile), BINS)
+        text += line([k // GRID, k % GRID, clahe.excess_of(counts, limit)]
+                     + maps[k * BINS:(k + 1) * BINS])
     return text.encode("ascii")
 
 

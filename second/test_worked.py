@@ -1,6 +1,6 @@
 """The worked numbers of document 01, "Numbers to check by hand", one by one,
-as document 02's orders 2 and 3 change them, the profile of its order 1, and
-the counting and mapping of its order 5.
+as document 02's orders 2 and 3 change them, the profile of its order 1, the
+counting and mapping of its order 5, and the films of any size of its order 6.
 
 Run: python3 second/test_worked.py   (prints the number of checks)
 """
@@ -122,7 +122,7 @@ def unreached():
     same(prepared(8, 8, 2, 2, 17, 0, 15, 0x7FC00000), 31)
     settings = clahe.Settings(2, 2, 17, 0, 15, None)
     same(clahe.enhance(8, 8, [99] * 64, settings, [], []), 31)
-    record = clahe.Record(1, 8, 8, settings)
+    record = clahe.kept_record(1, 8, 8, settings)
     same(clahe.draw(1, 8, 8, [0] * 64, settings, record, (0, 0, 8, 8), [0] * 68, [0] * 64), 31)
     same(clahe.draw(2, 8, 8, [0] * 64, settings, record, (0, 0, 0, 0), [], []), 31)
     # "in a strongly clipped tile the whites stop well short of Max": now they
@@ -142,7 +142,7 @@ def blends():
     same(clahe.grey_at(1, 2, 0, 4, 4, settings, maps), 20)
     same(clahe.grey_at(2, 0, 0, 4, 4, settings, maps), 15)
     # The same through draw, one pixel windows.
-    record = clahe.Record(3, 4, 4, settings)
+    record = clahe.kept_record(3, 4, 4, settings)
     for (x, y, wanted) in ((2, 2, 25), (1, 2, 20), (2, 0, 15)):
         output = [0]
         same(clahe.draw(3, 4, 4, [0] * 16, settings, record, (x, y, 1, 1), maps, output), 0)
@@ -155,7 +155,8 @@ def footers():
     record, footer = prepared(20, 20, 2, 2, 64, 0, 255, f32(1.5))
     same(footer.used, struct.unpack(">Q", struct.pack(">d", 1.28))[0])
     same(footer.asked, 0x3FC00000)
-    same(record, clahe.Record(7, 20, 20, clahe.Settings(2, 2, 64, 0, 255, 0x3FC00000)))
+    axis = clahe.Axis([0, 10, 20] + [0] * 14, [5, 15] + [0] * 14)
+    same(record, clahe.Record(7, 20, 20, clahe.Settings(2, 2, 64, 0, 255, 0x3FC00000), axis, axis))
     same(f32(1024.0), 0x44800000)
     same(prepared(20, 20, 2, 2, 64, 0, 255, 0x44800000)[1].limit, 1600)
     same(prepared(20, 20, 2, 2, 64, 0, 255, 0x44800001), 10)
@@ -199,21 +200,30 @@ def listings():
     same(listing.listing(b"P5\n128 65\n#"), b"refused\t21\n")
     same(listing.listing(b"P5\n128 64\n0\n"), b"refused\t23\n")
     same(listing.listing(b"P5\n128 64\n255\n"), b"refused\t24\n")
-    # Order 3: four bins want four greys.  26, 5 and 6 come first.
+    # Order 3: four bins want four greys.  26, and order 6's 5 and 6, come
+    # first.
     for maxval in (1, 2):
         same(listing.listing(b"P5\n2 2\n%d\n" % maxval + b"\x00\x01\x01\x00"), b"refused\t31\n")
     same(listing.listing(b"P5\n2 2\n3\n\x00\x01\x02\x03")[:16], b"2\t2\t2\t2\t4\t0\t3\t1\n")
     same(listing.listing(b"P5\n2 2\n1\n\x00\x01\x02\x00"), b"refused\t26\n")
-    same(listing.listing(b"P5\n3 2\n1\n" + b"\x00" * 6), b"refused\t5\n")
-    same(listing.listing(b"P5\n2 3\n1\n" + b"\x00" * 6), b"refused\t6\n")
+    same(listing.listing(b"P5\n1 2\n1\n" + b"\x00" * 2), b"refused\t5\n")
+    same(listing.listing(b"P5\n2 1\n1\n" + b"\x00" * 2), b"refused\t6\n")
+    same(listing.listing(b"P5\n1 1\n1\n\x00"), b"refused\t5\n")
+    same(listing.listing(b"P5\n3 2\n1\n" + b"\x00" * 6), b"refused\t31\n")
     # The largest film, two bytes a sample.
     same(listing.listing(b"P5\n128 64\n4095\n" + b"\x0f\xff" * 8192)[:29],
          b"128\t64\t2\t2\t4\t0\t4095\t1024\n0\t0\t")
     same(listing.listing(b"P5\n4 4\n15\n" + b"\x10" * 16), b"refused\t26\n")
     same(listing.listing(b"P5\n4 4\n15\n" + b"\x10" * 17), b"refused\t25\n")
-    same(listing.listing(b"P5\n3 3\n15\n" + b"\x00" * 9), b"refused\t5\n")
-    same(listing.listing(b"P5\n4 3\n15\n" + b"\x00" * 12), b"refused\t6\n")
     same(listing.listing(b""), b"refused\t20\n")
+    # Order 6: tiles of 2, 3, 4 and 6 pixels, whose limits are 1, 1, 2 and 3;
+    # the first line has that of tile 0, 0.
+    same(listing.listing(b"P5\n5 3\n15\n" + bytes([0, 0, 4, 4, 4, 0, 8, 8, 8, 8, 0, 0, 15, 8, 8])),
+         b"5\t3\t2\t2\t4\t0\t15\t1\n"
+         b"0\t0\t1\t7\t15\t15\t15\n"
+         b"0\t1\t2\t5\t10\t15\t15\n"
+         b"1\t0\t1\t7\t11\t15\t15\n"
+         b"1\t1\t2\t2\t5\t12\t15\n")
 
 
 def files():
@@ -303,7 +313,7 @@ def counts():
     # Mapping: 1, 3 to 9, 31, 10, 11, 12, 33, 34, at factor 1.0 and off too.
     wrong = [5] + lent[1:]
     same(clahe.map_counts(5, 4, 0, settings, [], [], []), 1)
-    same(clahe.map_counts(5, 4, 5, settings, [], [], []), 6)
+    same(clahe.map_counts(5, 4, 1, settings, [], [], []), 6)
     same(clahe.map_counts(5, 4, 4, settings._replace(bins=17), [], [], []), 31)
     same(clahe.map_counts(5, 4, 4, settings, [], [], []), 10)
     for clip in (f32(2.0), f32(1.0), None):
@@ -324,6 +334,135 @@ def counts():
     asked = clahe.Settings(2, 2, 128, 0, 255, f32(2.0))
     same(clahe.map_counts(5, 4, 4, asked, lent, [0] * 512, [0] * 128),
          clahe.prepare(5, 4, 4, WORKED_FILM, asked, [0] * 512, [0] * 128))
+
+
+def axes():
+    """Order 6: the edges, the centres and the places of columns, worked by
+    hand."""
+    same(clahe.edge_of(17, 16, 16), 17)
+    same(clahe.centre_of(17, 16, 15), 16)
+    same(clahe.axis_of(17, 16), clahe.Axis(list(range(16)) + [17], list(range(15)) + [16]))
+    same([clahe.place_of(17, 16, x)[:4] for x in (0, 14, 15, 16)],
+         [(0, 1, 1, 0), (14, 15, 2, 0), (14, 15, 1, 1), (15, 15, 2, 0)])
+    same(clahe.place_of(17, 16, 15).span, 2)
+    # As many columns as tiles: each column is its own tile's.
+    same(clahe.axis_of(16, 16), clahe.Axis(list(range(17)), list(range(16))))
+    same([clahe.place_of(16, 16, x) for x in (0, 14, 15)],
+         [clahe.Place(0, 1, 1, 0, 1), clahe.Place(14, 15, 1, 0, 1), clahe.Place(15, 15, 1, 0, 1)])
+    same(clahe.axis_of(5, 2), clahe.Axis([0, 2, 5] + [0] * 14, [1, 3] + [0] * 14))
+    same([clahe.place_of(5, 2, x) for x in range(5)],
+         [clahe.Place(0, 0, 2, 0, 2), clahe.Place(0, 1, 2, 0, 2), clahe.Place(0, 1, 1, 1, 2),
+          clahe.Place(1, 1, 3, 0, 3), clahe.Place(1, 1, 3, 0, 3)])
+    same(clahe.axis_of(4095, 2), clahe.Axis([0, 2047, 4095] + [0] * 14, [1023, 3071] + [0] * 14))
+    same([clahe.place_of(4095, 2, x) for x in (1022, 1023, 2047, 3070, 3071)],
+         [clahe.Place(0, 0, 2047, 0, 2047), clahe.Place(0, 1, 2048, 0, 2048), clahe.Place(0, 1, 1024, 1024, 2048),
+          clahe.Place(0, 1, 1, 2047, 2048), clahe.Place(1, 1, 2048, 0, 2048)])
+    # The tiles cover the side, none is empty, and a centre is a column of its
+    # own tile; so no two coincide.  The weights add up to the span.
+    for grid in range(2, 17):
+        for side in list(range(grid, 100)) + [127, 511, 1023, 2049, 4094, 4095, 4096]:
+            edges, centres = clahe.axis_of(side, grid)
+            same((edges[0], edges[grid], edges[grid + 1:]), (0, side, [0] * (16 - grid)))
+            same(all(edges[i] <= centres[i] < edges[i + 1] for i in range(grid)), True)
+            places = [clahe.place_of(side, grid, x) for x in range(0, side, 1 + side // 50)]
+            same(all(p.weight + p.other_weight == p.span and p.weight > 0 for p in places), True)
+
+
+def sizes():
+    """Order 6: films whose tiles differ."""
+    # The grey at 2, 2 of a film of 5 by 5, and all around it.
+    settings = clahe.Settings(2, 2, 2, 0, 255, None)
+    maps = [10, 10, 20, 20, 30, 30, 41, 41]
+    same(clahe.grey_at(2, 2, 0, 5, 5, settings, maps), 25)
+    same([[clahe.grey_at(x, y, 0, 5, 5, settings, maps) for x in range(5)] for y in range(5)],
+         [[10, 10, 15, 20, 20]] * 2 + [[20, 20, 25, 30, 30]] + [[30, 30, 35, 41, 41]] * 2)
+    # "N and L are each tile's own, and the footer shows those of tile 0, 0."
+    picture, flat = [0] * 9, clahe.Settings(2, 2, 2, 0, 15, f32(1.5))
+    same([clahe.pixels_of(tile) for tile in clahe.tiles_of(3, 3, flat)], [1, 2, 2, 4])
+    maps = [99] * 8
+    record, footer = clahe.prepare(4, 3, 3, picture, flat, maps, [9] * 2)
+    same(maps, [15, 15, 7, 15, 7, 15, 11, 15])
+    same(footer, clahe.Footer(1, f32(1.5), struct.unpack(">Q", struct.pack(">d", 2.0))[0]))
+    axis = clahe.Axis([0, 1, 3] + [0] * 14, [0, 2] + [0] * 14)
+    same((record.columns, record.rows), (axis, axis))
+    # "5 and 6 now mean a side shorter than the grid"; as long as it is
+    # accepted.
+    for grid in (2, 3, 8, 16):
+        for side in (grid - 1, grid, grid + 1):
+            same(prepared(side, 40, grid, 2, 2, 0, 15, f32(2.0)) == 5, side < grid)
+            same(prepared(40, side, 2, grid, 2, 0, 15, None) == 6, side < grid)
+    same(prepared(2, 2, 3, 3, 2, 0, 15, None), 5)
+    same(prepared(2, 2, 3, 17, 2, 0, 15, None), 4)
+    same(prepared(9, 2, 3, 3, 2, 0, 4096, None), 6)
+    # "15 is also given where the record's edges or centres aren't those of
+    # this rule": every entry, those behind the last too.
+    output = [0] * 9
+    same(clahe.draw(4, 3, 3, picture, flat, record, (0, 0, 3, 3), maps, output), 0)
+    for name in ("columns", "rows"):
+        for part in ("edges", "centres"):
+            for at in range(len(getattr(axis, part))):
+                entries = list(getattr(axis, part))
+                entries[at] += 1
+                other = record._replace(**{name: axis._replace(**{part: entries})})
+                same(clahe.draw(4, 3, 3, picture, flat, other, (0, 0, 3, 3), maps, output), 15)
+    # 34 by each tile's own N: 4 and 6 beside each other, not above.
+    asked = clahe.Settings(2, 2, 2, 0, 15, f32(2.0))
+    for width, height, wanted in ((5, 4, 0), (4, 5, 34), (4, 4, 34), (6, 4, 34)):
+        answer = clahe.map_counts(1, width, height, asked, [4, 0, 1, 5, 2, 2, 6, 0], [0] * 8, [0] * 2)
+        same(0 if isinstance(answer, tuple) else answer, wanted)
+    # The byte profile, whose grid is 8 by 8.
+    for width, height, wanted in ((8, 8, 0), (9, 15, 0), (100, 37, 0), (7, 8, 5), (8, 7, 6), (7, 7, 5)):
+        answer = clahe.prepare_bytes(3, width, height, bytearray(width * height), profile(), bytearray(4096), [0] * 64)
+        same(0 if isinstance(answer, tuple) else answer, wanted)
+    same(clahe.prepare_bytes(3, 7, 8, bytearray(56), profile(max=254), bytearray(4096), [0] * 64), 5)
+    same(clahe.prepare_bytes(3, 9, 8, bytearray(72), profile(across=9), bytearray(4608), [0] * 64), 30)
+
+
+def fitted_place(x, tile, count):
+    """Where a column stood before order 6, in document 01's words: "Half =
+    floor(tw / 2). A column x below half uses tile column 0 alone. Otherwise k
+    = floor((x - half) / tw), o the remainder; if k is the last tile column it
+    is used alone, else columns k and k + 1 with weights tw - o and o." """
+    half = tile // 2
+    if x < half:
+        return clahe.Place(0, 0, tile, 0, tile)
+    k = (x - half) // tile
+    o = (x - half) % tile
+    if k == count - 1:
+        return clahe.Place(k, k, tile, 0, tile)
+    return clahe.Place(k, k + 1, tile - o, o, tile)
+
+
+def fitted():
+    """Order 6: "Films that fitted before must come out the same": sides that
+    are multiples of the grid have the tiles and the places that they had."""
+    for grid in range(2, 17):
+        for tile in list(range(1, 25)) + [64, 97, 4096 // grid]:
+            side = tile * grid
+            same(clahe.axis_of(side, grid).edges[:grid + 1], [i * tile for i in range(grid + 1)])
+            same([clahe.place_of(side, grid, x) for x in range(side)],
+                 [fitted_place(x, tile, grid) for x in range(side)])
+    for width, height, settings in ((12, 10, clahe.Settings(3, 2, 5, 0, 99, f32(1.5))),
+                                    (16, 21, clahe.Settings(16, 7, 3, 0, 99, None)),
+                                    (30, 8, clahe.Settings(2, 8, 16, 0, 99, 0x3F800001))):
+        picture = [i * i * 7 % 100 for i in range(width * height)]
+        tall, wide, b = height // settings.down, width // settings.across, settings.bins
+        maps = []
+        for row in range(settings.down):
+            for column in range(settings.across):
+                tile = [picture[y * width + x] for y in range(row * tall, row * tall + tall)
+                        for x in range(column * wide, column * wide + wide)]
+                counts = [sum(clahe.bin_of(grey, 0, 99, b) == k for grey in tile) for k in range(b)]
+                maps += clahe.tile_mapping(counts, settings, tall * wide)
+        drawn = []
+        for i, grey in enumerate(picture):
+            across, down = fitted_place(i % width, wide, settings.across), fitted_place(i // width, tall, settings.down)
+            corners = [maps[(j * settings.across + k) * b + clahe.bin_of(grey, 0, 99, b)]
+                       for j in (down.tile, down.other) for k in (across.tile, across.other)]
+            drawn.append(clahe.blend(across, down, *corners))
+        found = [0] * len(maps)
+        clahe.enhance(width, height, picture, settings, found, [0] * b)
+        same((found, picture), (maps, drawn))
 
 
 def larges():
@@ -353,5 +492,8 @@ if __name__ == "__main__":
     files()
     byte_films()
     counts()
+    axes()
+    sizes()
+    fitted()
     larges()
     print("%d checks hold" % checks)

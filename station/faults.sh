@@ -105,8 +105,16 @@ try '--bytes, and a film of two bytes a sample' 64 enhance film.pgm "$out" --byt
 try '--grid 0x0' 3 enhance film.pgm "$out" --grid 0x0
 try '--grid 8x17' 4 enhance film.pgm "$out" --grid 8x17
 try 'the largest numbers of 32 bits' 3 enhance film.pgm "$out" --grid 4294967295x4294967295 --bins 4294967295
-try 'a grid that does not divide the width' 5 enhance film.pgm "$out" --grid 7x8
-try 'a grid that does not divide the height' 6 enhance film.pgm "$out" --grid 8x7
+{ printf 'P5\n7 9\n255\n'; head -c 63 /dev/zero; } >narrow.pgm
+{ printf 'P5\n9 7\n255\n'; head -c 63 /dev/zero; } >low.pgm
+{ printf 'P5\n1 9\n255\n'; head -c 9 /dev/zero; } >column.pgm
+try 'a width of 7, grid 8x8' 5 enhance narrow.pgm "$out"
+try 'a height of 7, grid 8x8' 6 enhance low.pgm "$out"
+try 'a width of 7, --grid 8x17' 4 enhance narrow.pgm "$out" --grid 8x17
+try 'a width of 7, --grid 8x10: the width before the height' 5 enhance narrow.pgm "$out" --grid 8x10
+try 'a height of 7, --range 0:4096, a window' 6 window low.pgm "$out" --range 0:4096 --at 0,0 --size 1x1
+try '--bytes --bins 100, a width of 7' 5 enhance narrow.pgm "$out" --bytes --bins 100
+try 'a listing of one column' 5 listing column.pgm
 try '--range 0:4096' 7 enhance film.pgm "$out" --range 0:4096
 try '--range 9:9' 8 enhance film.pgm "$out" --range 9:9
 try '--bins 1' 9 enhance film.pgm "$out" --bins 1
@@ -164,24 +172,27 @@ told='bins 1024, chosen by the range 0 to 4095'
 try 'no --bins, a film of 4,096 greys: 1024 bins' 0 enhance film.pgm "$out"
 
 # ---- bytes: inside the profile the film and the footer are those of the same command without --bytes
-alike() { # WHAT COMMAND SETTINGS..
-    what=$1 command=$2
-    shift 2
+alike() { # WHAT FILM COMMAND SETTINGS..
+    what=$1 film=$2 command=$3
+    shift 3
     rm -f "$out" plain.pgm
-    "$tz" "$command" shallow.pgm plain.pgm "$@" 2>plain
+    "$tz" "$command" "$film" plain.pgm "$@" 2>plain
     first=$?
-    "$tz" "$command" --bytes shallow.pgm "$out" "$@" 2>said
+    "$tz" "$command" --bytes "$film" "$out" "$@" 2>said
     saw=$?
     if [ "$first,$saw" = 0,0 ] && cmp -s plain.pgm "$out" && cmp -s plain said && no_leftover out; then ok=yes; else ok=no; fi
     report "$ok" "$what" "status $saw: $(head -n 1 said)"
 }
-alike '--bytes: the same film' enhance
-alike '--bytes --bins 0: the same film' enhance --bins 0
-alike '--bytes --bins 64 --clip 1.5: the same film' enhance --bins 64 --clip 1.5
-alike '--bytes --bins 256 --clip off: the same film' enhance --bins 256 --clip off
-alike '--bytes --clip 1: the same film' enhance --clip 1
-alike '--bytes: the same window' window --at 101,37 --size 211x97
-alike '--bytes --bins 256, the whole film as a window: the same' window --at 0,0 --size 512x384 --bins 256 --clip 2.5
+alike '--bytes: the same film' shallow.pgm enhance
+alike '--bytes --bins 0: the same film' shallow.pgm enhance --bins 0
+alike '--bytes --bins 64 --clip 1.5: the same film' shallow.pgm enhance --bins 64 --clip 1.5
+alike '--bytes --bins 256 --clip off: the same film' shallow.pgm enhance --bins 256 --clip off
+alike '--bytes --clip 1: the same film' shallow.pgm enhance --clip 1
+alike '--bytes: the same window' shallow.pgm window --at 101,37 --size 211x97
+alike '--bytes --bins 256, the whole film as a window: the same' shallow.pgm window --at 0,0 --size 512x384 --bins 256 --clip 2.5
+
+# ---- films of any size
+. "$top/station/faults/sizes.sh"
 
 # ---- files
 : >empty.pgm

@@ -30,7 +30,7 @@ struct span span_of(const uint16_t *picture, size_t pixels)
 }
 
 /* Refusals 5 and 6, the other way round. */
-static int fits(uint32_t side, uint32_t tiles) { return side % tiles == 0; }
+static int fits(uint32_t side, uint32_t tiles) { return side >= tiles; }
 
 void grids_that_fit(uint32_t side, char *text, size_t room)
 {
@@ -157,6 +157,13 @@ static void widen(const uint8_t *from, size_t count, uint16_t *to)
         to[i] = from[i];
 }
 
+/* Whether clipping had limits that may differ: by their pixels, where not all tiles have as many. */
+static int limits_differ(const struct run *run)
+{
+    const tz_settings *s = &run->settings;
+    return run->footer.limit > 0 && (run->sizes.width % s->across != 0 || run->sizes.height % s->down != 0);
+}
+
 /* What was chosen, and what clipping did; of several films behind each one's name. */
 static void tell_footer(const struct run *run)
 {
@@ -166,8 +173,8 @@ static void tell_footer(const struct run *run)
     if ((run->job->given & BINS) == 0)
         tell("%s%sbins %u, chosen by the range %u to %u", name, mark, (unsigned)run->settings.bins,
              (unsigned)run->settings.min, (unsigned)run->settings.max);
-    tell("%s%slimit %u, factor asked %.9g, factor used %.17g", name, mark, (unsigned)footer->limit,
-         (double)footer->asked, footer->used);
+    tell("%s%slimit %u, factor asked %.9g, factor used %.17g%s", name, mark, (unsigned)footer->limit,
+         (double)footer->asked, footer->used, limits_differ(run) ? " (of tile 0, 0; some tiles are larger)" : "");
 }
 
 /* The record gets its place before the film does: there is never a new film without it. */

@@ -138,15 +138,16 @@ static void more_grid(const struct run *run)
     say_more("Tiles across that fit: %s. Tiles down that fit: %s.", across, down);
 }
 
+static uint32_t least(uint32_t a, uint32_t b) { return a < b ? a : b; }
+
+/* A side is shorter than its grid: as many tiles as it has pixels are the most. The byte profile has one grid alone. */
 static void more_sides(const struct run *run)
 {
-    const tz_settings *s = &run->settings;
-    uint32_t width = run->sizes.width - run->sizes.width % s->across;
-    uint32_t height = run->sizes.height - run->sizes.height % s->down;
+    uint32_t across = least(run->settings.across, run->sizes.width), down = least(run->settings.down, run->sizes.height);
     more_grid(run);
-    if (width > 0 && height > 0)
-        say_more("Or a part of it that fits, cut out by Netpbm: pamcut -left=0 -top=0 -width=%u -height=%u %s >NEW.pgm",
-                 (unsigned)width, (unsigned)height, shell_name(run->task.in));
+    if (across >= TZ_LEAST_GRID && down >= TZ_LEAST_GRID)
+        say_more("--grid %ux%u%s is the nearest that fits.", (unsigned)across, (unsigned)down,
+                 (run->job->given & BYTES) != 0 ? " without --bytes" : "");
 }
 
 static void more_range(const struct run *run)
@@ -308,11 +309,11 @@ typedef void (*more_function)(const struct run *);
 static more_function more_of(uint32_t refusal)
 {
     static const more_function more[] = {
-        [TZ_GRID_ACROSS] = more_grid,     [TZ_GRID_DOWN] = more_grid,     [TZ_WIDTH_MULTIPLE] = more_sides,
-        [TZ_HEIGHT_MULTIPLE] = more_sides, [TZ_RANGE_MAX] = more_range,   [TZ_RANGE_MIN] = more_range,
-        [TZ_PIXEL_OUTSIDE] = more_pixel,  [TZ_WINDOW] = more_window,      [TZ_HEADER] = more_header,
-        [TZ_COMMENT] = more_comment,      [TZ_FILE_SIZE] = more_size,     [TZ_MAXVAL] = more_maxval,
-        [TZ_RASTER_SHORT] = more_raster,  [TZ_RASTER_LONG] = more_raster, [TZ_SAMPLE] = more_sample,
+        [TZ_GRID_ACROSS] = more_grid,    [TZ_GRID_DOWN] = more_grid,     [TZ_WIDTH_SHORT] = more_sides,
+        [TZ_HEIGHT_SHORT] = more_sides,  [TZ_RANGE_MAX] = more_range,    [TZ_RANGE_MIN] = more_range,
+        [TZ_PIXEL_OUTSIDE] = more_pixel, [TZ_WINDOW] = more_window,      [TZ_HEADER] = more_header,
+        [TZ_COMMENT] = more_comment,     [TZ_FILE_SIZE] = more_size,     [TZ_MAXVAL] = more_maxval,
+        [TZ_RASTER_SHORT] = more_raster, [TZ_RASTER_LONG] = more_raster, [TZ_SAMPLE] = more_sample,
         [TZ_BINS_UNREACHED] = more_bins,
     };
     more_function found = refusal < sizeof more / sizeof more[0] ? more[refusal] : NULL;

@@ -32,7 +32,7 @@ extern "C" {
 #endif
 
 /* The edition of this header and of the library, as in the file VERSION. */
-#define TZ_VERSION "1.5.1"
+#define TZ_VERSION "2.6.0"
 
 /* The functions with bodies are compiled into what includes this header. station/structs.c, which is a part of the library,
    says otherwise, and so they have names in it as well. */
@@ -62,8 +62,8 @@ enum tz_refusal {
     TZ_PICTURE_LENGTH = 2,   /* picture length is not width x height */
     TZ_GRID_ACROSS = 3,      /* grid across is not 2 to 16 */
     TZ_GRID_DOWN = 4,        /* grid down is not 2 to 16 */
-    TZ_WIDTH_MULTIPLE = 5,   /* width is no multiple of grid across */
-    TZ_HEIGHT_MULTIPLE = 6,  /* height is no multiple of grid down */
+    TZ_WIDTH_SHORT = 5,      /* width is less than grid across */
+    TZ_HEIGHT_SHORT = 6,     /* height is less than grid down */
     TZ_RANGE_MAX = 7,        /* Max above 4095 */
     TZ_RANGE_MIN = 8,        /* Min not below Max */
     TZ_BINS = 9,             /* bins 1 or above 4096 */
@@ -71,7 +71,7 @@ enum tz_refusal {
     TZ_MAP_SHORT = 11,       /* map buffer shorter than (grid across) x (grid down) x B */
     TZ_SCRATCH_SHORT = 12,   /* scratch shorter than B */
     TZ_PIXEL_OUTSIDE = 13,   /* a pixel outside Min to Max */
-    TZ_RECORD = 15,          /* record differs in film number, size or any setting */
+    TZ_RECORD = 15,          /* record differs in film number, size or any setting, or in an edge or centre of its tiles */
     TZ_WINDOW = 16,          /* window empty or not inside the film */
     TZ_OUTPUT_LENGTH = 17,   /* output length is not the window's area */
     TZ_MAP_OUTSIDE = 18,     /* a map entry outside Min to Max */
@@ -98,8 +98,8 @@ TZ_FUNCTION const char *tz_refusal_text(uint32_t refusal)
         "The picture's length is not its width times its height.",
         "The grid across is not 2 to 16.",
         "The grid down is not 2 to 16.",
-        "The film's width is no multiple of the grid across.",
-        "The film's height is no multiple of the grid down.",
+        "The film's width is less than the grid across.",
+        "The film's height is less than the grid down.",
         "The top of the grey range is above 4095.",
         "The bottom of the grey range is not below its top.",
         "The number of bins is 1 or above 4096.",
@@ -108,7 +108,7 @@ TZ_FUNCTION const char *tz_refusal_text(uint32_t refusal)
         "The scratch buffer is shorter than the bins.",
         "A pixel of the film lies outside the grey range.",
         "There is no refusal of this number.",
-        "The mappings are those of another film, another size or other settings.",
+        "The mappings are those of another film, another size or other settings, or of other tiles.",
         "The window is empty or does not lie inside the film.",
         "The output's length is not the window's area.",
         "An entry of the mappings lies outside the grey range.",
@@ -136,22 +136,29 @@ TZ_FUNCTION const char *tz_refusal_text(uint32_t refusal)
 
 /* What the interpreter chooses. clip 0: off, and factor does not count; any other: the factor counts. */
 typedef struct tz_settings {
-    uint32_t across, down; /* tiles across and down, 2 to 16 each; both sides of the film are multiples */
+    uint32_t across, down; /* tiles across and down, 2 to 16 each, and at most the film's width and height */
     uint32_t bins;         /* 2 to 4096; 0 means 128; at most max - min + 1, so that each bin has a grey */
     uint32_t min, max;     /* the grey range: all pixels lie in it, and so does the rendering */
     uint32_t clip;
     float factor;          /* 1.0 to 1024.0; exactly 1.0 returns the film unchanged */
 } tz_settings;
 
+/* The tile columns of a film of `width` pixels, or likewise its tile rows. Tile i is the columns from edges[i] up to, not
+   with, edges[i + 1], where edge i is i x width / grid, rounded down; so tiles differ by at most one pixel. centres[i] is half
+   of the sum of the two, rounded down. Entries behind the last edge and the last centre are 0. */
+typedef struct tz_axis { uint32_t edges[17], centres[16]; } tz_axis;
+
 /* What tz_prepare and tz_map say their mappings belong to. bins is never 0 in it; clip is 0 or 1; factor 0.0 where clip is 0. */
 typedef struct tz_record {
     uint32_t film, width, height;
     tz_settings settings;
+    tz_axis columns, rows;
 } tz_record;
 
-/* What clipping did. Clip off: 0, 0.0, 0.0. Factor 1.0: 0, 1.0, 1.0. */
+/* What clipping did. Clip off: 0, 0.0, 0.0. Factor 1.0: 0, 1.0, 1.0. Each tile has a limit by its own pixels, N; limit and
+   factor used are those of tile 0, 0, the upper left one, which has the fewest. */
 typedef struct tz_footer {
-    uint32_t limit; /* L: no bin of a tile holds more */
+    uint32_t limit; /* L: no bin of the tile holds more */
     float asked;    /* the factor asked */
     double used;    /* the factor used: L x B / N, divided once */
 } tz_footer;
@@ -173,7 +180,8 @@ typedef struct tz_part {
 /* ---- the flat functions of the archive ---- */
 
 /*
- * A record is nine numbers, film, width, height, across, down, bins, min, max, clip, and its factor apart.
+ * A record is nine numbers, film, width, height, across, down, bins, min, max, clip, its factor apart, and the edges and
+ * centres of its tile columns and tile rows.
  * `sizes` is three numbers, width, height, maxval. `part` is two, where the raster starts and how long it is.
  * What each call does stands at the function with structs, below.
  */
@@ -182,7 +190,9 @@ uint32_t tz_prepare(uint32_t film, uint32_t width, uint32_t height,
                     uint32_t across, uint32_t down, uint32_t bins, uint32_t min, uint32_t max,
                     uint32_t clip, float factor,
                     uint16_t *map, size_t map_len, uint32_t *scratch, size_t scratch_len,
-                    uint32_t *record, float *record_factor, uint32_t *limit, float *asked, double *used);
+                    uint32_t *record, float *record_factor, uint32_t *limit, float *asked, double *used,
+                    uint32_t column_edges[17], uint32_t column_centres[16],
+                    uint32_t row_edges[17], uint32_t row_centres[16]);
 
 uint32_t tz_enhance(uint32_t width, uint32_t height, uint16_t *picture, size_t picture_len,
                     uint32_t across, uint32_t down, uint32_t bins, uint32_t min, uint32_t max,
@@ -196,7 +206,9 @@ uint32_t tz_draw(uint32_t film, uint32_t width, uint32_t height,
                  uint32_t clip, float factor,
                  const uint32_t *record, float record_factor,
                  uint32_t left, uint32_t top, uint32_t window_width, uint32_t window_height,
-                 const uint16_t *map, size_t map_len, uint16_t *out, size_t out_len);
+                 const uint16_t *map, size_t map_len, uint16_t *out, size_t out_len,
+                 const uint32_t column_edges[17], const uint32_t column_centres[16],
+                 const uint32_t row_edges[17], const uint32_t row_centres[16]);
 
 uint32_t tz_count(uint32_t width, uint32_t height, const uint16_t *picture, size_t picture_len,
                   uint32_t across, uint32_t down, uint32_t bins, uint32_t min, uint32_t max,
@@ -206,14 +218,18 @@ uint32_t tz_map(uint32_t film, uint32_t width, uint32_t height,
                 uint32_t across, uint32_t down, uint32_t bins, uint32_t min, uint32_t max,
                 uint32_t clip, float factor, const uint32_t *counts, size_t counts_len,
                 uint16_t *map, size_t map_len, uint32_t *scratch, size_t scratch_len,
-                uint32_t *record, float *record_factor, uint32_t *limit, float *asked, double *used);
+                uint32_t *record, float *record_factor, uint32_t *limit, float *asked, double *used,
+                uint32_t column_edges[17], uint32_t column_centres[16],
+                uint32_t row_edges[17], uint32_t row_centres[16]);
 
 uint32_t tz_prepare_bytes(uint32_t film, uint32_t width, uint32_t height,
                           const uint8_t *picture, size_t picture_len,
                           uint32_t across, uint32_t down, uint32_t bins, uint32_t min, uint32_t max,
                           uint32_t clip, float factor,
                           uint8_t *map, size_t map_len, uint32_t *scratch, size_t scratch_len,
-                          uint32_t *record, float *record_factor, uint32_t *limit, float *asked, double *used);
+                          uint32_t *record, float *record_factor, uint32_t *limit, float *asked, double *used,
+                          uint32_t column_edges[17], uint32_t column_centres[16],
+                          uint32_t row_edges[17], uint32_t row_centres[16]);
 
 uint32_t tz_enhance_bytes(uint32_t width, uint32_t height, uint8_t *picture, size_t picture_len,
                           uint32_t across, uint32_t down, uint32_t bins, uint32_t min, uint32_t max,
@@ -227,7 +243,9 @@ uint32_t tz_draw_bytes(uint32_t film, uint32_t width, uint32_t height,
                        uint32_t clip, float factor,
                        const uint32_t *record, float record_factor,
                        uint32_t left, uint32_t top, uint32_t window_width, uint32_t window_height,
-                       const uint8_t *map, size_t map_len, uint8_t *out, size_t out_len);
+                       const uint8_t *map, size_t map_len, uint8_t *out, size_t out_len,
+                       const uint32_t column_edges[17], const uint32_t column_centres[16],
+                       const uint32_t row_edges[17], const uint32_t row_centres[16]);
 
 uint32_t tz_read_sizes(const uint8_t *bytes, size_t len, uint32_t *sizes);
 
@@ -292,11 +310,11 @@ TZ_FUNCTION void tz_record_numbers(const tz_record *record, uint32_t numbers[9])
         numbers[i] = n[i];
 }
 
-/* A record of its nine numbers and its factor. */
-TZ_FUNCTION tz_record tz_record_of(const uint32_t n[9], float factor)
+/* A record of its nine numbers, its factor, and its tile columns and rows. */
+TZ_FUNCTION tz_record tz_record_of(const uint32_t n[9], float factor, const tz_axis *columns, const tz_axis *rows)
 {
     tz_settings kept = {n[3], n[4], n[5], n[6], n[7], n[8], factor};
-    tz_record record = {n[0], n[1], n[2], kept};
+    tz_record record = {n[0], n[1], n[2], kept, *columns, *rows};
     return record;
 }
 
@@ -312,8 +330,10 @@ TZ_FUNCTION tz_footer tz_footer_of(uint32_t limit, float asked, double used)
  *
  * Afterwards the first (across x down x bins) entries of `map` are the mappings, tiles row by row, bins upward;
  * the first `bins` entries of `scratch` are 0; all other entries keep their contents. `record` names the film,
- * its size and its settings, and `footer` says what clipping did. At factor 1.0 map and scratch stay as they were.
- * Give each film that is open at the same time a number of its own.
+ * its size, its settings and its tiles' edges and centres, and `footer` says what clipping did. At factor 1.0 map and
+ * scratch stay as they were. Give each film that is open at the same time a number of its own.
+ *
+ * A film may have any width from the grid across up and any height from the grid down up (else 5 and 6), to 4096 (1).
  *
  * Sizes: picture_len is width x height; map_len at least tz_map_entries, scratch_len at least tz_scratch_entries.
  * Refusals, the first that applies: 1 to 9 upward, 31, then 10 to 13.
@@ -324,13 +344,14 @@ TZ_FUNCTION uint32_t tzofnadir_prepare(uint32_t film, uint32_t width, uint32_t h
                                        tz_record *record, tz_footer *footer)
 {
     uint32_t r[9] = {0}, limit = 0;
+    tz_axis columns = {{0}, {0}}, rows = {{0}, {0}};
     float factor = 0, asked = 0;
     double used = 0;
     uint32_t refusal = tz_prepare(film, width, height, picture, picture_len, s->across, s->down, s->bins, s->min,
                                   s->max, s->clip, s->factor, map, map_len, scratch, scratch_len, r, &factor,
-                                  &limit, &asked, &used);
+                                  &limit, &asked, &used, columns.edges, columns.centres, rows.edges, rows.centres);
     if (refusal == TZ_DONE) {
-        *record = tz_record_of(r, factor);
+        *record = tz_record_of(r, factor, &columns, &rows);
         *footer = tz_footer_of(limit, asked, used);
     }
     return refusal;
@@ -363,7 +384,8 @@ TZ_FUNCTION uint32_t tzofnadir_enhance(uint32_t width, uint32_t height, uint16_t
  * the one that enhance gives.
  *
  * The film number, the size and the settings are those of the film to be drawn: refusal 15 compares them with the
- * record (bins 0 read as 128 on both sides), so that no film is drawn with the mappings of another.
+ * record (bins 0 read as 128 on both sides), so that no film is drawn with the mappings of another. It also compares all
+ * entries of the record's edges and centres, those behind the last too, with what the rule gives for that size and grid.
  *
  * Sizes: picture_len is width x height; map_len at least tz_map_entries; out_len exactly the window's area.
  * Refusals, the first that applies: 1 to 9, 31, 10, 11, 15, 16, 17, then 13 over the window, then 18 (not at factor
@@ -378,7 +400,8 @@ TZ_FUNCTION uint32_t tzofnadir_draw(uint32_t film, uint32_t width, uint32_t heig
     tz_record_numbers(record, r);
     return tz_draw(film, width, height, picture, picture_len, s->across, s->down, s->bins, s->min, s->max, s->clip,
                    s->factor, r, record->settings.factor, window->left, window->top, window->width, window->height,
-                   map, map_len, out, out_len);
+                   map, map_len, out, out_len, record->columns.edges, record->columns.centres, record->rows.edges,
+                   record->rows.centres);
 }
 
 /*
@@ -415,13 +438,14 @@ TZ_FUNCTION uint32_t tzofnadir_map(uint32_t film, uint32_t width, uint32_t heigh
                                    uint32_t *scratch, size_t scratch_len, tz_record *record, tz_footer *footer)
 {
     uint32_t r[9] = {0}, limit = 0;
+    tz_axis columns = {{0}, {0}}, rows = {{0}, {0}};
     float factor = 0, asked = 0;
     double used = 0;
     uint32_t refusal = tz_map(film, width, height, s->across, s->down, s->bins, s->min, s->max, s->clip, s->factor,
                               counts, counts_len, map, map_len, scratch, scratch_len, r, &factor, &limit, &asked,
-                              &used);
+                              &used, columns.edges, columns.centres, rows.edges, rows.centres);
     if (refusal == TZ_DONE) {
-        *record = tz_record_of(r, factor);
+        *record = tz_record_of(r, factor, &columns, &rows);
         *footer = tz_footer_of(limit, asked, used);
     }
     return refusal;
@@ -442,13 +466,15 @@ TZ_FUNCTION uint32_t tzofnadir_prepare_bytes(uint32_t film, uint32_t width, uint
                                              tz_record *record, tz_footer *footer)
 {
     uint32_t r[9] = {0}, limit = 0;
+    tz_axis columns = {{0}, {0}}, rows = {{0}, {0}};
     float factor = 0, asked = 0;
     double used = 0;
     uint32_t refusal = tz_prepare_bytes(film, width, height, picture, picture_len, s->across, s->down, s->bins,
                                         s->min, s->max, s->clip, s->factor, map, map_len, scratch, scratch_len, r,
-                                        &factor, &limit, &asked, &used);
+                                        &factor, &limit, &asked, &used, columns.edges, columns.centres, rows.edges,
+                                        rows.centres);
     if (refusal == TZ_DONE) {
-        *record = tz_record_of(r, factor);
+        *record = tz_record_of(r, factor, &columns, &rows);
         *footer = tz_footer_of(limit, asked, used);
     }
     return refusal;
@@ -483,7 +509,8 @@ TZ_FUNCTION uint32_t tzofnadir_draw_bytes(uint32_t film, uint32_t width, uint32_
     tz_record_numbers(record, r);
     return tz_draw_bytes(film, width, height, picture, picture_len, s->across, s->down, s->bins, s->min, s->max,
                          s->clip, s->factor, r, record->settings.factor, window->left, window->top, window->width,
-                         window->height, map, map_len, out, out_len);
+                         window->height, map, map_len, out, out_len, record->columns.edges, record->columns.centres,
+                         record->rows.edges, record->rows.centres);
 }
 
 /*
@@ -546,7 +573,7 @@ TZ_FUNCTION uint32_t tzofnadir_write(const uint16_t *picture, size_t picture_len
 /*
  * Listing: the tile listing of a raw PGM file with grid 2 by 2, 4 bins, range 0 to maxval, factor 2, as text in
  * `out`, `count` bytes of it, fields parted by tabs, each line ended by a line feed: width, height, grid across,
- * grid down, bins, Min, Max, L; then a line per tile with row, column, excess and the mapping.
+ * grid down, bins, Min, Max, L of tile 0, 0; then a line per tile with row, column, excess over its own L, and the mapping.
  *
  * Sizes: out_len at least TZ_LISTING_BYTES, else 27. A film's refusal is part of the text, `refused`, tab, number:
  * 22 for an input above 32,768 bytes before all else, then as read gives them, where a film above 8,192 pixels is 22

@@ -12,7 +12,7 @@ const char usage[] =
     "enhance renders a film, or several into a folder; window renders a part of the rendered film; listing prints the\n"
     "tile listing of a small film; info prints a film's size, maxval, least and greatest grey, and the grids that fit.\n"
     "\n"
-    "SETTINGS: --grid 8x8         tiles across and down, 2 to 16 each\n"
+    "SETTINGS: --grid 8x8         tiles across and down, 2 to 16 each, and no more than the film has pixels that way\n"
     "          --bins B           grey bins, 2 to 4096 and no more than the range has greys; 0 means 128. Unless\n"
     "                             given: the least of 1024 and the greys in the range, and told\n"
     "          --range MIN:MAX    grey range, 0 to the file's maxval unless given\n"
@@ -24,6 +24,6 @@ const char usage[] =
     "          --                 behind it all words are names of files\n"
     "\n"
     "A value stands behind its option or behind '=': --clip 2.5, --clip=2.5. '-' stands for standard input or output.\n"
-    "Films are raw PGM (P5) of up to 4096 by 4096 pixels.\n"
+    "Films are raw PGM (P5) of any size from the grid up to 4096 by 4096 pixels.\n"
     "Exit status: 0 done; 1 to 63 a refusal, told on standard error; 64 bad words; 65 the input is too long;\n"
     "66 no input; 71 no memory; 73 the output cannot be created; 74 reading or writing failed.\n";

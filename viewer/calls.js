@@ -12,8 +12,12 @@ const MOST_ENTRIES = MOST_GRID * MOST_GRID * MOST_BINS;
 const MEMORY_PAGE = 65536;
 
 // Where the answers of the calls stand, behind the address of the cells.
-const CELL = {record: 0, factor: 36, limit: 40, asked: 44, used: 48, count: 56, part: 64, sizes: 80, digest: 96};
-const CELL_BYTES = 176;
+const CELL = {record: 0, factor: 36, limit: 40, asked: 44, used: 48, count: 56, part: 64, sizes: 80, digest: 96,
+  columnEdges: 176, columnCentres: 244, rowEdges: 308, rowCentres: 376};
+const CELL_BYTES = 440;
+
+// How many edges and centres a record has, in the order in which the calls take them.
+const AXES = {columnEdges: MOST_GRID + 1, columnCentres: MOST_GRID, rowEdges: MOST_GRID + 1, rowCentres: MOST_GRID};
 
 // Memory that could not be had. It is told for the one film that asked.
 class NoMemory extends Error {
@@ -116,20 +120,23 @@ function fileCalls(exports, room, cells) {
 
 // The calls on films: count, map and draw.
 function filmCalls(exports, room, cells) {
+  const axes = Object.keys(AXES).map(name => cells + CELL[name]);
+  const axis = name => room.u32(cells + CELL[name], AXES[name]);
   return {
     count(film, s) {
       return exports.tz_count(...sizeOf(film), ...pictureOf(film), ...tilingOf(s), film.counts, BigInt(MOST_ENTRIES)) >>> 0;
     },
     // With no counts lent nothing can be mapped: what the settings meet is given first, and 33 where they are in order.
     judge(film, s) { return this.map(film, s, 0).refusal; },
-    map(film, s, entries = MOST_ENTRIES) {
-      const refusal = exports.tz_map(film.number, ...sizeOf(film), ...settingsOf(s), film.counts, BigInt(entries),
-        film.map, BigInt(MOST_ENTRIES), film.scratch, BigInt(MOST_BINS), cells + CELL.record, cells + CELL.factor,
-        cells + CELL.limit, cells + CELL.asked, cells + CELL.used) >>> 0;
+    map(film, s, counts = MOST_ENTRIES, maps = MOST_ENTRIES) {
+      const refusal = exports.tz_map(film.number, ...sizeOf(film), ...settingsOf(s), film.counts, BigInt(counts),
+        film.map, BigInt(maps), film.scratch, BigInt(MOST_BINS), cells + CELL.record, cells + CELL.factor,
+        cells + CELL.limit, cells + CELL.asked, cells + CELL.used, ...axes) >>> 0;
       const view = room.view(cells, CELL_BYTES);
       return {
         refusal,
-        record: {numbers: room.u32(cells + CELL.record, 9).slice(), factor: view.getFloat32(CELL.factor, true)},
+        record: {numbers: room.u32(cells + CELL.record, 9).slice(), factor: view.getFloat32(CELL.factor, true),
+          axes: Object.fromEntries(Object.keys(AXES).map(name => [name, axis(name).slice()]))},
         footer: {limit: view.getUint32(CELL.limit, true), asked: view.getFloat32(CELL.asked, true),
           used: view.getFloat64(CELL.used, true)},
       };
@@ -137,9 +144,10 @@ function filmCalls(exports, room, cells) {
     // The settings are those wanted, the record the one that map left: the library compares them (15).
     draw(film, s, record, w, out) {
       room.u32(cells + CELL.record, 9).set(record.numbers);
+      for (const name of Object.keys(AXES)) axis(name).set(record.axes[name]);
       return exports.tz_draw(film.number, ...sizeOf(film), ...pictureOf(film), ...settingsOf(s), cells + CELL.record,
         record.factor, w.left, w.top, w.width, w.height, film.map, BigInt(MOST_ENTRIES), out,
-        BigInt(w.width * w.height)) >>> 0;
+        BigInt(w.width * w.height), ...axes) >>> 0;
     },
   };
 }

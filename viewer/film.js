@@ -127,19 +127,43 @@ function picture(film, s, place, display, spare = {}) {
   };
 }
 
-// The tile of a pixel: its number from 0, its place in the grid and its rectangle.
-function tileOf(film, s, x, y) {
-  const width = film.width / s.across;
-  const height = film.height / s.down;
-  const across = Math.floor(x / width);
-  const down = Math.floor(y / height);
-  return {index: down * s.across + across, across, down, left: across * width, top: down * height, width, height};
+// Of a film's tile columns or tile rows the one in which a column or row lies, by their edges.
+function tileAt(edges, grid, at) {
+  let tile = 0;
+  while (tile + 1 < grid && edges[tile + 1] <= at) tile++;
+  return tile;
 }
 
-// What is under the pointer, from the library's own numbers: greys, and the counts and the mapping of the pixel's tile.
+// The tile of a pixel, by the edges in the library's own record: its number from 0, its place in the grid, its rectangle and how
+// many pixels that has.
+function tileOf(film, s, x, y) {
+  const {columnEdges, rowEdges} = film.record.axes;
+  const across = tileAt(columnEdges, s.across, x);
+  const down = tileAt(rowEdges, s.down, y);
+  const width = columnEdges[across + 1] - columnEdges[across];
+  const height = rowEdges[down + 1] - rowEdges[down];
+  return {index: down * s.across + across, across, down, left: columnEdges[across], top: rowEdges[down], width, height,
+    pixels: width * height};
+}
+
+// The limit of a tile, by the library: a footer has that of tile 0, 0 alone, so a film of 2 by 2 tiles of this size is mapped,
+// behind everything lent. It is within 4096 by 4096, since no tile is above 2048 by 2048. Its counts are as even as can be, for
+// then there is nothing to be clipped, which takes time; the limit goes by their sum alone.
+function limitOf(film, s, tile, bins) {
+  const entries = 4 * bins;
+  const at = film.library.room.last(6 * entries);
+  const counts = film.library.room.u32(at, entries);
+  for (let i = 0; i < entries; i++) counts[i] = Math.floor((tile.pixels + i % bins) / bins);
+  const alike = {...film, width: 2 * tile.width, height: 2 * tile.height, counts: at, map: at + 4 * entries};
+  return film.library.map(alike, {...s, across: 2, down: 2}, entries, entries).footer.limit;
+}
+
+// What is under the pointer, from the library's own numbers: greys, and the counts, the limit and the mapping of the pixel's
+// tile.
 function probe(film, s, at) {
   const drawn = drawWindow(film, s, {left: at.x, top: at.y, width: 1, height: 1});
   if (drawn.refusal) return drawn;
+  const rendered = drawn.greys[0]; // read before anything else is laid where it stands
   const room = film.library.room;
   const bins = s.bins === 0 ? USUAL_BINS : s.bins;
   const tile = tileOf(film, s, at.x, at.y);
@@ -147,12 +171,11 @@ function probe(film, s, at) {
   // at factor 1.0 nothing is mapped, and the map buffer holds what an earlier factor left
   const unmapped = s.clip && s.factor === 1;
   return {
-    x: at.x, y: at.y, bins, tile,
+    x: at.x, y: at.y, bins, tile, rendered,
     scanned: room.u16(film.picture + 2 * (at.y * film.width + at.x), 1)[0],
-    rendered: drawn.greys[0],
     counts: room.u32(film.counts + 4 * first, bins).slice(),
     mapping: unmapped ? null : room.u16(film.map + 2 * first, bins).slice(),
-    limit: film.footer.limit, min: s.min, max: s.max,
+    limit: limitOf(film, s, tile, bins), min: s.min, max: s.max,
   };
 }
 

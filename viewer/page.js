@@ -65,7 +65,7 @@ function shown(film, settings, place, answer, marks) {
   if (before !== Boolean(film.refusal)) listFilms();
   if (state.film !== film) return;
   showRefusal(film.refusal);
-  fillFooter(film.refusal ? null : answer.footer, settings);
+  fillFooter(film.refusal ? null : answer.footer, settings, film);
   if (film.refusal) {
     state.at = null;
     clearPanes();

@@ -19,8 +19,8 @@ function startSettings(film) {
   film.settings = {across, down, bins: chosenBins(0, film.maxval), min: 0, max: film.maxval, clip: 1, factor: 3};
   film.binsChosen = true;
   film.notes = [];
-  if (across !== 8) film.notes.push(`8 tiles across do not divide ${film.width} pixels: ${across} taken.`);
-  if (down !== 8) film.notes.push(`8 tiles down do not divide ${film.height} pixels: ${down} taken.`);
+  if (across !== 8) film.notes.push(`8 tiles across do not fit into ${film.width} pixels: ${across} taken.`);
+  if (down !== 8) film.notes.push(`8 tiles down do not fit into ${film.height} pixels: ${down} taken.`);
   film.view = {zoom: ONE_TO_ONE, x: film.width / 2, y: film.height / 2, fit: true, fresh: true};
   film.display = wholeDisplay(film);
 }
@@ -339,15 +339,21 @@ function fillEnds(film) {
 
 // ---- footer and readings ----
 
-function fillFooter(footer, settings) {
+function fillFooter(footer, settings, film) {
   const texts = footer ? [String(footer.limit), shownFactor(footer.asked), shownFactor(footer.used)] : ['', '', ''];
   ['limit', 'asked', 'used'].forEach((id, i) => setText(`footer-${id}`, texts[i]));
   element('footer-asked').title = footer ? printG(footer.asked, 9) : '';
   element('footer-used').title = footer ? printG(footer.used, 17) : '';
-  setText('footer-note', !footer ? ''
-    : !settings.clip ? 'clip off: contrast is raised without a limit'
-      : footer.asked === 1 ? 'factor 1.0: the film unchanged'
-        : footer.used > footer.asked ? 'used is above asked: no lower limit holds a tile\'s pixels' : '');
+  setText('footer-note', footer ? footerNote(footer, settings, film) : '');
+}
+
+function footerNote(footer, settings, film) {
+  if (!settings.clip) return 'clip off: contrast is raised without a limit';
+  if (footer.asked === 1) return 'factor 1.0: the film unchanged';
+  const notes = [];
+  if (footer.used > footer.asked) notes.push('used is above asked: no lower limit holds a tile\'s pixels');
+  if (film.width % settings.across || film.height % settings.down) notes.push('tiles differ: L and used are the first one\'s');
+  return notes.join('; ');
 }
 
 function fillReading(probe) {

@@ -144,7 +144,7 @@ function labelTile(pen, box, probe, most) {
   pen.fillStyle = INK.text;
   pen.textBaseline = 'top';
   pen.textAlign = 'left';
-  pen.fillText('pixels in a bin', 0, 0);
+  pen.fillText(`pixels in a bin, of ${probe.tile.pixels}`, 0, 0);
   pen.fillText(String(probe.min), box.x, foot + 2);
   pen.textAlign = 'right';
   pen.fillText(String(probe.max), box.x + box.width, foot + 2);

@@ -161,7 +161,7 @@ function moreOfFile(refusal, input) {
 
 function gridsThatFit(side) {
   const fit = [];
-  for (let tiles = LEAST_GRID; tiles <= MOST_GRID; tiles++) if (side % tiles === 0) fit.push(tiles);
+  for (let tiles = LEAST_GRID; tiles <= MOST_GRID; tiles++) if (side >= tiles) fit.push(tiles);
   return fit;
 }
 
@@ -173,15 +173,12 @@ function moreOfGrid(film, s) {
   ];
 }
 
-// The part of the film that the grid fits.
+// A side is shorter than its grid: as many tiles as it has pixels are the most.
 function moreOfSides(film, s) {
-  const width = film.width - film.width % s.across;
-  const height = film.height - film.height % s.down;
+  const across = Math.min(s.across, film.width);
+  const down = Math.min(s.down, film.height);
   const lines = moreOfGrid(film, s);
-  if (width > 0 && height > 0) {
-    lines.push(`Or a part of it that fits, cut out by Netpbm: pamcut -left=0 -top=0 -width=${width} -height=${height} ` +
-      `${shellName(film.name)} >NEW.pgm`);
-  }
+  if (across >= LEAST_GRID && down >= LEAST_GRID) lines.push(`Grid ${across} by ${down} is the nearest that fits.`);
   return lines;
 }
 

@@ -54,6 +54,8 @@ class Films:
         "noisy": lambda expected, films: expected.noisy("noisy.pgm", 1280, 1024),
         "shallow": lambda expected, films: expected.noisy("shallow.pgm", 160, 120, 255),
         "odd": lambda expected, films: expected.noisy("odd.pgm", 77, 63),
+        "small": lambda expected, films: expected.noisy("small.pgm", 12, 10),
+        "narrow": lambda expected, films: expected.noisy("narrow.pgm", 5, 40),
         "square": lambda expected, films: expected.noisy("square.pgm", 2048, 2048),
         "largest": lambda expected, films: expected.four_of("largest.pgm", films.square),
     }

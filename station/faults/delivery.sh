@@ -94,6 +94,10 @@ library = render.load(sys.argv[1])
 print(*(library.tz_write_bytes(*sides) for sides in ((512, 384), (0, 9), (4096, 4096), (2**32 - 1, 2**32 - 1), (2**32 - 1, 1))))' "$prefix/lib/libtzofnadir.so" 2>said)
     if [ "$saw" = '393234 18 33554450 33554450 8210' ]; then ok=yes; else ok=no; fi
     report "$ok" 'tz_write_bytes is bounded, whatever the sides' "$saw"
+    python3 -B "$top/station/faults/axes.py" "$top/examples" "$prefix/lib/libtzofnadir.so" film.pgm >wrote 2>said
+    saw=$?
+    if [ "$saw" -eq 0 ]; then ok=yes; else ok=no; fi
+    report "$ok" "a record's edges and centres: the rule's, and no others are drawn with" "status $saw: $(cat wrote)$(tail -n 1 said)"
     python3 -B "$top/station/faults/threads.py" "$top/examples" "$prefix/lib/libtzofnadir.so" film.pgm >wrote 2>said
     saw=$?
     if [ "$saw" -eq 0 ]; then ok=yes; else ok=no; fi

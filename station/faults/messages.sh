@@ -1,14 +1,22 @@
 # shellcheck shell=sh disable=SC2154,SC2034
 # station/faults.sh reads this: what the messages name, and tzofnadir info.
-told='pixels wide and 384 high'
-try 'grid 7x8: the film and the grids that fit' 5 enhance film.pgm "$out" --grid 7x8
-told='Tiles across that fit: 2 4 8 16. Tiles down that fit: 2 3 4 6 8 12 16.'
-try 'grid 8x7: the same' 6 enhance film.pgm "$out" --grid 8x7
-told='-width=511 -height=384 film.pgm'
-try 'grid 7x8: what is to be cut off' 5 enhance film.pgm "$out" --grid 7x8
-{ printf 'P5\n509 8\n255\n'; head -c 4072 /dev/zero; } >prime.pgm
-told='Tiles across that fit: none.'
-try 'a width that no grid fits' 5 enhance prime.pgm "$out"
+told='Asked were 8 tiles across and 8 down; the film is 7 pixels wide and 9 high.'
+try 'a width of 7: the film' 5 enhance narrow.pgm "$out"
+told='Tiles across that fit: 2 3 4 5 6 7. Tiles down that fit: 2 3 4 5 6 7 8 9.'
+try 'a width of 7: the grids that fit' 5 enhance narrow.pgm "$out"
+told='Tiles across that fit: 2 3 4 5 6 7 8 9 10 11 12 13 14 15 16.'
+try 'grid 8x17: the same' 4 enhance film.pgm "$out" --grid 8x17
+told='--grid 7x8 is the nearest that fits.'
+try 'a width of 7: the nearest grid' 5 enhance narrow.pgm "$out"
+told='--grid 9x7 is the nearest that fits.'
+try 'a height of 7: the nearest grid' 6 enhance low.pgm "$out" --grid 9x16
+try 'the grid that was named' 0 enhance low.pgm "$out" --grid 9x7
+told='--grid 7x8 without --bytes is the nearest that fits.'
+try '--bytes, a width of 7: the nearest grid' 5 enhance narrow.pgm "$out" --bytes
+told='Tiles across that fit: none. Tiles down that fit: 2 3 4 5 6 7 8 9.'
+try 'a width that no grid fits' 5 enhance column.pgm "$out"
+if grep -q nearest said; then ok=no; else ok=yes; fi
+report "$ok" 'a width that no grid fits: none is named' "$(tail -n 1 said)"
 told='The first is at column 120, row 0: grey 1015, and the range is 0 to 1000.'
 try 'range 0:1000: the first pixel outside' 13 enhance film.pgm "$out" --range 0:1000
 told="The film's least grey is 450, its greatest 3388: --range 450:3388 holds them all."
@@ -68,11 +76,17 @@ way_out 'a comment, a maxval of 65535, and samples of 12 bits' 21 both.pgm
 way_out 'a maxval of 65535, and samples of 12 bits' 23 deep.pgm
 way_out 'a sample above maxval' 26 above.pgm
 
-printf 'width\t512\nheight\t384\nmaxval\t4095\nleast\t450\ngreatest\t3388\nacross\t2 4 8 16\ndown\t2 3 4 6 8 12 16\n' >wanted
+printf 'width\t512\nheight\t384\nmaxval\t4095\nleast\t450\ngreatest\t3388\n' >wanted
+printf '%s\t2 3 4 5 6 7 8 9 10 11 12 13 14 15 16\n' across down >>wanted
 "$tz" info film.pgm >wrote 2>said
 saw=$?
 if [ "$saw" -eq 0 ] && cmp -s wanted wrote; then ok=yes; else ok=no; fi
 report "$ok" 'info' "status $saw: $(tr '\n\t' ';=' <wrote)"
+printf 'width\t7\nheight\t9\nmaxval\t255\nleast\t0\ngreatest\t0\nacross\t2 3 4 5 6 7\ndown\t2 3 4 5 6 7 8 9\n' >wanted
+"$tz" info narrow.pgm >wrote 2>said
+saw=$?
+if [ "$saw" -eq 0 ] && cmp -s wanted wrote; then ok=yes; else ok=no; fi
+report "$ok" 'info of a film of 7 by 9' "status $saw: $(tail -n 2 wrote | tr '\n\t' ';=')"
 try 'info of a cut file' 24 info short.pgm
 try 'info of two files' 64 info film.pgm film.pgm
 try 'info with a setting' 64 info film.pgm --bins 64

@@ -3,6 +3,9 @@
 
 const MOST_ENTRIES = 16 * 16 * 4096, MOST_BINS = 4096;
 
+/** How many numbers a record's column edges, column centres, row edges and row centres are. */
+export const AXES = [17, 16, 17, 16];
+
 export class Library {
   constructor(wasm) {
     this.x = new WebAssembly.Instance(new WebAssembly.Module(wasm), {}).exports;
@@ -11,6 +14,7 @@ export class Library {
     this.counts = this.lend(MOST_ENTRIES, 4);
     this.scratch = this.lend(MOST_BINS, 4);
     this.numbers = this.lend(9, 4);
+    this.axes = AXES.map(count => this.lend(count, 4));
     this.answers = this.lend(8, 8);
   }
 
@@ -51,8 +55,10 @@ export class Library {
     return Buffer.from(this.bytes(out).subarray(0, count));
   }
 
-  /** Where a call puts record, its factor, limit and the two factors. */
-  places() { return [this.numbers.at, ...[0, 4, 8, 16].map(by => this.answers.at + by)]; }
+  /** Where a call puts a record's numbers and its factor, limit and the two factors, and the record's edges and centres. */
+  recordPlaces() { return [this.numbers.at, this.answers.at]; }
+  footerPlaces() { return [4, 8, 16].map(by => this.answers.at + by); }
+  axesPlaces() { return this.axes.map(axis => axis.at); }
   footer() {
     const view = this.view(this.answers);
     return { limit: view.getUint32(4, true), asked: view.getFloat32(8, true), used: view.getFloat64(16, true) };
@@ -61,24 +67,24 @@ export class Library {
   /** tz_prepare or, by '_bytes', tz_prepare_bytes. */
   prepare(film, number, s, kind = '') {
     return this.x[`tz_prepare${kind}`](number, film.width, film.height, ...slice(film.picture), ...ranged(s), s.clip, s.factor,
-      ...slice(this.map), ...slice(this.scratch), ...this.places());
+      ...slice(this.map), ...slice(this.scratch), ...this.recordPlaces(), ...this.footerPlaces(), ...this.axesPlaces());
   }
   count(film, s) {
     return this.x.tz_count(film.width, film.height, ...slice(film.picture), ...ranged(s), ...slice(this.counts));
   }
   mapped(film, number, s) {
     return this.x.tz_map(number, film.width, film.height, ...ranged(s), s.clip, s.factor, ...slice(this.counts),
-      ...slice(this.map), ...slice(this.scratch), ...this.places());
+      ...slice(this.map), ...slice(this.scratch), ...this.recordPlaces(), ...this.footerPlaces(), ...this.axesPlaces());
   }
   enhance(film, picture, s, kind = '') {
     return this.x[`tz_enhance${kind}`](film.width, film.height, ...slice(picture), ...ranged(s), s.clip, s.factor,
-      ...slice(this.map), ...slice(this.scratch), ...this.places().slice(2));
+      ...slice(this.map), ...slice(this.scratch), ...this.footerPlaces());
   }
   /** A window, with the record and the mappings that the last call left. */
   draw(film, number, s, window, out, kind = '') {
     return this.x[`tz_draw${kind}`](number, film.width, film.height, ...slice(film.picture), ...ranged(s), s.clip, s.factor,
       this.numbers.at, this.view(this.answers).getFloat32(0, true), window.left, window.top, window.width, window.height,
-      ...slice(this.map), ...slice(out));
+      ...slice(this.map), ...slice(out), ...this.axesPlaces());
   }
 
   sentence(number) { return this.text(this.x.viewer_refusal_text(number)); }

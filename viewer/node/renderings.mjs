@@ -1,7 +1,7 @@
 // Films that the library in WebAssembly renders, against those that the command line writes.
 import { execFileSync } from 'node:child_process';
 import { readFileSync, writeFileSync } from 'node:fs';
-import { Library, done } from './library.mjs';
+import { AXES, Library, done } from './library.mjs';
 
 const NUMBER = 7, OTHER = 8;
 const SETTINGS = [
@@ -12,6 +12,10 @@ const SETTINGS = [
   { words: ['--bins', '2', '--clip', '1024'], s: { across: 8, down: 8, bins: 2, clip: 1, factor: 1024 } },
 ];
 const BYTES = { across: 8, down: 8, bins: 256, clip: 1, factor: 3 };
+const ODD = [
+  { words: [], s: { across: 8, down: 8, bins: 1024, clip: 1, factor: 3 } },
+  { words: ['--grid', '7x13', '--bins', '100', '--clip', '1.25'], s: { across: 7, down: 13, bins: 100, clip: 1, factor: 1.25 } },
+];
 
 /** What `tzofnadir enhance` writes of a film, and its record. */
 function commandLine(room, film, words) {
@@ -87,53 +91,89 @@ function widened(library, bytes) {
   return wide;
 }
 
-function byteWays(library, film, s, wanted, trial) {
+function byteWays(library, film, s, wanted, trial, what) {
   const bytes = { ...film, picture: narrowed(library, film.picture) };
   const whole = { left: 0, top: 0, width: film.width, height: film.height };
-  trial('8 bits by bytes: prepare, draw', () => {
+  trial(`${what} by bytes: prepare, draw`, () => {
     const out = library.lend(bytes.picture.length, 1);
     done(library.prepare(bytes, NUMBER, s, '_bytes'));
     done(library.draw(bytes, NUMBER, s, whole, out, '_bytes'));
     return same(library, film, widened(library, out), wanted);
   });
-  trial('8 bits by bytes: enhance', () => {
+  trial(`${what} by bytes: enhance`, () => {
     const picture = copied(library, bytes.picture);
     done(library.enhance(bytes, picture, s, '_bytes'));
     return same(library, film, widened(library, picture), wanted);
   });
 }
 
-/** A window is not drawn with another film's record, and what was lent is as it was. */
-function refused(library, film, s) {
-  const out = library.lend(film.picture.length, 2), whole = { left: 0, top: 0, width: film.width, height: film.height };
-  done(library.prepare(film, NUMBER, s));
+/** A window is not drawn with the record as it stands, and what was lent is as it was. */
+function refused(library, film, number, s) {
+  const window = { left: 1, top: 1, width: 9, height: 5 }, out = library.lend(45, 2);
   library.bytes(out).fill(0xa5);
-  const refusal = library.draw(film, OTHER, s, whole, out);
+  const refusal = library.draw(film, number, s, window, out);
   if (refusal !== 15) throw new Error(`refusal ${refusal}`);
   if (library.bytes(out).some(byte => byte !== 0xa5)) throw new Error('the output was written to');
   return `refused with ${refusal}, and the output is as it was`;
 }
 
-/** The sample film with 8 bits: its greys divided by 16. */
-function eightBits(file) {
-  const head = 'P5\n512 384\n4095\n', raster = file.subarray(head.length);
+function otherFilm(library, film, s) {
+  done(library.prepare(film, NUMBER, s));
+  return refused(library, film, OTHER, s);
+}
+
+/** Each edge and each centre of the record in turn is one more, those behind the last too. */
+function otherEntries(library, film, s) {
+  const change = (axis, at, by) => library.view(axis).setUint32(at, library.view(axis).getUint32(at, true) + by, true);
+  done(library.prepare(film, NUMBER, s));
+  for (const axis of library.axes)
+    for (let at = 0; at < 4 * axis.length; at += 4) {
+      change(axis, at, 1);
+      refused(library, film, NUMBER, s);
+      change(axis, at, -1);
+    }
+  return `${AXES.reduce((sum, count) => sum + count)} entries, each refused with 15`;
+}
+
+/** The upper left part of the sample film, with 12 bits or with 8: its greys divided by 16. */
+function part(file, width, height, bits) {
+  const head = 'P5\n512 384\n4095\n', raster = file.subarray(head.length), wide = bits > 8 ? 2 : 1;
   if (file.subarray(0, head.length).toString() !== head) throw new Error('docs/weld.pgm has another header');
-  const greys = Buffer.alloc(raster.length / 2);
-  for (let i = 0; i < greys.length; i++) greys[i] = raster.readUInt16BE(2 * i) >> 4;
-  return Buffer.concat([Buffer.from('P5\n512 384\n255\n'), greys]);
+  const greys = Buffer.alloc(width * height * wide);
+  for (let i = 0; i < width * height; i++) {
+    const grey = raster.readUInt16BE(2 * (Math.floor(i / width) * 512 + i % width));
+    if (bits === 8) greys[i] = grey >> 4;
+    else greys.writeUInt16BE(grey, 2 * i);
+  }
+  return Buffer.concat([Buffer.from(`P5\n${width} ${height}\n${bits === 8 ? 255 : 4095}\n`), greys]);
+}
+
+/** A film by all ways, with each of the settings. */
+function allWays(wasm, room, path, settings, trial, name) {
+  for (const { words, s } of settings) {
+    const library = new Library(wasm), film = library.read(readFileSync(path));
+    const what = `${name} ${words.join(' ') || 'as README renders it'}`;
+    ways(library, film, { ...s, min: 0, max: film.maxval }, commandLine(room, path, words), trial, what);
+  }
+}
+
+/** A film of 8 bits by all ways, and by bytes. */
+function bytesToo(wasm, room, path, trial, what) {
+  const library = new Library(wasm), film = library.read(readFileSync(path)), s = { ...BYTES, min: 0, max: 255 };
+  ways(library, film, s, commandLine(room, path, []), trial, what);
+  byteWays(library, film, s, commandLine(room, path, ['--bytes']), trial, what);
 }
 
 export function renderings(wasm, room, trial) {
-  const sample = readFileSync('docs/weld.pgm'), small = `${room}/small.pgm`;
-  for (const { words, s } of SETTINGS) {
-    const library = new Library(wasm), film = library.read(sample);
-    const what = `docs/weld.pgm ${words.join(' ') || 'as README renders it'}`;
-    ways(library, film, { ...s, min: 0, max: film.maxval }, commandLine(room, 'docs/weld.pgm', words), trial, what);
-  }
-  const library = new Library(wasm);
-  trial('another film\'s record', () => refused(library, library.read(sample), { ...SETTINGS[0].s, min: 0, max: 4095 }));
-  writeFileSync(small, eightBits(sample));
-  const film = library.read(readFileSync(small)), s = { ...BYTES, min: 0, max: 255 };
-  ways(library, film, s, commandLine(room, small, []), trial, '8 bits');
-  byteWays(library, film, s, commandLine(room, small, ['--bytes']), trial);
+  const sample = readFileSync('docs/weld.pgm'), library = new Library(wasm), usual = { ...SETTINGS[0].s, min: 0, max: 4095 };
+  const [odd, small, oddSmall] = ['odd', 'small', 'odd-small'].map(name => `${room}/${name}.pgm`);
+  writeFileSync(odd, part(sample, 509, 381, 12));
+  writeFileSync(small, part(sample, 512, 384, 8));
+  writeFileSync(oddSmall, part(sample, 101, 67, 8));
+  allWays(wasm, room, 'docs/weld.pgm', SETTINGS, trial, 'docs/weld.pgm');
+  allWays(wasm, room, odd, ODD, trial, '509 by 381');
+  trial('another film\'s record', () => otherFilm(library, library.read(sample), usual));
+  trial('a record with one other edge or centre', () => otherEntries(library, library.read(readFileSync(odd)), usual));
+  bytesToo(wasm, room, small, trial, '8 bits');
+  bytesToo(wasm, room, oddSmall, trial, '8 bits, 101 by 67');
 }

@@ -32,8 +32,23 @@ class Film:
         return head + struct.pack(">%dH" % len(self.greys), *self.greys)
 
     def usual(self):
-        """The settings that a film starts with where 8 by 8 tiles fit."""
-        return settings(8, 8, min(1024, self.maxval + 1), 0, self.maxval, 3.0)
+        """The settings that a film starts with: 8 by 8 tiles, or as many as it has pixels."""
+        return settings(min(8, self.width), min(8, self.height), min(1024, self.maxval + 1), 0, self.maxval, 3.0)
+
+    def tile_at(self, x, y, asked):
+        """The number and the rectangle of the tile in which a pixel lies."""
+        for number, tile in enumerate(clahe.tiles_of(self.width, self.height, asked)):
+            if tile.left <= x < tile.right and tile.top <= y < tile.bottom:
+                return number, tile
+        raise AssertionError("column %d, row %d lies in no tile" % (x, y))
+
+    def plot(self, x, y, asked):
+        """What the plot of a pixel's tile has to hold: its pixels, counts and limit, and the mapping."""
+        number, tile = self.tile_at(x, y, asked)
+        part = slice(number * asked.bins, (number + 1) * asked.bins)
+        pixels = clahe.pixels_of(tile)
+        return {"pixels": pixels, "counts": self.counts(asked)[part],
+                "limit": clahe.limit_of(asked.clip, pixels, asked.bins), "mapping": self.mappings(asked)[0][part]}
 
     def counts(self, asked):
         """Each tile's counts."""

@@ -95,11 +95,11 @@ def divided(person):
 
 
 def refused(person):
-    """A grid that does not fit."""
+    """A grid that is not taken."""
     person.arrive(1280, 720)
     person.click("welcome-sample")
     person.opened(set(), 1)
-    person.type("across", "7")
+    person.type("across", "17")
     person.mouse("mouseMoved", 5, 5)
     keep(person, "viewer-refusal.png")
 

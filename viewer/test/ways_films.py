@@ -182,21 +182,19 @@ def zeros(person, films):
     return "100,000,000 bytes"
 
 
-def other_depths(person, films):
-    """A film of 8 bits, and one that 8 by 8 tiles do not fit: the grid that is taken is told."""
-    shallow, odd = films.shallow, films.odd
-    for film in (shallow, odd):
+def other_films(person, films):
+    """A film of 8 bits, one whose sides are no multiple of the grid, and one that is narrower than the grid: the grid that is
+    taken is told, and so is whose limit it is where tiles differ."""
+    for film in (films.shallow, films.odd, films.narrow):
         person.choose(person.show(film))
         person.click("zoom-1-1")
         person.settled()
-        if film is shallow:
-            person.sees(shallow, shallow.usual())
-    asked = expected.settings(7, 7, 1024, 0, 4095, 3.0)
-    person.sees(odd, asked)
-    person.footed(odd, asked)
-    hold(person.text("film-note").count(": 7 taken") == 2, "the grid is not told:", person.text("film-note"))
-    return "maxval 255 with 256 bins; 77 by 63 with grid 7 by 7"
+        person.sees(film, film.usual())
+        person.footed(film, film.usual())
+        hold(("tiles differ" in person.text("footer-note")) == (film is films.odd), "the note is:", person.text("footer-note"))
+        hold((": 5 taken" in person.text("film-note")) == (film is films.narrow), "the note is:", person.text("film-note"))
+    return "maxval 255 with 256 bins; 77 by 63 with grid 8 by 8; 5 by 40 with grid 5 by 8"
 
 
 WAYS = [opens_from_the_disk, two_films_of_one_size, fast_switching, drop, close, refused_files, refused_among_good, zeros,
-        other_depths]
+        other_films]

@@ -117,13 +117,12 @@ def many_films(person, films):
     entries = {entry["number"]: entry["refused"] for entry in person.entries()}
     good = [number for number in numbers if not entries[number]]
     hold(len(set(numbers)) == 150, "numbers are given twice")
-    asked = expected.settings(7, 7, 1024, 0, 4095, 3.0)
     for number in (good[0], good[-1]):
         person.script("document.getElementById('film-' + arguments[0]).click()", number)
         person.settled()
         person.click("zoom-1-1")
         person.settled()
-        person.sees(films.odd, asked)
+        person.sees(films.odd, films.odd.usual())
     for number in [each for each in numbers if entries[each]][:1]:
         person.script("document.getElementById('film-' + arguments[0]).click()", number)
         person.settled()

@@ -111,11 +111,10 @@ def squares_and_means(person, films):
     """A film whose sides are no multiple of four, at each zoom: cut blocks at its edges too."""
     film = films.odd
     person.show(film)
-    asked = expected.settings(7, 7, 1024, 0, 4095, 3.0)
     for zoom in expected.ZOOMS:
         person.click("zoom-" + zoom)
         person.settled()
-        person.sees(film, asked, zoom)
+        person.sees(film, film.usual(), zoom)
     return "77 by 63"
 
 

@@ -24,6 +24,7 @@ def rendered_by_the_station(person, name, words):
 TRIALS = [
     ({}, []),
     ({"across": "4", "down": "12", "bins": "300", "factor": "1.7"}, ["--grid", "4x12", "--bins", "300", "--clip", "1.7"]),
+    ({"across": "7", "down": "5", "bins": "128"}, ["--grid", "7x5", "--bins", "128"]),
     ({"clip": False}, ["--clip", "off"]),
     ({"factor": "1"}, ["--clip", "1"]),
     ({"bins": "0", "min": "3", "factor": "1.00000012"}, ["--bins", "0", "--range", "3:4095", "--clip", "1.00000012"]),

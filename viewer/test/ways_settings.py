@@ -7,8 +7,8 @@ from selenium.webdriver.common.keys import Keys
 
 HOOK_PLOT = """
 const draw = window.drawTilePlot;
-window.drawTilePlot = probe => { window.plotted = probe && {counts: [...probe.counts], limit: probe.limit,
-  mapping: probe.mapping && [...probe.mapping]}; return draw(probe); };
+window.drawTilePlot = probe => { window.plotted = probe && {pixels: probe.tile.pixels, counts: [...probe.counts],
+  limit: probe.limit, mapping: probe.mapping && [...probe.mapping]}; return draw(probe); };
 """
 
 
@@ -37,11 +37,15 @@ def grid(person, films):
     as_set(person, film, across=16, down=8)
     person.type("down", "3")
     as_set(person, film, across=16, down=3)
+    person.type("across", "7")
+    person.type("down", "5")
+    as_set(person, film, across=7, down=5)
+    person.type("down", "3")
     person.slide("across-slider", Keys.HOME)
     as_set(person, film, across=2, down=3)
     person.slide("down-slider", Keys.END)
     as_set(person, film, across=2, down=16)
-    return "16 by 8, 16 by 3, 2 by 3, 2 by 16"
+    return "16 by 8, 16 by 3, 7 by 5, 2 by 3, 2 by 16"
 
 
 def bins(person, films):
@@ -168,12 +172,27 @@ def display(person, films):
 
 def refused_settings(person, films):
     """Each refusal that the controls can reach; the other film stays, and a good setting brings the picture back."""
-    film, sentences = films.sample, expected.sentences()
-    first, second = person.open(*[person.file(each.name, each.file()) for each in (film, films.twin)])
-    trials = [(3, {"across": "1"}), (3, {"across": "17"}), (4, {"down": "0"}), (4, {"down": "4294967295"}), (5, {"across": "7"}),
-              (6, {"down": "5"}), (7, {"max": "4096"}), (8, {"min": "4095"}), (8, {"min": "5000"}), (9, {"bins": "1"}),
-              (9, {"bins": "4097"}), (31, {"bins": "2000", "max": "1998"}), (10, {"factor": "0.99"}), (10, {"factor": "1025"}),
-              (10, {"factor": "nan"}), (10, {"factor": "inf"}), (10, {"factor": "-3"}), (13, {"max": "100"}), (13, {"min": "4000"})]
+    small, second, first = person.open(*[person.file(each.name, each.file())
+                                         for each in (films.small, films.twin, films.sample)])
+    person.choose(small)
+    refuse_each(person, small, second, [(5, {"across": "13"}), (6, {"down": "11"}), (5, {"across": "16", "down": "16"})])
+    person.choose(first)
+    refuse_each(person, first, second, REFUSED)
+    person.sees(films.sample, films.sample.usual())
+    person.choose(second)
+    person.sees(films.twin, films.twin.usual())
+    return "%d settings, refusals 5, 6 and %s" % (3 + len(REFUSED), sorted({number for number, _ in REFUSED}))
+
+
+REFUSED = [(3, {"across": "1"}), (3, {"across": "17"}), (4, {"down": "0"}), (4, {"down": "4294967295"}), (7, {"max": "4096"}),
+           (8, {"min": "4095"}), (8, {"min": "5000"}), (9, {"bins": "1"}), (9, {"bins": "4097"}),
+           (31, {"bins": "2000", "max": "1998"}), (10, {"factor": "0.99"}), (10, {"factor": "1025"}), (10, {"factor": "nan"}),
+           (10, {"factor": "inf"}), (10, {"factor": "-3"}), (13, {"max": "100"}), (13, {"min": "4000"})]
+
+
+def refuse_each(person, first, second, trials):
+    """Sets each on the first film, which is looked at; the second stays as it is."""
+    sentences = expected.sentences()
     for number, boxes in trials:
         before = {box: person.value(box) for box in boxes}
         chosen = person.element("bins-chosen").is_selected()
@@ -190,10 +209,6 @@ def refused_settings(person, films):
         person.check("bins-chosen", chosen)
         hold(not person.element("refusal").is_displayed(), "%d: the refusal stays behind a good setting" % number)
         hold(not person.canvas("scanned").blank(), "%d: no picture comes back" % number)
-    person.sees(film, film.usual())
-    person.choose(second)
-    person.sees(films.twin, films.twin.usual())
-    return "%d settings, refusals %s" % (len(trials), sorted({number for number, _ in trials}))
 
 
 def no_numbers(person, films):
@@ -212,10 +227,18 @@ def no_numbers(person, films):
 
 
 def pointer(person, films):
-    """Column, row, both greys and tile under the pointer, on both pictures, at three zooms and settings."""
-    film, tried = films.sample, 0
-    person.show(film)
-    for zoom, boxes in (("1-1", {}), ("4-1", {"across": "4", "down": "6", "bins": "300"}), ("1-4", {"factor": "1.5"})):
+    """Column, row, both greys and tile under the pointer, on both pictures, at three zooms and settings; on a film whose tiles
+    differ too."""
+    views = (("1-1", {}), ("4-1", {"across": "4", "down": "6", "bins": "300"}), ("1-4", {"factor": "1.5"}))
+    tried = read_some(person, films.sample, views)
+    tried += read_some(person, films.odd, (("4-1", {"across": "9", "down": "5"}), ("8-1", {"bins": "16"})))
+    return "%d pixels" % tried
+
+
+def read_some(person, film, views):
+    """Opens a film, and points at eight pixels of it at each zoom and setting."""
+    person.choose(person.show(film))
+    for zoom, boxes in views:
         for box, text in boxes.items():
             person.type(box, text)
         person.click("zoom-" + zoom)
@@ -223,8 +246,8 @@ def pointer(person, films):
         asked = set_now(person)
         edge = person.sees(film, asked, zoom)
         for i in range(8):
-            tried += read_one(person, film, asked, zoom, edge, i)
-    return "%d pixels" % tried
+            read_one(person, film, asked, zoom, edge, i)
+    return 8 * len(views)
 
 
 def read_one(person, film, asked, zoom, edge, i):
@@ -237,39 +260,41 @@ def read_one(person, film, asked, zoom, edge, i):
     x, y = int(from_x + (right - from_x) * (i * 37 % 100) // 99), int(from_y + (down - from_y) * (i * 61 % 100) // 99)
     person.mouse("mouseMoved", left + x, top + y)
     column, row = (x - edge[0]) // dots * block, (y - edge[1]) // dots * block
-    tile_width, tile_height = film.width // asked.across, film.height // asked.down
-    tile = column // tile_width, row // tile_height
+    number, tile = film.tile_at(column, row, asked)
     person.until("a reading of column %d" % column, lambda: person.text("at-column") == str(column), 5)
     person.settled()
     seen = [person.text("at-" + name) for name in ("column", "row", "scanned", "rendered", "tile", "rectangle")]
     same("at dot %d, %d of %s at %s" % (x, y, which, zoom), seen, [
         str(column), str(row), str(film.greys[row * film.width + column]), str(film.grey_at(column, row, asked)),
-        "%d across, %d down" % (tile[0] + 1, tile[1] + 1), "columns %d to %d, rows %d to %d" % (
-            tile[0] * tile_width, (tile[0] + 1) * tile_width - 1, tile[1] * tile_height, (tile[1] + 1) * tile_height - 1)])
-    return 1
+        "%d across, %d down" % (number % asked.across + 1, number // asked.across + 1),
+        "columns %d to %d, rows %d to %d" % (tile.left, tile.right - 1, tile.top, tile.bottom - 1)])
 
 
 def tile_plot(person, films):
-    """What the plot is given: the counts, the limit and the mapping of the tile under the pointer."""
-    film = films.sample
-    person.show(film)
+    """What the plot is given: the pixels, the counts, the limit and the mapping of the tile under the pointer, each tile's own
+    where they differ."""
     person.script(HOOK_PLOT)
+    for film, changes in ((films.sample, ({}, {"across": "4", "bins": "64", "factor": "1.2"})), (films.odd, ({}, {"bins": "16"}))):
+        person.choose(person.show(film))
+        for boxes in changes:
+            for box, text in boxes.items():
+                person.type(box, text)
+            plot_three(person, film)
+    return "twelve tiles"
+
+
+def plot_three(person, film):
+    """Points at three pixels, and holds what is plotted to the second program."""
+    person.click("zoom-1-1")
+    person.settled()
+    asked = set_now(person)
+    edge = person.sees(film, asked)
     left, top, _, _ = person.box("canvas-scanned")
-    for boxes in ({}, {"across": "4", "bins": "64", "factor": "1.2"}):
-        for box, text in boxes.items():
-            person.type(box, text)
-        asked = set_now(person)
-        edge = person.sees(film, asked)
-        counts, (maps, footer) = film.counts(asked), film.mappings(asked)
-        for x, y in ((3, 5), (300, 100), (511, 383)):
-            person.mouse("mouseMoved", left + edge[0] + x, top + edge[1] + y)
-            person.until("a reading", lambda: (person.text("at-column"), person.text("at-row")) == (str(x), str(y)), 5)
-            person.settled()
-            tile = y // (film.height // asked.down) * asked.across + x // (film.width // asked.across)
-            part = slice(tile * asked.bins, (tile + 1) * asked.bins)
-            same("the plot of the tile at %d, %d" % (x, y), person.script("return window.plotted"),
-                 {"counts": counts[part], "limit": footer.limit, "mapping": maps[part]})
-    return "six tiles"
+    for x, y in ((3, 5), (film.width * 3 // 5, film.height // 4), (film.width - 1, film.height - 1)):
+        person.mouse("mouseMoved", left + edge[0] + x, top + edge[1] + y)
+        person.until("a reading", lambda: (person.text("at-column"), person.text("at-row")) == (str(x), str(y)), 5)
+        person.settled()
+        same("the plot of the tile at %d, %d" % (x, y), person.script("return window.plotted"), film.plot(x, y, asked))
 
 
 WAYS = [grid, bins, grey_range, factor, newest_wins, display, refused_settings, no_numbers, pointer, tile_plot]

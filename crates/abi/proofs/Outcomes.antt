@@ -24,19 +24,19 @@ use Rattle.abi.proofs.Runs.{TzPrepareCall, TzPrepares, tz-prepare-given
 
 -- ---- tz_prepare
 
--- any two outcomes are equal: its number, map buffer and scratch, the record's nine numbers and factor, and the footer's three cells
+-- any two outcomes are equal: its number, map buffer and scratch, and the cells: the record's nine numbers, factor and four arrays, and the footer's three
 pub tz-prepare-determined : {c k : TzPrepareCall} → TzPrepares c → TzPrepares k → tz-prepare-given c ≡ tz-prepare-given k
-    → (c .number ≡ k .number) × (c .map′ ≡ k .map′) × (c .scratch′ ≡ k .scratch′) × (c .numbers′ ≡ k .numbers′) × (c .factor′ ≡ k .factor′) × (c .foot′ ≡ k .foot′)
+    → (c .number ≡ k .number) × (c .map′ ≡ k .map′) × (c .scratch′ ≡ k .scratch′) × (c .cells′ ≡ k .cells′)
 tz-prepare-determined x y same =
-    let e = tz-prepare-ends x ∙ ap (λ g. flatPrepared (prepareOf (g .0) (g .1) (g .2) (g .3) (g .4) (g .5) (g .6)) (g .7) (g .8) (g .9)) same ∙ sym (tz-prepare-ends y) in
-    (ap (λ (z : FlatPrepared). z .number) e, ap (λ (z : FlatPrepared). z .map) e, ap (λ (z : FlatPrepared). z .scratch) e, ap (λ (z : FlatPrepared). z .numbers) e, ap (λ (z : FlatPrepared). z .factor) e, ap (λ (z : FlatPrepared). z .foot) e)
+    let e = tz-prepare-ends x ∙ ap (λ g. flatPrepared (prepareOf (g .0) (g .1) (g .2) (g .3) (g .4) (g .5) (g .6)) (g .7)) same ∙ sym (tz-prepare-ends y) in
+    (ap (λ (z : FlatPrepared). z .number) e, ap (λ (z : FlatPrepared). z .map) e, ap (λ (z : FlatPrepared). z .scratch) e, ap (λ (z : FlatPrepared). z .cells) e)
 
 -- a refusal keeps lent memory
-pub tz-prepare-refusal-keeps : {c : TzPrepareCall} → TzPrepares c → 0 < c .number → (c .map′ ≡ c .map) × (c .scratch′ ≡ c .scratch) × (c .numbers′ ≡ c .numbers) × (c .factor′ ≡ c .factor) × (c .foot′ ≡ c .foot)
+pub tz-prepare-refusal-keeps : {c : TzPrepareCall} → TzPrepares c → 0 < c .number → (c .map′ ≡ c .map) × (c .scratch′ ≡ c .scratch) × (c .cells′ ≡ c .cells)
 unfolding flatPrepared preparedSays preparedOf
 tz-prepare-refusal-keeps {c} ran l =
-    let e = returned-kept (prepare-table _ _ _ _ _ _ _) (λ e. flatPrepared e (c .numbers) (c .factor) (c .foot)) (λ (z : FlatPrepared). z .number) refl (λ k. refl) (tz-prepare-ends ran) l in
-    (ap (λ (z : FlatPrepared). z .map) e, ap (λ (z : FlatPrepared). z .scratch) e, ap (λ (z : FlatPrepared). z .numbers) e, ap (λ (z : FlatPrepared). z .factor) e, ap (λ (z : FlatPrepared). z .foot) e)
+    let e = returned-kept (prepare-table _ _ _ _ _ _ _) (λ e. flatPrepared e (c .cells)) (λ (z : FlatPrepared). z .number) refl (λ k. refl) (tz-prepare-ends ran) l in
+    (ap (λ (z : FlatPrepared). z .map) e, ap (λ (z : FlatPrepared). z .scratch) e, ap (λ (z : FlatPrepared). z .cells) e)
 
 -- ---- tz_enhance
 
@@ -60,7 +60,7 @@ tz-enhance-refusal-keeps {c} ran l =
 pub tz-draw-determined : {c k : TzDrawCall} → TzDraws c → TzDraws k → tz-draw-given c ≡ tz-draw-given k
     → (c .number ≡ k .number) × (c .out′ ≡ k .out′)
 tz-draw-determined x y same =
-    let e = tz-draw-ends x ∙ ap (λ g. flatDrawn (drawOf (g .0) (g .1) (g .2) (g .3) (g .4) (recordFrom (g .5) (g .6)) (g .7) (g .8) (g .9))) same ∙ sym (tz-draw-ends y) in
+    let e = tz-draw-ends x ∙ ap (λ g. flatDrawn (drawOf (g .0) (g .1) (g .2) (g .3) (g .4) (recordFrom (g .5) (g .6) (g .7)) (g .8) (g .9) (g .10))) same ∙ sym (tz-draw-ends y) in
     (ap (λ (z : FlatDrawn). z .number) e, ap (λ (z : FlatDrawn). z .out) e)
 
 -- a refusal keeps lent memory

@@ -12,8 +12,8 @@ use Rattle.settings.specs.declared.Window.{Window}
 use Rattle.prepare.specs.Prepare.{prepareOf, enhanceOf}
 use Rattle.draw.specs.Draw.{drawOf}
 use Rattle.listing.specs.Listing.{listOf}
-use Rattle.flat.specs.Flat.{settingsFrom, recordFrom, windowFrom}
-use Rattle.flat.specs.Films.{Foot, footed, preparedAs, flatPrepared, enhancedAs, flatEnhanced, drawnAs, flatDrawn}
+use Rattle.flat.specs.Flat.{settingsFrom, Axes, axed, recordFrom, windowFrom}
+use Rattle.flat.specs.Films.{Foot, footed, Cells, celled, preparedAs, flatPrepared, enhancedAs, flatEnhanced, drawnAs, flatDrawn}
 use Rattle.flat.specs.Files.{writtenAs, flatWritten}
 use Rattle.abi.proofs.films.tz_prepare.Kinds as prepare
 use Rattle.abi.proofs.films.tz_prepare.Reads as prepare-reads
@@ -26,7 +26,7 @@ use Rattle.abi.proofs.listed.tz_listing.Reads as listing-reads
 
 -- ---- tz_prepare
 
--- `numbers` and `factor` are the cells of the map record, `foot` those of the footer
+-- `cells` are those of the map record and of the footer
 pub record TzPrepareCall : Type 0 where
   pub film : ℕ
   pub width : ℕ
@@ -35,31 +35,27 @@ pub record TzPrepareCall : Type 0 where
   pub settings : Settings
   pub map : List ℕ
   pub scratch : List ℕ
-  pub numbers : List ℕ
-  pub factor : Float
-  pub foot : Foot
+  pub cells : Cells
   pub number : ℕ
   pub map′ : List ℕ
   pub scratch′ : List ℕ
-  pub numbers′ : List ℕ
-  pub factor′ : Float
-  pub foot′ : Foot
+  pub cells′ : Cells
 
 abbrev pub tz-prepare-values : Run prepare.ps prepare.r prepare-reads.Post → TzPrepareCall
 tz-prepare-values run =
-    let (film, (width, (height, (pixels, (across, (down, (bins, (min, (max, (clip, (asked-factor, (map, (scratch, (numbers, (factor, (limit, (asked, (used, end)))))))))))))))))) = run .handed in
-    let (_, (_, (_, (_, (_, (_, (_, (_, (_, (_, (_, (map′, (scratch′, (numbers′, (factor′, (limit′, (asked′, (used′, end′)))))))))))))))))) = run .left in
-    record { film = film; width = width; height = height; pixels = now pixels; settings = settingsFrom across down bins min max clip asked-factor; map = now map; scratch = now scratch; numbers = now numbers; factor = now factor; foot = footed (now limit) (now asked) (now used); number = run .answer; map′ = now map′; scratch′ = now scratch′; numbers′ = now numbers′; factor′ = now factor′; foot′ = footed (now limit′) (now asked′) (now used′) }
+    let (film, (width, (height, (pixels, (across, (down, (bins, (min, (max, (clip, (asked-factor, (map, (scratch, (numbers, (factor, (limit, (asked, (used, (column-edges, (column-centres, (row-edges, (row-centres, end)))))))))))))))))))))) = run .handed in
+    let (_, (_, (_, (_, (_, (_, (_, (_, (_, (_, (_, (map′, (scratch′, (numbers′, (factor′, (limit′, (asked′, (used′, (column-edges′, (column-centres′, (row-edges′, (row-centres′, end′)))))))))))))))))))))) = run .left in
+    record { film = film; width = width; height = height; pixels = now pixels; settings = settingsFrom across down bins min max clip asked-factor; map = now map; scratch = now scratch; cells = celled (now numbers) (now factor) (axed (now column-edges) (now column-centres) (now row-edges) (now row-centres)) (footed (now limit) (now asked) (now used)); number = run .answer; map′ = now map′; scratch′ = now scratch′; cells′ = celled (now numbers′) (now factor′) (axed (now column-edges′) (now column-centres′) (now row-edges′) (now row-centres′)) (footed (now limit′) (now asked′) (now used′)) }
 
 -- what it is handed
-abbrev pub tz-prepare-given : TzPrepareCall → ℕ × ℕ × ℕ × List ℕ × Settings × List ℕ × List ℕ × List ℕ × Float × Foot
-tz-prepare-given c = (c .film, c .width, c .height, c .pixels, c .settings, c .map, c .scratch, c .numbers, c .factor, c .foot)
+abbrev pub tz-prepare-given : TzPrepareCall → ℕ × ℕ × ℕ × List ℕ × Settings × List ℕ × List ℕ × Cells
+tz-prepare-given c = (c .film, c .width, c .height, c .pixels, c .settings, c .map, c .scratch, c .cells)
 
 -- tz_prepare ran with these values
 abbrev pub TzPrepares : TzPrepareCall → Type 0
 TzPrepares = Ran tz-prepare-values
 
-pub tz-prepare-ends : {c : TzPrepareCall} → TzPrepares c → preparedAs (c .number) (c .map′) (c .scratch′) (c .numbers′) (c .factor′) (c .foot′) ≡ flatPrepared (prepareOf (c .film) (c .width) (c .height) (c .pixels) (c .settings) (c .map) (c .scratch)) (c .numbers) (c .factor) (c .foot)
+pub tz-prepare-ends : {c : TzPrepareCall} → TzPrepares c → preparedAs (c .number) (c .map′) (c .scratch′) (c .cells′) ≡ flatPrepared (prepareOf (c .film) (c .width) (c .height) (c .pixels) (c .settings) (c .map) (c .scratch)) (c .cells)
 tz-prepare-ends ran = rw (ran .named) (ran .run .allowed)
 
 -- ---- tz_enhance
@@ -97,7 +93,7 @@ tz-enhance-ends ran = rw (ran .named) (ran .run .allowed)
 
 -- ---- tz_draw
 
--- `numbers` and `factor` are the map record that is handed in
+-- `numbers`, `factor` and `axes` are the map record that is handed in
 pub record TzDrawCall : Type 0 where
   pub film : ℕ
   pub width : ℕ
@@ -106,6 +102,7 @@ pub record TzDrawCall : Type 0 where
   pub settings : Settings
   pub numbers : List ℕ
   pub factor : Float
+  pub axes : Axes
   pub window : Window
   pub map : List ℕ
   pub out : List ℕ
@@ -114,19 +111,19 @@ pub record TzDrawCall : Type 0 where
 
 abbrev pub tz-draw-values : Run draw.ps draw.r draw-reads.Post → TzDrawCall
 tz-draw-values run =
-    let (film, (width, (height, (pixels, (across, (down, (bins, (min, (max, (clip, (asked-factor, (numbers, (factor, (left, (top, (window-width, (window-height, (map, (out, end))))))))))))))))))) = run .handed in
+    let (film, (width, (height, (pixels, (across, (down, (bins, (min, (max, (clip, (asked-factor, (numbers, (factor, (left, (top, (window-width, (window-height, (map, (out, (column-edges, (column-centres, (row-edges, (row-centres, end))))))))))))))))))))))) = run .handed in
     let (_, (_, (_, (_, (_, (_, (_, (_, (_, (_, (_, (_, (_, (_, (_, (_, (_, (_, (out′, end′))))))))))))))))))) = run .left in
-    record { film = film; width = width; height = height; pixels = now pixels; settings = settingsFrom across down bins min max clip asked-factor; numbers = now numbers; factor = factor; window = windowFrom left top window-width window-height; map = now map; out = now out; number = run .answer; out′ = now out′ }
+    record { film = film; width = width; height = height; pixels = now pixels; settings = settingsFrom across down bins min max clip asked-factor; numbers = now numbers; factor = factor; axes = axed (now column-edges) (now column-centres) (now row-edges) (now row-centres); window = windowFrom left top window-width window-height; map = now map; out = now out; number = run .answer; out′ = now out′ }
 
 -- what it is handed
-abbrev pub tz-draw-given : TzDrawCall → ℕ × ℕ × ℕ × List ℕ × Settings × List ℕ × Float × Window × List ℕ × List ℕ
-tz-draw-given c = (c .film, c .width, c .height, c .pixels, c .settings, c .numbers, c .factor, c .window, c .map, c .out)
+abbrev pub tz-draw-given : TzDrawCall → ℕ × ℕ × ℕ × List ℕ × Settings × List ℕ × Float × Axes × Window × List ℕ × List ℕ
+tz-draw-given c = (c .film, c .width, c .height, c .pixels, c .settings, c .numbers, c .factor, c .axes, c .window, c .map, c .out)
 
 -- tz_draw ran with these values
 abbrev pub TzDraws : TzDrawCall → Type 0
 TzDraws = Ran tz-draw-values
 
-pub tz-draw-ends : {c : TzDrawCall} → TzDraws c → drawnAs (c .number) (c .out′) ≡ flatDrawn (drawOf (c .film) (c .width) (c .height) (c .pixels) (c .settings) (recordFrom (c .numbers) (c .factor)) (c .window) (c .map) (c .out))
+pub tz-draw-ends : {c : TzDrawCall} → TzDraws c → drawnAs (c .number) (c .out′) ≡ flatDrawn (drawOf (c .film) (c .width) (c .height) (c .pixels) (c .settings) (recordFrom (c .numbers) (c .factor) (c .axes)) (c .window) (c .map) (c .out))
 tz-draw-ends ran = rw (ran .named) (ran .run .allowed)
 
 -- ---- tz_listing

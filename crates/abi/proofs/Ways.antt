@@ -8,7 +8,9 @@ use mathlib.Core.Path.{_≡_, refl, sym, ap, subst, _∙_}
 use native.Mathlib.Omega.{arith}
 use lib.ListN.{length, getD}
 use Rattle.refuse.specs.Refuse.{first, accepted, says}
+use Rattle.settings.specs.declared.MapRecord.{MapRecord}
 use Rattle.settings.specs.Settings.{recordOf, clipOne}
+use Rattle.settings.proofs.Records.{record-film}
 use Rattle.prepare.specs.Prepare.{preparedSays, prepareRows, Ended, prepareOf, preparedOf}
 use Rattle.tiles.specs.Tiles.{footOf}
 use Rattle.draw.specs.Draw.{drawRows, drawnSays, drawOf}
@@ -16,13 +18,13 @@ use Rattle.draw.proofs.Tables.{draw-ready}
 use Rattle.promises.specs.Films.{ruleGrey, HandedOn}
 use Rattle.promises.proofs.Accepted.{table-says, returned-number, prepare-table, draw-table}
 use Rattle.promises.proofs.Demand2.{draw-agrees, own-window, drawn-is-film}
-use Rattle.flat.specs.Flat.{returned, clipFactor, recordNumbers, recordFrom}
-use Rattle.flat.specs.Films.{FlatPrepared, preparedAs, preparedBy, flatPrepared, footAfter, FlatDrawn, flatDrawn}
+use Rattle.flat.specs.Flat.{returned, clipFactor, recordNumbers, axesAfter, recordFrom}
+use Rattle.flat.specs.Films.{FlatPrepared, celled, cellsAfter, preparedAs, flatPrepared, footAfter, FlatDrawn, flatDrawn}
 use Rattle.flat.proofs.Handed.{record-back}
 use Rattle.abi.proofs.Runs.{TzPrepareCall, TzPrepares, tz-prepare-ends, TzDrawCall, TzDraws, tz-draw-ends}
 use Rattle.abi.proofs.Outcomes.{tz-draw-refusal-keeps}
 
--- what tz_prepare left, handed to tz_draw: tz_prepare returned 0 for the film of p, and tz_draw is handed the same film with the numbers and the factor that lie in the record's cells,
+-- what tz_prepare left, handed to tz_draw: tz_prepare returned 0 for the film of p, and tz_draw is handed the same film with the numbers, the factor and the arrays that lie in the record's cells,
 -- the settings, the mappings that lie in the map buffer, a window inside the film and an output of its area
 pub record TzHandedToDraw (p : TzPrepareCall) (d : TzDrawCall) : Type 0 where
   pub prepares : TzPrepares p
@@ -32,11 +34,16 @@ pub record TzHandedToDraw (p : TzPrepareCall) (d : TzDrawCall) : Type 0 where
   pub width : d .width ≡ p .width
   pub height : d .height ≡ p .height
   pub pixels : d .pixels ≡ p .pixels
-  pub numbers : d .numbers ≡ p .numbers′
-  pub factor : d .factor ≡ p .factor′
+  pub numbers : d .numbers ≡ p .cells′ .numbers
+  pub factor : d .factor ≡ p .cells′ .factor
+  pub axes : d .axes ≡ p .cells′ .axes
   pub rest : HandedOn (p .width) (p .height) (p .settings) (p .map′) (d .settings) (d .map) (d .window) (length (d .out))
 
 module _ {p : TzPrepareCall} (ran : TzPrepares p) (prepared : p .number ≡ 0) where
+  -- the film's record
+  abbrev made : MapRecord
+  made = recordOf (p .film) (p .width) (p .height) (p .settings)
+
   -- what the call beneath gives
   abbrev ended : Ended
   ended = prepareOf (p .film) (p .width) (p .height) (p .pixels) (p .settings) (p .map) (p .scratch)
@@ -44,29 +51,30 @@ module _ {p : TzPrepareCall} (ran : TzPrepares p) (prepared : p .number ≡ 0) w
   none : first (prepareRows (p .width) (p .height) (p .pixels) (p .settings) (length (p .map)) (length (p .scratch))) ≡ 0
   unfolding flatPrepared preparedSays preparedOf
   none =
-      sym (returned-number (prepare-table _ _ _ _ _ _ _) (λ e. flatPrepared e (p .numbers) (p .factor) (p .foot)) (λ (z : FlatPrepared). z .number) refl (λ k. refl))
+      sym (returned-number (prepare-table _ _ _ _ _ _ _) (λ e. flatPrepared e (p .cells)) (λ (z : FlatPrepared). z .number) refl (λ k. refl))
       ∙ sym (ap (λ (z : FlatPrepared). z .number) (tz-prepare-ends ran))
       ∙ prepared
 
-  done : preparedSays (ended .answer) ≡ accepted (recordOf (p .film) (p .width) (p .height) (p .settings), footOf (p .width) (p .height) (p .settings))
-  done =
-      table-says (prepare-table _ _ _ _ _ _ _)
-      ∙ ap (λ n. says n (recordOf (p .film) (p .width) (p .height) (p .settings), footOf (p .width) (p .height) (p .settings))) none
+  done : preparedSays (ended .answer) ≡ accepted (made, footOf (p .width) (p .height) (p .settings))
+  done = table-says (prepare-table _ _ _ _ _ _ _) ∙ ap (λ n. says n (made, footOf (p .width) (p .height) (p .settings))) none
 
   -- so the cells hold the film's record, and the map buffer what it gives
-  left : preparedAs (p .number) (p .map′) (p .scratch′) (p .numbers′) (p .factor′) (p .foot′)
-      ≡ preparedAs 0 (ended .map) (ended .scratch) (recordNumbers (recordOf (p .film) (p .width) (p .height) (p .settings))) (clipFactor (p .settings .clip))
-      (footAfter (footOf (p .width) (p .height) (p .settings)))
+  left : preparedAs (p .number) (p .map′) (p .scratch′) (p .cells′)
+      ≡ preparedAs 0 (ended .map) (ended .scratch)
+      (celled (recordNumbers made) (clipFactor (made .settings .clip)) (axesAfter made) (footAfter (footOf (p .width) (p .height) (p .settings))))
   unfolding flatPrepared
-  left = tz-prepare-ends ran ∙ ap (λ x. preparedBy x (ended .map) (ended .scratch) (p .numbers) (p .factor) (p .foot)) done
+  left = tz-prepare-ends ran ∙ ap (λ x. preparedAs (returned x) (ended .map) (ended .scratch) (cellsAfter x (p .cells))) done
 
   left-map : p .map′ ≡ ended .map
   left-map = ap (λ (z : FlatPrepared). z .map) left
 
   -- read back, it is that record
-  left-record : recordFrom (p .numbers′) (p .factor′) ≡ recordOf (p .film) (p .width) (p .height) (p .settings)
-  left-record =
-      ap (λ (z : FlatPrepared). recordFrom (z .numbers) (z .factor)) left ∙ record-back (recordOf (p .film) (p .width) (p .height) (p .settings))
+  left-record : recordFrom (p .cells′ .numbers) (p .cells′ .factor) (p .cells′ .axes) ≡ made
+  left-record = ap (λ (z : FlatPrepared). recordFrom (z .cells .numbers) (z .cells .factor) (z .cells .axes)) left ∙ record-back made
+
+  -- its first number is the film's
+  left-film : getD (p .cells′ .numbers) 0 0 ≡ p .film
+  left-film = ap (λ (r : MapRecord). r .film) left-record ∙ record-film _ _ _ (p .settings)
 
 module _ {p : TzPrepareCall} {d : TzDrawCall} (handed : TzHandedToDraw p d) where
   rest : HandedOn (p .width) (p .height) (p .settings) (ended (handed .prepares) (handed .prepared) .map) (d .settings) (d .map) (d .window) (length (d .out))
@@ -75,9 +83,9 @@ module _ {p : TzPrepareCall} {d : TzDrawCall} (handed : TzHandedToDraw p d) wher
       (left-map (handed .prepares) (handed .prepared)) (handed .rest)
 
   -- the call beneath is handed that record
-  shows : drawOf (d .film) (d .width) (d .height) (d .pixels) (d .settings) (recordFrom (d .numbers) (d .factor)) (d .window) (d .map) (d .out)
+  shows : drawOf (d .film) (d .width) (d .height) (d .pixels) (d .settings) (recordFrom (d .numbers) (d .factor) (d .axes)) (d .window) (d .map) (d .out)
       ≡ drawOf (p .film) (p .width) (p .height) (p .pixels) (d .settings) (recordOf (p .film) (p .width) (p .height) (p .settings)) (d .window) (d .map) (d .out)
-  shows = rw (handed .film, handed .width, handed .height, handed .pixels, handed .numbers, handed .factor, left-record (handed .prepares) (handed .prepared)) refl
+  shows = rw (handed .film, handed .width, handed .height, handed .pixels, handed .numbers, handed .factor, handed .axes, left-record (handed .prepares) (handed .prepared)) refl
 
   -- tz_draw refuses nothing
   pub tz-drawn-done : d .number ≡ 0
@@ -105,19 +113,19 @@ module _ {p : TzPrepareCall} {d : TzDrawCall} (handed : TzHandedToDraw p d) wher
       ∙ drawn-is-film (p .film) (p .width) (p .height) (p .pixels) (p .settings) (p .map) (p .scratch) (done (handed .prepares) (handed .prepared)) (d .settings) (d .map) (d .window) (d .out) rest one j i l k
 
 -- "A window drawn with the record of a film of another number is refused.": handed the numbers that tz_prepare left and another film's number, whatever else
-pub tz-other-film-refused : {p : TzPrepareCall} {d : TzDrawCall} → TzPrepares p → p .number ≡ 0 → TzDraws d → d .numbers ≡ p .numbers′ → d .film ≢ p .film
+pub tz-other-film-refused : {p : TzPrepareCall} {d : TzDrawCall} → TzPrepares p → p .number ≡ 0 → TzDraws d → d .numbers ≡ p .cells′ .numbers → d .film ≢ p .film
     → (0 < d .number) × (d .out′ ≡ d .out)
 unfolding flatDrawn drawnSays
 tz-other-film-refused {p} {d} ran prepared drew numbers other = (some, tz-draw-refusal-keeps drew some)
   where
-    number : d .number ≡ first (drawRows (d .film) (d .width) (d .height) (d .pixels) (d .settings) (recordFrom (d .numbers) (d .factor)) (d .window) (d .map) (length (d .out)))
+    number : d .number ≡ first (drawRows (d .film) (d .width) (d .height) (d .pixels) (d .settings) (recordFrom (d .numbers) (d .factor) (d .axes)) (d .window) (d .map) (length (d .out)))
     number =
         ap (λ (z : FlatDrawn). z .number) (tz-draw-ends drew)
         ∙ returned-number (draw-table _ _ _ _ _ _ _ _ _) flatDrawn (λ (z : FlatDrawn). z .number) refl (λ k. refl)
 
     above : (n : ℕ) → d .number ≡ n → 0 < d .number
     above zero e =
-        absurd (other (draw-ready _ _ _ _ _ _ _ _ _ (sym number ∙ e) .held .number ∙ (ap (λ ns. getD ns 0 0) numbers ∙ ap (λ (z : FlatPrepared). getD (z .numbers) 0 0) (left ran prepared))))
+        absurd (other (draw-ready _ _ _ _ _ _ _ _ _ (sym number ∙ e) .held .number ∙ (ap (λ ns. getD ns 0 0) numbers ∙ left-film ran prepared)))
     above (suc n) e = omega arith
 
     some : 0 < d .number

@@ -2,12 +2,11 @@
 ghost use mathlib.Core.Path.{_≡_};
 ghost use Rattle.counting.specs.Counting.{countOf};
 ghost use Rattle.counts.specs.Counts.{mapOf};
-ghost use Rattle.flat.specs.Flat.{settingsFrom};
-ghost use Rattle.flat.specs.Films.{footed, preparedAs, flatPrepared};
+ghost use Rattle.flat.specs.Flat.{settingsFrom, axed};
+ghost use Rattle.flat.specs.Films.{footed, celled, preparedAs, flatPrepared};
 ghost use Rattle.abi_counts.specs.Flat.{unclipped, countedAs, flatCounted};
 use counting::Counted;
 use limit::Clip;
-use prepare::Prepared;
 use settings::Settings;
 
 // Counting never looks at the clip setting, so it is not asked for.
@@ -60,17 +59,25 @@ pub extern "C" fn tz_map(
     limit: &mut u32,
     asked: &mut f32,
     used: &mut f64,
+    column_edges: &mut [u32; 17],
+    column_centres: &mut [u32; 16],
+    row_edges: &mut [u32; 17],
+    row_centres: &mut [u32; 16],
 ) -> u32
-    ensures { λ r. ⌜ preparedAs r (now (map .exit)) (now (scratch .exit)) (now (numbers .exit)) (now (kept .exit)) (footed (now (limit .exit)) (now (asked .exit)) (now (used .exit))) ≡ flatPrepared (mapOf film width height (settingsFrom across down bins min max clip factor) (now (counts .entry)) (now (map .entry)) (now (scratch .entry))) (now (numbers .entry)) (now (kept .entry)) (footed (now (limit .entry)) (now (asked .entry)) (now (used .entry))) ⌝ }
+    ensures { λ r. ⌜ preparedAs r (now (map .exit)) (now (scratch .exit)) (celled (now (numbers .exit)) (now (kept .exit)) (axed (now («column_edges» .exit)) (now («column_centres» .exit)) (now («row_edges» .exit)) (now («row_centres» .exit))) (footed (now (limit .exit)) (now (asked .exit)) (now (used .exit)))) ≡ flatPrepared (mapOf film width height (settingsFrom across down bins min max clip factor) (now (counts .entry)) (now (map .entry)) (now (scratch .entry))) (celled (now (numbers .entry)) (now (kept .entry)) (axed (now («column_edges» .entry)) (now («column_centres» .entry)) (now («row_edges» .entry)) (now («row_centres» .entry))) (footed (now (limit .entry)) (now (asked .entry)) (now (used .entry)))) ⌝ }
 {
     let s = flat::settings_from(across, down, bins, min, max, clip, factor);
-    let answer = counts::map_counts(film, width, height, s, counts, map, scratch);
-    match answer {
-        Prepared::Done(record, foot) => {
-            flat::put_record(numbers, kept, record);
-            flat::put_footer(limit, asked, used, foot);
-            0
-        }
-        Prepared::Refused(n) => n,
-    }
+    let prepared = counts::map_counts(film, width, height, s, counts, map, scratch);
+    flat::put_prepared(
+        numbers,
+        kept,
+        limit,
+        asked,
+        used,
+        column_edges,
+        column_centres,
+        row_edges,
+        row_centres,
+        prepared,
+    )
 }

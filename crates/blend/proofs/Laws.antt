@@ -1,63 +1,13 @@
--- Laws of places between tile centres and of the grey: what callers use, so that nobody opens `placeOf`.
+-- Laws of sound places and of the grey: what callers use, so that nobody opens `greyOf`.
 -- Assumes nothing.
-use Prim.Native.Nat.{ℕ, _+_, _-_, _*_, _/_, _%_, _≤_, _<_}
-use mathlib.Core.Logic.{_≢_}
-use mathlib.Core.Bool.{Bool, true, false}
+use Prim.Native.Nat.{ℕ, _+_, _-_, _*_, _/_, _≤_, _<_}
 use mathlib.Core.Path.{_≡_, refl, sym, ap, ap₂, _∙_}
-use lib.Arith.{digits-div, digits-mod}
-use lib.Dec.{ltb, eqb}
-use borrow.Author.Tests.{lt-ltb, le-ltb, eq-eqb, ne-eqb, eqb-true, eqb-false, ltb-true, ltb-false}
-use native.Mathlib.Nat.{mul-comm, mul-assoc, add-mul, zero-mul, mul-le-mul-left, mul-le-mul-right, mod-lt, div-lt-iff-lt-mul, le-div-iff-mul-le, mul-div-cancel-left, mul-pos, div-le-of-le-mul, le-refl, div-mul-le-self, one-mul, mul-le-mul, div-add-mod', div-le-self, mul-one, mul-add, mul-left-comm}
+use borrow.Author.Tests.{lt-ltb, le-ltb}
+use native.Mathlib.Nat.{mul-comm, mul-assoc, add-mul, zero-mul, mul-le-mul-left, mul-le-mul-right, le-div-iff-mul-le, mul-div-cancel-left, mul-pos, div-le-of-le-mul, le-refl, div-mul-le-self, one-mul, mul-le-mul, mul-add, mul-left-comm}
 use native.Mathlib.Omega.{arith}
 use Rattle.blend.specs.declared.Place.{Place}
-use Rattle.blend.specs.Blend.{half, alone, between, placeOf, weighedOf, greyOf, pairOf, sidesOf, Sound, inverseOf, Inverse, moved, Run, lengthOf}
+use Rattle.blend.specs.Blend.{weighedOf, greyOf, pairOf, sidesOf, Sound, inverseOf, Inverse, moved}
 use Rattle.lists.proofs.Inverses.{by-inverse}
-
--- ---- places
-
--- a tile below the grid that is used alone
-pub alone-sound : (side grid k : ℕ) → 0 < side → k < grid → Sound grid side (alone side k)
-alone-sound side grid k s h = record { weights = omega arith; some = s; bound = omega arith; lower = h; upper = h }
-
--- two tiles side by side, the offset below the side
-pub between-sound : (side grid k o : ℕ) → 0 < side → k + 1 < grid → o < side → Sound grid side (between side k o)
-between-sound side grid k o s h l = record { weights = omega arith; some = s; bound = omega arith; lower = omega arith; upper = h }
-
--- the tile below a column of the film is one of the grid's
-pub tile-below : (side grid x : ℕ) → 0 < side → x < side * grid → (x - half side) / side < grid
-tile-below side grid x s h = div-lt-iff-lt-mul {k = side} {x = x - half side} {y = grid} s .1 (omega (arith, mul-comm side grid))
-
--- a column below half uses tile 0 alone
-pub place-first : (side grid x : ℕ) → x < half side → placeOf side grid x ≡ alone side 0
-unfolding placeOf
-place-first side grid x h = rw (lt-ltb x (half side) h) refl
-
--- the last tile is used alone
-pub place-last : (side grid x : ℕ) → half side ≤ x → (x - half side) / side + 1 ≡ grid → placeOf side grid x ≡ alone side ((x - half side) / side)
-unfolding placeOf
-place-last side grid x h e = rw (le-ltb x (half side) h, eq-eqb ((x - half side) / side + 1) grid e) refl
-
--- any other column stands between two tiles
-pub place-between : (side grid x : ℕ) → half side ≤ x → ((x - half side) / side + 1 ≡ grid → ⊥) → placeOf side grid x ≡ between side ((x - half side) / side) ((x - half side) % side)
-unfolding placeOf
-place-between side grid x h e = rw (le-ltb x (half side) h, ne-eqb ((x - half side) / side + 1) grid e) refl
-
--- each column or row of the film has a sound place: weights that add up to the span, tiles of the grid, a span above 0 and at most the side
-pub place-sound : (side grid x : ℕ) → 0 < side → x < side * grid → Sound grid side (placeOf side grid x)
-place-sound side grid x s h = near (ltb x (half side)) refl
-  where
-    k : ℕ
-    k = (x - half side) / side
-
-    last : half side ≤ x → (b : Bool) → eqb (k + 1) grid ≡ b → Sound grid side (placeOf side grid x)
-    last l true e = rw (place-last side grid x l (eqb-true (k + 1) grid e)) (alone-sound side grid k s (tile-below side grid x s h))
-    last l false e =
-        let n : k + 1 ≢ grid = eqb-false (k + 1) grid e in
-        rw (place-between side grid x l n) (between-sound side grid k ((x - half side) % side) s (omega (arith, tile-below side grid x s h)) (mod-lt (x - half side) s))
-
-    near : (b : Bool) → ltb x (half side) ≡ b → Sound grid side (placeOf side grid x)
-    near true e = rw (place-first side grid x (ltb-true x (half side) e)) (alone-sound side grid 0 s (omega (arith, tile-below side grid x s h)))
-    near false e = last (ltb-false x (half side) e) (eqb (k + 1) grid) refl
 
 -- ---- the grey
 
@@ -201,132 +151,7 @@ pub sides-grey : (column row : Place) (a b c d : ℕ) → sidesOf column row (pa
 unfolding sidesOf greyOf
 sides-grey column row a b c d = ap (λ n. n / (column .span * row .span)) (weighed-sides column row a b c d)
 
--- ---- columns between the same tiles
-
--- a column below half, at the last tile, or between two tiles
-pub record Cases (side grid x : ℕ) (p : Place) (R : Type 0) : Type 0 where
-  pub first : x < half side → p ≡ alone side 0 → R
-  pub last : half side ≤ x → (x - half side) / side + 1 ≡ grid → p ≡ alone side ((x - half side) / side) → R
-  pub inner : half side ≤ x → (x - half side) / side + 1 ≢ grid → p ≡ between side ((x - half side) / side) ((x - half side) % side) → R
-
--- each place is one of the three
-pub by-cases : (side grid x : ℕ) {p : Place} {R : Type 0} → p ≡ placeOf side grid x → Cases side grid x p R → R
-by-cases side grid x {p} {R} e t = near (ltb x (half side)) refl
-  where
-    k : ℕ
-    k = (x - half side) / side
-
-    far : half side ≤ x → (b : Bool) → eqb (k + 1) grid ≡ b → R
-    far l true q = t .last l (eqb-true (k + 1) grid q) (e ∙ place-last side grid x l (eqb-true (k + 1) grid q))
-    far l false q = t .inner l (eqb-false (k + 1) grid q) (e ∙ place-between side grid x l (eqb-false (k + 1) grid q))
-
-    near : (b : Bool) → ltb x (half side) ≡ b → R
-    near true q = t .first (ltb-true x (half side) q) (e ∙ place-first side grid x (ltb-true x (half side) q))
-    near false q = far (ltb-false x (half side) q) (eqb (k + 1) grid) refl
-
--- j columns on between the same two tiles
-pub inner-moved : (side grid x j : ℕ) → half side ≤ x → (x - half side) / side + 1 ≢ grid → (x - half side) % side + j < side
-    → placeOf side grid (x + j) ≡ moved (between side ((x - half side) / side) ((x - half side) % side)) j
-inner-moved side grid x j l n r =
-    place-between side grid (x + j) (omega arith) (λ q. n (ap (λ z. z + 1) (sym d) ∙ q))
-    ∙ ap₂ (between side) d m
-    ∙ ap (λ z. record { lower = k; upper = k + 1; lowerweight = z; upperweight = o + j; span = side }) apart
-  where
-    k : ℕ
-    k = (x - half side) / side
-
-    o : ℕ
-    o = (x - half side) % side
-
-    parts : x + j - half side ≡ k * side + (o + j)
-    parts = omega (arith, div-add-mod' (x - half side) side)
-
-    d : (x + j - half side) / side ≡ k
-    d = ap (λ z. z / side) parts ∙ digits-div k r
-
-    m : (x + j - half side) % side ≡ o + j
-    m = ap (λ z. z % side) parts ∙ digits-mod k r
-
-    apart : side - (o + j) ≡ side - o - j
-    apart = omega arith
-
--- from tile k, the last one, on: it is used alone
-pub last-stays : (side grid x k : ℕ) → 0 < side → x < side * grid → k + 1 ≡ grid → half side ≤ x → k ≤ (x - half side) / side → placeOf side grid x ≡ alone side k
-last-stays side grid x k s h e l m =
-    let same : (x - half side) / side ≡ k = omega (arith, tile-below side grid x s h) in
-    place-last side grid x l (omega arith) ∙ ap (alone side) same
-
--- the run between two tiles
-pub run-two : (side grid x : ℕ) {p : Place} → 0 < side → p ≡ placeOf side grid x → p .lower < p .upper → Run side grid x p (p .lowerweight)
-run-two side grid x {p} s e l =
-    by-cases side grid x e
-    record {
-      first = λ h q. absurd (omega (arith, ap (λ z. z .lower) q, ap (λ z. z .upper) q));
-      last = λ h n q. absurd (omega (arith, ap (λ z. z .lower) q, ap (λ z. z .upper) q));
-      inner = λ h n q.
-          let o : p .lowerweight ≡ side - (x - half side) % side = ap (λ z. z .lowerweight) q in
-          let b : (x - half side) % side < side = mod-lt (x - half side) s in
-          record {
-            some = omega arith;
-            most = le-refl (p .lowerweight);
-            two = λ _ j k. inner-moved side grid x j h n (omega arith) ∙ ap (λ z. moved z j) (sym q);
-            one = λ k. absurd (omega arith);
-          };
-    }
-
--- the run of the last tile, to the film's edge
-pub run-last : (side grid x : ℕ) {p : Place} → 0 < side → x < side * grid → p ≡ placeOf side grid x → p .upper ≤ p .lower → p .lower + 1 ≡ grid
-    → Run side grid x p (side * grid - x)
-run-last side grid x {p} s h e l g =
-    by-cases side grid x e
-    record {
-      first = λ k q.
-          let o : 1 ≡ grid = ap (λ z. z .lower + 1) (sym q) ∙ g in
-          run (alone side 0) q refl (omega (arith, ap (λ z. side * z) (sym o), mul-one side)) (λ j m. near (ltb (x + j) (half side)) refl o m);
-      last = λ k n q.
-          let t : ℕ = (x - half side) / side in
-          let w : side * grid ≡ side * t + side = ap (λ z. side * z) (sym n) ∙ mul-add side t 1 ∙ ap (λ z. side * t + z) (mul-one side) in
-          run (alone side t) q refl (omega (arith, mul-comm side t, div-mul-le-self (x - half side) side))
-          (λ j m. last-stays side grid (x + j) t s (omega arith) n (omega arith) (le-div-iff-mul-le s .1 (omega (arith, div-mul-le-self (x - half side) side))));
-      inner = λ k n q. absurd (n (ap (λ z. z .lower + 1) (sym q) ∙ g));
-    }
-  where
-    near : {j : ℕ} (b : Bool) → ltb (x + j) (half side) ≡ b → 1 ≡ grid → j < side * grid - x → placeOf side grid (x + j) ≡ alone side 0
-    near {j} true q o m = place-first side grid (x + j) (ltb-true (x + j) (half side) q)
-    near {j} false q o m = last-stays side grid (x + j) 0 s (omega arith) o (ltb-false (x + j) (half side) q) (omega arith)
-
-    run : (t : Place) → p ≡ t → t .lower ≡ t .upper → side * grid - x ≤ t .lowerweight → ((j : ℕ) → j < side * grid - x → placeOf side grid (x + j) ≡ t) → Run side grid x p (side * grid - x)
-    run t q u m f =
-        record {
-          some = omega arith;
-          most = rw q m;
-          two = λ k. absurd (omega arith);
-          one = λ k. (omega (arith, ap (λ z. z .lower) q, ap (λ z. z .upper) q), λ j r. f j r ∙ sym q);
-        }
-
--- the run of the first tile, to half
-pub run-first : (side grid x : ℕ) {p : Place} → p ≡ placeOf side grid x → p .upper ≤ p .lower → p .lower + 1 ≢ grid
-    → (x < half side) × Run side grid x p (half side - x)
-run-first side grid x {p} e l g =
-    by-cases side grid x e
-    record {
-      first = λ k q.
-          let o : p .lowerweight ≡ side = ap (λ z. z .lowerweight) q in (
-            k,
-            record {
-              some = omega arith;
-              most = omega (arith, div-le-self side 2);
-              two = λ n. absurd (omega arith);
-              one = λ n. (omega (arith, ap (λ z. z .lower) q, ap (λ z. z .upper) q), λ j r. place-first side grid (x + j) (omega arith) ∙ sym q);
-            },
-          );
-      last = λ k n q. absurd (g (ap (λ z. z .lower + 1) q ∙ n));
-      inner = λ k n q. absurd (omega (arith, ap (λ z. z .lower) q, ap (λ z. z .upper) q));
-    }
-
--- the film's columns are few
-pub column-small : {side grid x : ℕ} → side ≤ 2048 → grid ≤ 16 → x < side * grid → side * grid ≤ 32768
-column-small s g h = omega (arith, mul-le-mul s g)
+-- ---- weights that move along
 
 -- a sound place moved along is sound
 pub moved-sound : {grid most : ℕ} {p : Place} (j : ℕ) → Sound grid most p → j ≤ p .lowerweight → Sound grid most (moved p j)
@@ -348,26 +173,7 @@ pub sides-moved : (p row : Place) (j l : ℕ) → j ≤ p .lowerweight → sides
 unfolding sidesOf
 sides-moved p row j l h = ap (λ n. n / (p .span * row .span)) (pair-moved p j l h)
 
--- a run's first columns are a run
-pub run-shorter : {side grid x n k : ℕ} {p : Place} → Run side grid x p n → 0 < k → k ≤ n → Run side grid x p k
-run-shorter run s l =
-    record {
-      some = s;
-      most = omega (arith, run .most);
-      two = λ h j m. run .two h j (omega arith);
-      one = λ h. (run .one h .0, λ j m. run .one h .1 j (omega arith));
-    }
-
--- what is worked out of the moved weights of a run is worked out of each column's own place, if one tile alone gives the same wherever its weights are moved to
-pub run-place : {R : Type 0} (f : Place → R) {side grid x n : ℕ} {p : Place} → Run side grid x p n → (j : ℕ) → j < n → (p .upper ≡ p .lower → f (moved p j) ≡ f p)
-    → f (moved p j) ≡ f (placeOf side grid (x + j))
-run-place f {side} {grid} {x} {n} {p} run j l same = tiles (ltb (p .lower) (p .upper)) refl
-  where
-    tiles : (b : Bool) → ltb (p .lower) (p .upper) ≡ b → f (moved p j) ≡ f (placeOf side grid (x + j))
-    tiles true e = ap f (sym (run .two (ltb-true (p .lower) (p .upper) e) j l))
-    tiles false e = let o : p .upper ≤ p .lower = ltb-false (p .lower) (p .upper) e in same (run .one o .0) ∙ ap f (sym (run .one o .1 j l))
-
--- ---- what `factor` and `run` answer
+-- ---- what `factor` answers
 
 pub inverse-large : (d : ℕ) → 1048576 < d → 0 ≡ inverseOf d
 unfolding inverseOf
@@ -376,17 +182,3 @@ inverse-large d h = rw (lt-ltb 1048576 d h) refl
 pub inverse-small : (d : ℕ) → d ≤ 1048576 → 4503599627370496 / d + 1 ≡ inverseOf d
 unfolding inverseOf
 inverse-small d h = rw (le-ltb 1048576 d h) refl
-
-module _ (side grid x : ℕ) (p : Place) where
-  pub length-two : p .lower < p .upper → p .lowerweight ≡ lengthOf side grid x p
-  unfolding lengthOf
-  length-two h = rw (lt-ltb (p .lower) (p .upper) h) refl
-
-  module _ (one : p .upper ≤ p .lower) where
-    pub length-last : p .lower + 1 ≡ grid → side * grid - x ≡ lengthOf side grid x p
-    unfolding lengthOf
-    length-last e = rw (le-ltb (p .lower) (p .upper) one, eq-eqb (p .lower + 1) grid e) refl
-
-    pub length-first : (p .lower + 1 ≡ grid → ⊥) → half side - x ≡ lengthOf side grid x p
-    unfolding lengthOf
-    length-first n = rw (le-ltb (p .lower) (p .upper) one, ne-eqb (p .lower + 1) grid n) refl

@@ -1,44 +1,50 @@
--- Document 01, "From mappings to grey": where a column or a row stands between two tile centres, and the grey of a pixel.
--- One definition serves columns and rows: `side` is tw or th, `grid` the tiles across or down, x the column or row.
+-- Order 6 and document 01, "From mappings to grey": where a column or a row stands between two tile centres, and the grey of a pixel.
+-- One definition serves columns and rows: `side` is the film's width or height, `grid` the tiles across or down, x the column or row.
 -- Assumes nothing.
-use Prim.Native.Nat.{ℕ, _+_, _-_, _*_, _/_, _%_, _≤_, _<_}
-use mathlib.Core.Bool.{Bool, true, false, cond}
+use Prim.Native.Nat.{ℕ, zero, suc, _+_, _-_, _*_, _/_, _≤_, _<_}
+use mathlib.Core.Bool.{cond}
 use mathlib.Core.Path.{_≡_}
-use lib.Dec.{ltb, eqb}
+use lib.Dec.{leb, ltb, eqb}
+use Rattle.grid.specs.Grid.{sizeOf, centreOf}
 use Rattle.blend.specs.declared.Place.{Place}
 
--- "Half = floor(tw / 2)"
-abbrev pub half : ℕ → ℕ
-half side = side / 2
+-- "uses that tile alone": both sides of the pair are the same tile, which has all the weight
+abbrev pub alone : ℕ → ℕ → ℕ → Place
+alone side grid k =
+    record { lower = k; upper = k; lowerweight = sizeOf side grid k; upperweight = 0; span = sizeOf side grid k }
 
--- "used alone": both sides of the pair are the same tile, which has all the weight
-abbrev pub alone : ℕ → ℕ → Place
-alone side k = record { lower = k; upper = k; lowerweight = side; upperweight = 0; span = side }
+-- "a column between two centres weighs each of the two tiles by its distance from the other's centre, over the distance between the centres"
+abbrev pub between : ℕ → ℕ → ℕ → ℕ → Place
+between side grid x k =
+    record {
+      lower = k;
+      upper = k + 1;
+      lowerweight = centreOf side grid (k + 1) - x;
+      upperweight = x - centreOf side grid k;
+      span = centreOf side grid (k + 1) - centreOf side grid k;
+    }
 
--- "columns k and k + 1 with weights tw - o and o"
-abbrev pub between : ℕ → ℕ → ℕ → Place
-between side k o = record { lower = k; upper = k + 1; lowerweight = side - o; upperweight = o; span = side }
+-- of the first n tiles: one more than the last whose centre x has reached, 0 for none
+unfoldable pub reachedOf : ℕ → ℕ → ℕ → ℕ → ℕ
+reachedOf side grid zero x = 0
+reachedOf side grid (suc n) x = cond (leb (centreOf side grid n) x) (suc n) (reachedOf side grid n x)
 
--- "if .. used alone, else ..": the first place where the test holds, else the second
-abbrev pub pickPlace : Bool → Place → Place → Place
-pickPlace true a b = a
-pickPlace false a b = b
+-- a column that has reached n centres: "one outside the first or last centre uses that tile alone"
+abbrev pub placed : ℕ → ℕ → ℕ → ℕ → Place
+placed side grid x zero = alone side grid 0
+placed side grid x (suc k) = cond (eqb (suc k) grid) (alone side grid k) (between side grid x k)
 
--- "A column x below half uses tile column 0 alone. Otherwise k = floor((x - half) / tw), o the remainder;
--- if k is the last tile column it is used alone, else columns k and k + 1 with weights tw - o and o."
+-- where column (or row) x stands among the centres
 unfoldable pub placeOf : ℕ → ℕ → ℕ → Place
-placeOf side grid x =
-    pickPlace (ltb x (half side)) (alone side 0)
-    (pickPlace (eqb ((x - half side) / side + 1) grid) (alone side ((x - half side) / side))
-    (between side ((x - half side) / side) ((x - half side) % side)))
+placeOf side grid x = placed side grid x (reachedOf side grid grid x)
 
--- "(th - p)((tw - o)A + oB') + p((tw - o)C + oD)", a b c d the mapped values upper left, upper right, lower left, lower right
+-- "(th - p)((tw - o)A + oB') + p((tw - o)C + oD)", by the weights of the two places, a b c d the mapped values upper left, upper right, lower left, lower right
 abbrev pub weighedOf : Place → Place → ℕ → ℕ → ℕ → ℕ → ℕ
 weighedOf column row a b c d =
     row .lowerweight * (column .lowerweight * a + column .upperweight * b)
     + row .upperweight * (column .lowerweight * c + column .upperweight * d)
 
--- "floor(.. / (tw x th))" of that
+-- "floor(.. / (tw x th))" of that, the spans in the place of tw and th
 unfoldable pub greyOf : Place → Place → ℕ → ℕ → ℕ → ℕ → ℕ
 greyOf column row a b c d = weighedOf column row a b c d / (column .span * row .span)
 
@@ -58,7 +64,7 @@ pub record Sound (grid most : ℕ) (p : Place) : Type 0 where
   pub lower : p .lower < grid
   pub upper : p .upper < grid
 
--- what stands for a division by d = tw x th: floor(2^52 / d) + 1 where d is at most 2^20, or else 0, for none
+-- what stands for a division by d, the product of two spans: floor(2^52 / d) + 1 where d is at most 2^20, or else 0, for none
 unfoldable pub inverseOf : ℕ → ℕ
 inverseOf d = cond (ltb 1048576 d) 0 (4503599627370496 / d + 1)
 
@@ -67,7 +73,7 @@ pub record Inverse (spans factor : ℕ) : Type 0 where
   pub small : 0 < factor → spans ≤ 1048576
   pub inverse : 0 < factor → factor ≡ 4503599627370496 / spans + 1
 
--- the place j columns on between the same tiles: "weights tw - o and o", o being j more
+-- the place j columns on between the same tiles: the lower weight is j less, the upper one j more
 abbrev pub moved : Place → ℕ → Place
 moved p j = record { lower = p .lower; upper = p .upper; lowerweight = p .lowerweight - j; upperweight = p .upperweight + j; span = p .span }
 
@@ -80,4 +86,5 @@ pub record Run (side grid x : ℕ) (p : Place) (n : ℕ) : Type 0 where
 
 -- how many columns that is: as far as the lower weight goes, and of a tile used alone to the film's end or to the first centre
 unfoldable pub lengthOf : ℕ → ℕ → ℕ → Place → ℕ
-lengthOf side grid x p = cond (ltb (p .lower) (p .upper)) (p .lowerweight) (cond (eqb (p .lower + 1) grid) (side * grid - x) (half side - x))
+lengthOf side grid x p =
+    cond (ltb (p .lower) (p .upper)) (p .lowerweight) (cond (eqb (p .lower + 1) grid) (side - x) (centreOf side grid 0 - x))

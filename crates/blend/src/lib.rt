@@ -1,7 +1,8 @@
 // Where a column or a row stands between two tile centres, and the grey of a pixel from four mapped values.
 ghost use mathlib.Core.Path.{_≡_};
-ghost use Prim.Native.Nat.{_*_, _/_, _≤_, _<_};
-ghost use Rattle.blend.specs.Blend.{placeOf, weighedOf, greyOf, pairOf, sidesOf, Sound, inverseOf, Inverse, Run, lengthOf};
+ghost use Prim.Native.Nat.{_+_, _*_, _/_, _≤_, _<_};
+ghost use Rattle.grid.specs.Grid.{centreOf, Fits};
+ghost use Rattle.blend.specs.Blend.{alone, between, placeOf, weighedOf, greyOf, pairOf, sidesOf, Sound, inverseOf, Inverse, Run, lengthOf};
 
 // A column's or a row's place: the tiles below and above it, the weight of each, and the span that the weights add up to.
 pub struct Place {
@@ -12,53 +13,67 @@ pub struct Place {
     pub span: u32,
 }
 
-// The place of column (or row) x among `grid` tiles, each `side` wide (or high).
-pub fn locate(side: u32, grid: u32, x: u32) -> Place
-    requires { ⌜ (0 < side) × (side ≤ 2048) × (x < side * grid) × (grid ≤ 16) ⌝ }
-    ensures { λ r. ⌜ r ≡ placeOf side grid x ⌝ }
+// Tile k used alone.
+fn single(side: u32, grid: u32, k: u32) -> Place
+    requires { ⌜ Fits side grid × (k < grid) ⌝ }
+    ensures { λ r. ⌜ r ≡ alone side grid k ⌝ }
 {
-    let half = side / 2;
-    if x < half {
-        return Place {
-            lower: 0,
-            upper: 0,
-            lowerweight: side,
-            upperweight: 0,
-            span: side,
-        };
+    let size = grid::size(side, grid, k);
+    Place {
+        lower: k,
+        upper: k,
+        lowerweight: size,
+        upperweight: 0,
+        span: size,
     }
-    let k = (x - half) / side;
-    if k + 1 == grid {
-        return Place {
-            lower: k,
-            upper: k,
-            lowerweight: side,
-            upperweight: 0,
-            span: side,
-        };
-    }
-    let o = (x - half) % side;
+}
+
+// The tiles k and k + 1, x between their centres.
+fn pair_of(side: u32, grid: u32, x: u32, k: u32) -> Place
+    requires { ⌜ Fits side grid × (k + 1 < grid) × (centreOf side grid k ≤ x) × (x < centreOf side grid (k + 1)) ⌝ }
+    ensures { λ r. ⌜ r ≡ between side grid x k ⌝ }
+{
+    let from = grid::centre(side, grid, k);
+    let to = grid::centre(side, grid, k + 1);
     Place {
         lower: k,
         upper: k + 1,
-        lowerweight: side - o,
-        upperweight: o,
-        span: side,
+        lowerweight: to - x,
+        upperweight: x - from,
+        span: to - from,
     }
+}
+
+// The place of column (or row) x of a film `side` wide (or high) in `grid` tiles: t is the tile that it lies in.
+pub fn locate(side: u32, grid: u32, x: u32) -> Place
+    requires { ⌜ Fits side grid × (x < side) ⌝ }
+    ensures { λ r. ⌜ r ≡ placeOf side grid x ⌝ }
+{
+    let t = ((x + 1) * grid - 1) / side;
+    if x < grid::centre(side, grid, t) {
+        if t == 0 {
+            return single(side, grid, 0);
+        }
+        return pair_of(side, grid, x, t - 1);
+    }
+    if t + 1 == grid {
+        return single(side, grid, t);
+    }
+    pair_of(side, grid, x, t)
 }
 
 // How many columns (or rows) from x on lie between the tiles of x, whose place this is: 1 at least, and no more than the lower weight.
 pub fn run(place: Place, side: u32, grid: u32, x: u32) -> u32
-    requires { ⌜ (0 < side) × (side ≤ 2048) × (x < side * grid) × (grid ≤ 16) × (place ≡ placeOf side grid x) ⌝ }
+    requires { ⌜ Fits side grid × (x < side) × (place ≡ placeOf side grid x) ⌝ }
     ensures { λ r. ⌜ (r ≡ lengthOf side grid x place) × Run side grid x place r ⌝ }
 {
     if place.lower < place.upper {
         return place.lowerweight;
     }
     if place.lower + 1 == grid {
-        return side * grid - x;
+        return side - x;
     }
-    side / 2 - x
+    grid::centre(side, grid, 0) - x
 }
 
 // The four mapped values of a pixel's bin, each by its weight, added up.
@@ -69,15 +84,6 @@ fn weigh(column: Place, row: Place, a: u32, b: u32, c: u32, d: u32) -> u64
     let upper = (column.lowerweight as u64) * (a as u64) + (column.upperweight as u64) * (b as u64);
     let lower = (column.lowerweight as u64) * (c as u64) + (column.upperweight as u64) * (d as u64);
     (row.lowerweight as u64) * upper + (row.upperweight as u64) * lower
-}
-
-// The grey of a pixel: the four mapped values of its bin, each by its weight.
-pub fn grey(column: Place, row: Place, a: u32, b: u32, c: u32, d: u32) -> u32
-    requires { ⌜ Sound 16 2048 column × Sound 16 2048 row × (a ≤ 4095) × (b ≤ 4095) × (c ≤ 4095) × (d ≤ 4095) ⌝ }
-    ensures { λ r. ⌜ r ≡ greyOf column row a b c d ⌝ }
-{
-    let weighed = weigh(column, row, a, b, c, d);
-    (weighed / ((column.span as u64) * (row.span as u64))) as u32
 }
 
 // The factor that stands for a division by the product of two spans; 0 for spans so large that a product with it could leave 64 bits.

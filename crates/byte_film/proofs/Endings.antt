@@ -9,9 +9,9 @@ use Rattle.refuse.specs.Refuse.{first, unless}
 use Rattle.refuse.proofs.Walk.{unless-refused}
 use Rattle.settings.specs.declared.Settings.{Settings}
 use Rattle.profile.specs.Profile.{profileRows}
-use Rattle.prepare.specs.declared.Prepared.the-variants as Prepared
+use Rattle.prepare.specs.declared.Prepared.{Prepared}
 use Rattle.prepare.specs.declared.Enhanced.the-variants as Enhanced
-use Rattle.prepare.specs.Prepare.{prepareRows, Ended, ending, preparedOf, prepareOf, Over, overing, enhancedOf, enhanceOf}
+use Rattle.prepare.specs.Prepare.{preparedNot, prepareRows, Ended, ending, preparedOf, prepareOf, Over, overing, enhancedOf, enhanceOf}
 use Rattle.prepare.proofs.Endings.{ends-refused, ends-done}
 use Rattle.prepare.proofs.Renders.{over-refused, over-done}
 use Rattle.byte_film.specs.Bytes.{bytePrepareRows, bytePrepareOf, byteEnhanceOf}
@@ -22,16 +22,21 @@ use Rattle.byte_film.proofs.Tables.{rows-inside, wide-rows}
 module _ (film w h : ℕ) (pic : List ℕ) (s : Settings) (m t : List ℕ) where
   -- a refusal, as it was worked out
   pub bytes-refused : {r : ℕ} → r ≡ first (bytePrepareRows w h pic s (length m) (length t)) → (r ≡ 0 → ⊥)
-      → ending (Prepared.Refused r) m t ≡ bytePrepareOf film w h pic s m t
+      → ending (preparedNot r) m t ≡ bytePrepareOf film w h pic s m t
   unfolding bytePrepareOf
   bytes-refused {r} e z =
-      unless-refused r (λ n. ending (Prepared.Refused n) m t) (preparedOf film w h pic s m t) z
-      ∙ ap (λ k. unless k (λ n. ending (Prepared.Refused n) m t) (preparedOf film w h pic s m t)) e
+      unless-refused r (λ n. ending (preparedNot n) m t) (preparedOf film w h pic s m t) z
+      ∙ ap (λ k. unless k (λ n. ending (preparedNot n) m t) (preparedOf film w h pic s m t)) e
+
+  -- the same of the answer that `not_prepared` gives
+  pub bytes-not : {r : ℕ} {p : Prepared} → r ≡ first (bytePrepareRows w h pic s (length m) (length t)) → (r ≡ 0 → ⊥) → p ≡ preparedNot r
+      → ending p m t ≡ bytePrepareOf film w h pic s m t
+  bytes-not e z q = ap (λ p. ending p m t) q ∙ bytes-refused e z
 
   -- no refusal
   bytes-done : {r : ℕ} → r ≡ first (bytePrepareRows w h pic s (length m) (length t)) → r ≡ 0 → preparedOf film w h pic s m t ≡ bytePrepareOf film w h pic s m t
   unfolding bytePrepareOf
-  bytes-done {r} e z = ap (λ k. unless k (λ n. ending (Prepared.Refused n) m t) (preparedOf film w h pic s m t)) (sym z ∙ e)
+  bytes-done {r} e z = ap (λ k. unless k (λ n. ending (preparedNot n) m t) (preparedOf film w h pic s m t)) (sym z ∙ e)
 
   -- what the wide call leaves then is what the byte call leaves
   pub bytes-well : {r : ℕ} {x : Ended} → r ≡ first (bytePrepareRows w h pic s (length m) (length t)) → r ≡ 0

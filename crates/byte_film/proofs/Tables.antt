@@ -14,7 +14,7 @@ use Rattle.refuse.proofs.Walk.{front, behind, first-both}
 use Rattle.scan.specs.Scan.{within}
 use Rattle.scan.proofs.Spans.{within-both}
 use Rattle.settings.specs.declared.Settings.{Settings}
-use Rattle.settings.specs.Settings.{clipOne, sharedRows}
+use Rattle.settings.specs.Settings.{clipOne, sharedRows, Tiled}
 use Rattle.tiles.specs.Tiles.{FilmAsks}
 use Rattle.prepare.specs.Prepare.{workRows, prepareRows}
 use Rattle.tiles.proofs.Footers.{film-asks}
@@ -59,6 +59,10 @@ module _ (w h : ℕ) (pic : List ℕ) (s : Settings) (room scratch : ℕ) where
     -- what the work below relies on
     pub bytes-film : ByteWork w h pic s room scratch
     bytes-film = record { work = work w h pic s room scratch (sym wide-rows ∙ z); profile = bytes-profile (sym e ∙ z) }
+
+    -- the record
+    pub bytes-record : Tiled w h s
+    bytes-record = bytes-film .work .ready .tiled
 
     -- the footer
     pub bytes-foot : FilmAsks w h s

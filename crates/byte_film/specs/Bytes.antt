@@ -10,10 +10,9 @@ use Rattle.lists.specs.Lists.{onto, over, filled}
 use Rattle.refuse.specs.Refuse.{Row, first, unless}
 use Rattle.settings.specs.declared.Settings.{Settings}
 use Rattle.settings.specs.Settings.{binsOf, clipOne}
-use Rattle.prepare.specs.declared.Prepared.the-variants as Prepared
 use Rattle.prepare.specs.declared.Enhanced.the-variants as Enhanced
 use Rattle.tiles.specs.Tiles.{tileMap, mappings, Work}
-use Rattle.prepare.specs.Prepare.{workRows, Ended, ending, preparedOf, Over, overing, enhancedOf}
+use Rattle.prepare.specs.Prepare.{preparedNot, workRows, Ended, ending, preparedOf, Over, overing, enhancedOf}
 use Rattle.profile.specs.Profile.{byteRows, Profile}
 
 -- "1 to 10 as they stand, then 30 .., then 11 and on as in the wide call"; 31 stands behind 9
@@ -23,7 +22,7 @@ bytePrepareRows w h pic s room scratch = byteRows w h (length pic) s room ++ wor
 -- prepare on bytes: a refusal keeps all memory; else what prepare does
 unfoldable pub bytePrepareOf : ℕ → ℕ → ℕ → List ℕ → Settings → List ℕ → List ℕ → Ended
 bytePrepareOf film w h pic s m t =
-    unless (first (bytePrepareRows w h pic s (length m) (length t))) (λ n. ending (Prepared.Refused n) m t) (preparedOf film w h pic s m t)
+    unless (first (bytePrepareRows w h pic s (length m) (length t))) (λ n. ending (preparedNot n) m t) (preparedOf film w h pic s m t)
 
 -- enhance on bytes, "in place": a refusal keeps all memory; else what enhance does
 unfoldable pub byteEnhanceOf : ℕ → ℕ → List ℕ → Settings → List ℕ → List ℕ → Over

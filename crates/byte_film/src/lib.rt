@@ -6,8 +6,8 @@ ghost use Rattle.tiles.specs.Tiles.{TileDone, TilesDone};
 ghost use Rattle.prepare.specs.Prepare.{ending, overing};
 ghost use Rattle.byte_film.specs.Bytes.{bytePrepareRows, bytePrepareOf, byteEnhanceOf, ByteTilesAsk, ByteTileAsks};
 use prepare::Enhanced;
+use prepare::Made;
 use prepare::Prepared;
-use settings::MapRecord;
 use settings::Settings;
 use settings::Window;
 
@@ -93,22 +93,23 @@ pub fn prepare_bytes(
 {
     let refused = refusal(width, height, picture, s, map.len(), scratch.len());
     if refused != 0 {
-        return Prepared::Refused(refused);
+        return prepare::not_prepared(refused);
     }
     let clip = s.clip;
     let foot = tiles::foot(width, height, s);
-    let kept = settings::kept(s);
-    let record = MapRecord {
-        film,
-        width,
-        height,
-        settings: kept,
-    };
-    if settings::clip_one(clip) {
-        return Prepared::Done(record, foot);
+    let kept = settings::made_for(film, width, height, s);
+    let one = settings::clip_one(clip);
+    if one {
+        return Prepared {
+            answer: Made::Done(foot),
+            kept,
+        };
     }
     map_tiles(picture, width, height, s, map, scratch);
-    Prepared::Done(record, foot)
+    Prepared {
+        answer: Made::Done(foot),
+        kept,
+    }
 }
 
 // The whole film of bytes rendered in place, with the mappings in the map buffer.

@@ -125,9 +125,9 @@ fn first(letter: u8, row: Row, drawn: Row, picture: &mut [u8]) -> Made {
 }
 
 // Calls draw with the record; answers its number.
-fn draw_by(drawn: Row, t: Ten, kept: Ten, picture: &[u8], map: &[u8], out: &mut [u8]) -> u32 {
+fn draw_by(drawn: Row, t: Ten, k: Kept, picture: &[u8], map: &[u8], out: &mut [u8]) -> u32 {
     let s: Settings = kept::settings(t);
-    let record = kept::record(kept);
+    let record = kept::record(k);
     let win = window(drawn);
     let answer: Drawn = byte_draw::draw_bytes(
         word(drawn, column::FILM),
@@ -161,11 +161,11 @@ fn drawn_lines(drawn: Row, number: u32, picture: &[u8], map: &[u8], out: &[u8]) 
 }
 
 // Makes the output and draws from the map.
-fn drawn_from(drawn: Row, t: Ten, kept: Ten, picture: &[u8], map: &[u8], out: &mut [u8]) -> Shot {
+fn drawn_from(drawn: Row, t: Ten, k: Kept, picture: &[u8], map: &[u8], out: &mut [u8]) -> Shot {
     let n = fitting(at(drawn, column::OUT_ROOM), out.len());
     let o = &mut out[0..n];
     bytes::output(o, OUTPUT_BASE);
-    let number = draw_by(drawn, t, kept, picture, map, o);
+    let number = draw_by(drawn, t, k, picture, map, o);
     drawn_lines(drawn, number, picture, map, &o[..])
 }
 
@@ -181,7 +181,7 @@ fn drawn_of(row: Row, drawn: Row, made: Made, picture: &[u8], out: &mut [u8]) ->
         own(drawn, column::MAP_AT, NOWHERE),
         at(drawn, column::MAP_VALUE),
     );
-    let kept = handed(row, drawn, k.ten);
+    let kept = handed(row, drawn, k);
     drawn_from(drawn, kept::made(row), kept, picture, &m[..], out)
 }
 

@@ -3,33 +3,36 @@
 -- Assumes nothing.
 use Prim.Native.Nat.{ℕ, _+_, _*_, _≤_, _<_}
 use mathlib.Core.Bool.{true, false}
-use mathlib.Core.List.{List}
 use mathlib.Core.Logic.{_≢_}
 use mathlib.Core.Path.{_≡_, refl, sym, ap, _∙_}
 use lib.Ieee.{Float}
 use lib.ListN.{length, getD, take}
-use Rattle.refuse.specs.Refuse.{accepted, refused}
+use Rattle.refuse.specs.Refuse.{first, accepted, refused}
 use Rattle.tile.specs.Tile.{mappedOf}
 use Rattle.settings.specs.declared.MapRecord.{MapRecord}
 use Rattle.settings.specs.declared.Footer.{Footer}
-use Rattle.settings.specs.Settings.{binsOf, entriesOf, keptOf, recordOf, clipOne}
+use Rattle.settings.specs.Settings.{binsOf, entriesOf, keptOf, clipOne}
 use Rattle.tiles.specs.Tiles.{pixelsIn}
 use Rattle.prepare.specs.Prepare.{preparedSays, enhancedSays, Ended, ending, prepareOf, Over, overing, enhanceOf}
 use Rattle.prepare.proofs.Like.{enhance-kept}
 use Rattle.held.specs.Held.{Held}
 use Rattle.draw.specs.Draw.{drawnSays, Shows, showing, drawOf, DrawReady}
 use Rattle.draw.proofs.Tables.{draw-ready}
-use Rattle.promises.specs.Films.{clippedCounts, ruleGrey, ClippingOn, ClipCase, FooterShows, FilmSound, LimitFits, BinsReached}
-use Rattle.promises.proofs.Accepted.{table-accepted, prepare-work, prepare-record, enhance-work, draw-table}
+use Rattle.draw.proofs.Laws.{other-field}
+use Rattle.profile.specs.Profile.{byteRows}
+use Rattle.profile.proofs.Profile.{byte-ready, byte-inside, profile-none}
+use Rattle.promises.specs.Films.{clippedCounts, ruleGrey, ClippingOn, FooterShows, limitIn, FilmSound, LimitFits, BinsReached}
+use Rattle.promises.proofs.Accepted.{refused-says, table-accepted, prepare-work, enhance-work, draw-table}
 use Rattle.promises.proofs.Reuse.{left-settings}
-use Rattle.promises.proofs.Demand2.{own-mapping, own-mapping-enhance, own-rendering, own-pixels, enhance-agrees}
-use Rattle.promises.proofs.Windows.{accepted-by-rule, accepted-as-film, accepted-as-enhanced}
-use Rattle.promises.proofs.Demand3.{tiles-sound, tiles-sound-enhance, footer-shows, footer-shows-enhance, footer-fits, clip-cases}
+use Rattle.promises.proofs.Demand2.{own-mapping, own-mapping-enhance, own-rendering, own-pixels}
+use Rattle.promises.proofs.Windows.{accepted-handed, accepted-by-rule, accepted-as-film, accepted-as-enhanced}
+use Rattle.promises.proofs.Demand3.{tiles-sound, tiles-sound-enhance, footer-shows, footer-shows-enhance, limit-fits}
 use Rattle.promises.proofs.Bins.{tiled-reached}
 use Rattle.promises.proofs.Runs.{PrepareCall, EnhanceCall, DrawCall}
 use Rattle.promises.proofs.Calls.{drawnGrey}
-use Rattle.byte_promises.proofs.Inside.{prepare-bytes-wide, enhance-bytes-wide, draw-bytes-wide}
+use Rattle.byte_promises.proofs.Inside.{prepare-bytes-wide, enhance-bytes-wide, draw-rows-inside, draw-bytes-wide}
 use Rattle.byte_promises.proofs.Runs.{PreparesBytes, prepare-bytes-ends, EnhancesBytes, enhance-bytes-ends, DrawsBytes, draw-bytes-ends}
+use Rattle.byte_promises.proofs.Outcomes.{draw-bytes-says}
 
 -- ---- prepare on bytes
 
@@ -59,16 +62,14 @@ module _ {p : PrepareCall} {r : MapRecord} {foot : Footer} (ran : PreparesBytes 
   pub prepared-bytes-footer : FooterShows (p .settings .clip) (pixelsIn (p .width) (p .height) (p .settings) 0) (binsOf (p .settings)) foot
   prepared-bytes-footer = footer-shows _ _ _ _ _ (p .map) (p .scratch) prepare-bytes-done
 
-  -- and every tile, with the limit of the footer
-  pub prepared-bytes-tiles-sound : {f : Float} → ClippingOn (p .settings .clip) f → FilmSound (p .width) (p .height) (p .pixels) (p .settings) (foot .limit) (p .map′)
-  prepared-bytes-tiles-sound {f} on =
-      rw (ap (λ (z : Footer). z .limit) (prepared-bytes-footer .above f on), ap (λ (z : Ended). z .map) prepare-bytes-as-wide)
-      (tiles-sound _ _ _ _ _ (p .map) (p .scratch) prepare-bytes-done on)
+  -- and every tile, "with each tile's own N and L"
+  pub prepared-bytes-tiles-sound : {f : Float} → ClippingOn (p .settings .clip) f → FilmSound (p .width) (p .height) (p .pixels) (p .settings) f (p .map′)
+  prepared-bytes-tiles-sound on = rw (ap (λ (z : Ended). z .map) prepare-bytes-as-wide) (tiles-sound _ _ _ _ _ (p .map) (p .scratch) prepare-bytes-done on)
 
-  -- whose limit holds each tile
-  pub prepared-bytes-limit-fits : {f : Float} → ClippingOn (p .settings .clip) f
-      → (k : ℕ) → LimitFits f (pixelsIn (p .width) (p .height) (p .settings) k) (binsOf (p .settings)) (foot .limit)
-  prepared-bytes-limit-fits on k = footer-fits (prepare-work _ _ _ _ _ (p .map) (p .scratch) prepare-bytes-done) prepared-bytes-footer on k
+  -- whose own limit holds it
+  pub prepared-bytes-limit-fits : {f : Float} → ClippingOn (p .settings .clip) f → (k : ℕ)
+      → LimitFits f (pixelsIn (p .width) (p .height) (p .settings) k) (binsOf (p .settings)) (limitIn (p .width) (p .height) (p .settings) f k)
+  prepared-bytes-limit-fits {f} on k = limit-fits (prepare-work _ _ _ _ _ (p .map) (p .scratch) prepare-bytes-done) f k
 
   -- order 3: "every bin has at least one grey"
   pub prepared-bytes-bins-reached : BinsReached (p .settings)
@@ -84,41 +85,39 @@ module _ {e : EnhanceCall} {foot : Footer} (ran : EnhancesBytes e) (done : enhan
       ∙ enhance-bytes-wide (e .width) (e .height) (e .pixels) (e .settings) (e .map) (e .scratch)
       (sym (ap (λ (z : Over). enhancedSays (z .answer)) (enhance-bytes-ends ran)) ∙ done)
 
-  over : enhancedSays (enhanceOf (e .width) (e .height) (e .pixels) (e .settings) (e .map) (e .scratch) .answer) ≡ accepted foot
-  over = sym (ap (λ (z : Over). enhancedSays (z .answer)) enhance-bytes-as-wide) ∙ done
+  pub enhance-bytes-done : enhancedSays (enhanceOf (e .width) (e .height) (e .pixels) (e .settings) (e .map) (e .scratch) .answer) ≡ accepted foot
+  enhance-bytes-done = sym (ap (λ (z : Over). enhancedSays (z .answer)) enhance-bytes-as-wide) ∙ done
 
   -- demand 2: each pixel is the rule's
   pub enhanced-bytes-by-rule : clipOne (e .settings .clip) ≡ false → (i j : ℕ) → i < e .width → j < e .height
       → getD (e .pixels′) (j * e .width + i) 0 ≡ ruleGrey (e .width) (e .height) (e .pixels) (e .settings) i j
   enhanced-bytes-by-rule one i j l k =
-      ap (λ (z : Over). getD (z .picture) (j * e .width + i) 0) enhance-bytes-as-wide ∙ own-rendering _ _ _ _ (e .map) (e .scratch) over one i j l k
+      ap (λ (z : Over). getD (z .picture) (j * e .width + i) 0) enhance-bytes-as-wide ∙ own-rendering _ _ _ _ (e .map) (e .scratch) enhance-bytes-done one i j l k
 
   -- at the factor 1.0 the film is unchanged
   pub enhanced-bytes-as-film : clipOne (e .settings .clip) ≡ true → e .pixels′ ≡ e .pixels
-  enhanced-bytes-as-film one = ap (λ (z : Over). z .picture) enhance-bytes-as-wide ∙ own-pixels _ _ _ _ (e .map) (e .scratch) over one
+  enhanced-bytes-as-film one = ap (λ (z : Over). z .picture) enhance-bytes-as-wide ∙ own-pixels _ _ _ _ (e .map) (e .scratch) enhance-bytes-done one
 
   -- each tile's own mapping lies in the map buffer
   pub enhanced-bytes-mapped-by-rule : clipOne (e .settings .clip) ≡ false → (k b : ℕ) → k < e .settings .across * e .settings .down → b < binsOf (e .settings)
       → getD (e .map′) (k * binsOf (e .settings) + b) 0
       ≡ mappedOf (e .settings .min) (e .settings .max) (pixelsIn (e .width) (e .height) (e .settings) k) (clippedCounts (e .width) (e .height) (e .pixels) (e .settings) k) b
   enhanced-bytes-mapped-by-rule one k b l q =
-      ap (λ (z : Over). getD (z .map) (k * binsOf (e .settings) + b) 0) enhance-bytes-as-wide ∙ own-mapping-enhance _ _ _ _ (e .map) (e .scratch) over one k b l q
+      ap (λ (z : Over). getD (z .map) (k * binsOf (e .settings) + b) 0) enhance-bytes-as-wide ∙ own-mapping-enhance _ _ _ _ (e .map) (e .scratch) enhance-bytes-done one k b l q
 
   -- demand 3: the footer, and every tile
   pub enhanced-bytes-footer : FooterShows (e .settings .clip) (pixelsIn (e .width) (e .height) (e .settings) 0) (binsOf (e .settings)) foot
-  enhanced-bytes-footer = footer-shows-enhance _ _ _ _ (e .map) (e .scratch) over
+  enhanced-bytes-footer = footer-shows-enhance _ _ _ _ (e .map) (e .scratch) enhance-bytes-done
 
-  pub enhanced-bytes-tiles-sound : {f : Float} → ClippingOn (e .settings .clip) f → FilmSound (e .width) (e .height) (e .pixels) (e .settings) (foot .limit) (e .map′)
-  enhanced-bytes-tiles-sound {f} on =
-      rw (ap (λ (z : Footer). z .limit) (enhanced-bytes-footer .above f on), ap (λ (z : Over). z .map) enhance-bytes-as-wide)
-      (tiles-sound-enhance _ _ _ _ (e .map) (e .scratch) over on)
+  pub enhanced-bytes-tiles-sound : {f : Float} → ClippingOn (e .settings .clip) f → FilmSound (e .width) (e .height) (e .pixels) (e .settings) f (e .map′)
+  enhanced-bytes-tiles-sound on = rw (ap (λ (z : Over). z .map) enhance-bytes-as-wide) (tiles-sound-enhance _ _ _ _ (e .map) (e .scratch) enhance-bytes-done on)
 
-  pub enhanced-bytes-limit-fits : {f : Float} → ClippingOn (e .settings .clip) f
-      → (k : ℕ) → LimitFits f (pixelsIn (e .width) (e .height) (e .settings) k) (binsOf (e .settings)) (foot .limit)
-  enhanced-bytes-limit-fits on k = footer-fits (enhance-work _ _ _ _ (e .map) (e .scratch) over) enhanced-bytes-footer on k
+  pub enhanced-bytes-limit-fits : {f : Float} → ClippingOn (e .settings .clip) f → (k : ℕ)
+      → LimitFits f (pixelsIn (e .width) (e .height) (e .settings) k) (binsOf (e .settings)) (limitIn (e .width) (e .height) (e .settings) f k)
+  enhanced-bytes-limit-fits {f} on k = limit-fits (enhance-work _ _ _ _ (e .map) (e .scratch) enhance-bytes-done) f k
 
   pub enhanced-bytes-bins-reached : BinsReached (e .settings)
-  enhanced-bytes-bins-reached = tiled-reached (enhance-work _ _ _ _ (e .map) (e .scratch) over .ready .tiled)
+  enhanced-bytes-bins-reached = tiled-reached (enhance-work _ _ _ _ (e .map) (e .scratch) enhance-bytes-done .ready .tiled)
 
 -- ---- draw on bytes
 
@@ -137,6 +136,17 @@ drawn-bytes-bins-reached ran done = tiled-reached (drawn-bytes-ready ran done .s
 -- "A window drawn with the record of a film of another number is refused.", and so is one whose record differs in whatever field
 pub draw-bytes-differing : {d : DrawCall} → DrawsBytes d → (Held (d .film) (d .width) (d .height) (d .settings) (d .kept) → ⊥) → drawnSays (d .answer) ≢ accepted tt
 draw-bytes-differing ran differs done = differs (drawn-bytes-ready ran done .held)
+
+-- by 15 where none of 1 to 11, 30 and 31 applies, also where "the record's edges or centres aren't those of this rule"
+pub draw-bytes-differing-15 : {d : DrawCall} → DrawsBytes d → first (byteRows (d .width) (d .height) (length (d .pixels)) (d .settings) (length (d .map))) ≡ 0
+    → (Held (d .film) (d .width) (d .height) (d .settings) (d .kept) → ⊥) → drawnSays (d .answer) ≡ refused 15
+draw-bytes-differing-15 {d} ran none differs =
+    let inside = profile-none (d .settings) (byte-ready (d .width) (d .height) (length (d .pixels)) (d .settings) (length (d .map)) none .profile) in
+    draw-bytes-says ran
+    ∙ refused-says _ tt
+    (draw-rows-inside (d .film) (d .width) (d .height) (d .pixels) (d .settings) (d .kept) (d .window) (d .map) (d .out) inside
+    ∙ other-field (d .film) (d .width) (d .height) (d .pixels) (d .settings) (d .kept) (d .window) (d .map) (length (d .out))
+    (sym (byte-inside (d .width) (d .height) (length (d .pixels)) (d .settings) (length (d .map)) inside) ∙ none) differs)
 
 pub draw-bytes-other-film : {d : DrawCall} → DrawsBytes d → d .film ≢ d .kept .film → drawnSays (d .answer) ≢ accepted tt
 draw-bytes-other-film ran other = draw-bytes-differing ran (λ held. other (held .number))
@@ -179,6 +189,12 @@ module _ {p : PrepareCall} {foot : Footer} {d : DrawCall} (from : DrawnFromBytes
   entries : clipOne (p .settings .clip) ≡ false
       → take (entriesOf (p .settings)) (d .map) ≡ take (entriesOf (p .settings)) (prepareOf (p .film) (p .width) (p .height) (p .pixels) (p .settings) (p .map) (p .scratch) .map)
   entries one = from .mappings one ∙ ap (λ (z : Ended). take (entriesOf (p .settings)) (z .map)) (prepare-bytes-as-wide (from .prepares) (from .prepared))
+
+  -- the window lies inside the film
+  pub drawn-bytes-inside : (d .window .left + d .window .width ≤ p .width) × (d .window .top + d .window .height ≤ p .height)
+  drawn-bytes-inside =
+      let handed = accepted-handed (p .film) (p .width) (p .height) (p .pixels) (p .settings) _ _ made _ _ _ _ _ (d .window) _ accepts entries in
+      (handed .across, handed .down)
 
   -- demand 2: each drawn pixel is the rule's
   pub drawn-bytes-by-rule : clipOne (p .settings .clip) ≡ false → (j i : ℕ) → j < d .window .height → i < d .window .width

@@ -13,10 +13,9 @@ use Rattle.settings.specs.declared.Footer.{Footer}
 use Rattle.settings.specs.declared.Window.{Window}
 use Rattle.settings.specs.Settings.{recordOf, sharedRows}
 use Rattle.settings.proofs.Ready.{shared-numbered}
-use Rattle.prepare.specs.declared.Prepared.the-variants as Prepared
 use Rattle.prepare.specs.declared.Enhanced.the-variants as Enhanced
 use Rattle.tiles.specs.Tiles.{footOf}
-use Rattle.prepare.specs.Prepare.{preparedSays, enhancedSays, Ended, ending, preparedOf, prepareOf, Over, overing, enhancedOf, enhanceOf}
+use Rattle.prepare.specs.Prepare.{preparedNot, preparedSays, enhancedSays, Ended, ending, preparedOf, prepareOf, Over, overing, enhancedOf, enhanceOf}
 use Rattle.draw.specs.declared.Drawn.the-variants as Drawn
 use Rattle.held.specs.Held.{recordRows, windowRows}
 use Rattle.draw.specs.Draw.{pixelRows, drawRows, drawnPixels, drawnSays, Shows, showing, drawOf}
@@ -34,12 +33,12 @@ use Rattle.promises.proofs.Accepted.{ByTable, table-accepted, table-done}
 module _ (film w h : ℕ) (pic : List ℕ) (s : Settings) (m t : List ℕ) where
   -- prepare on bytes goes by its own rows
   pub prepare-bytes-table : ByTable (λ (x : Ended). preparedSays (x .answer)) (first (bytePrepareRows w h pic s (length m) (length t)))
-      (recordOf film w h s, footOf w h s) (preparedOf film w h pic s m t) (λ k. ending (Prepared.Refused k) m t) (bytePrepareOf film w h pic s m t)
+      (recordOf film w h s, footOf w h s) (preparedOf film w h pic s m t) (λ k. ending (preparedNot k) m t) (bytePrepareOf film w h pic s m t)
   unfolding bytePrepareOf preparedOf preparedSays
   prepare-bytes-table =
       record {
-        when-none = λ z. ap (λ k. unless k (λ n. ending (Prepared.Refused n) m t) (preparedOf film w h pic s m t)) z;
-        when-some = λ z. sym (unless-refused _ (λ n. ending (Prepared.Refused n) m t) (preparedOf film w h pic s m t) z);
+        when-none = λ z. ap (λ k. unless k (λ n. ending (preparedNot n) m t) (preparedOf film w h pic s m t)) z;
+        when-some = λ z. sym (unless-refused _ (λ n. ending (preparedNot n) m t) (preparedOf film w h pic s m t) z);
         says-done = refl;
         says-lent = λ k. refl;
       }

@@ -4,3 +4,4 @@ pub mod Runs
 pub mod Outcomes
 pub mod Wide
 pub mod Calls
+pub mod Fitted

@@ -13,15 +13,15 @@ use Rattle.lists.specs.Lists.{all, onto, blocks}
 use Rattle.lists.proofs.Tabs.{length-tab}
 use Rattle.lists.proofs.Fills.{take-onto}
 use Rattle.lists.proofs.Windows.{block, length-block}
-use Rattle.lists.proofs.Alls.{all-at, all-tab}
+use Rattle.lists.proofs.Alls.{all-tab}
 use Rattle.lists.proofs.Maps.{onto-whole}
-use Rattle.scan.specs.Scan.{within}
 use Rattle.scan.proofs.Spans.{within-high}
+use Rattle.grid.specs.Grid.{Fits}
 use Rattle.settings.specs.declared.Settings.{Settings}
 use Rattle.settings.specs.declared.Window.{Window}
-use Rattle.render.specs.Render.{columnPlace, rowPlace, pixelOf, rowOf, Fits, Mapped, Shown, RowAsks, PixelAsks}
+use Rattle.render.specs.Render.{columnPlace, rowPlace, pixelOf, rowOf, Mapped, Shown, RowAsks}
 use Rattle.render.proofs.Pixels.{pixel-within}
-use Rattle.render.proofs.Sections.{place-among}
+use Rattle.render.proofs.Rows.{grey-asks}
 use Rattle.render.proofs.Strips.{strip, strip-room, strip-asks, strips-length}
 use Rattle.narrow.specs.Narrow.{isByte}
 use Rattle.byte_render.specs.Bytes.{ByteRowAsks, ByteAsks}
@@ -32,16 +32,6 @@ module _ {w h : ℕ} {s : Settings} {m : List ℕ} {left y : ℕ} {vs : List ℕ
   unfolding rowOf
   rendered-length = length-tab (length vs) _
 
-  -- what a pixel of the row asks
-  grey-asks : (i : ℕ) → i < length vs → PixelAsks s m (columnPlace w s (left + i)) (rowPlace h s y) (getD vs i 0)
-  grey-asks i l =
-      record {
-        maps = asks .row .maps;
-        column = place-among (asks .row .columns) (omega (arith, asks .row .across));
-        row = asks .row .row;
-        grey = all-at (within (s .min) (s .max)) vs (asks .row .greys) i 0 l;
-      }
-
   -- rendered greys lie in Min to Max, and Max is a byte
   rendered-bytes : all isByte (rowOf w s m left (rowPlace h s y) vs) ≡ true
   unfolding rowOf
@@ -49,7 +39,7 @@ module _ {w h : ℕ} {s : Settings} {m : List ℕ} {left y : ℕ} {vs : List ℕ
       all-tab isByte (length vs) _
       (λ i l.
       let v : ℕ = pixelOf s m (columnPlace w s (left + i)) (rowPlace h s y) (getD vs i 0) in
-      lt-ltb v 256 (omega (arith, within-high (s .min) (s .max) v (pixel-within (grey-asks i l)), asks .bytes)))
+      lt-ltb v 256 (omega (arith, within-high (s .min) (s .max) v (pixel-within (grey-asks (asks .row) i l)), asks .bytes)))
 
   module _ (d : List ℕ) {line : List ℕ} (widened : line ≡ onto d vs) where
     -- the line's front is the row

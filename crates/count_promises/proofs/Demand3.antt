@@ -29,8 +29,6 @@ module _ {pic : List ℕ} {d : MapCall} {r : MapRecord} {foot : Footer} (by : Co
   pub mapped-footer : FooterShows (d .settings .clip) (pixelsIn (d .width) (d .height) (d .settings) 0) (binsOf (d .settings)) foot
   mapped-footer = footer-shows _ _ _ _ _ (d .map) (d .scratch) done
 
-  -- and every tile, with the limit of the footer
-  pub mapped-tiles-sound : {f : Float} → ClippingOn (d .settings .clip) f → FilmSound (d .width) (d .height) pic (d .settings) (foot .limit) (d .map′)
-  mapped-tiles-sound {f} on =
-      rw (ap (λ (z : Footer). z .limit) (mapped-footer .above f on), ap (λ (z : Ended). z .map) as-prepare)
-      (tiles-sound _ _ _ _ _ (d .map) (d .scratch) done on)
+  -- and every tile, with its own limit
+  pub mapped-tiles-sound : {f : Float} → ClippingOn (d .settings .clip) f → FilmSound (d .width) (d .height) pic (d .settings) f (d .map′)
+  mapped-tiles-sound on = rw (ap (λ (z : Ended). z .map) as-prepare) (tiles-sound _ _ _ _ _ (d .map) (d .scratch) done on)

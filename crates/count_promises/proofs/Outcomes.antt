@@ -12,9 +12,8 @@ use Rattle.lists.proofs.Fills.{take-onto, drop-onto}
 use Rattle.refuse.specs.Refuse.{first, refused, accepted, says}
 use Rattle.settings.specs.declared.Settings.{Settings}
 use Rattle.settings.specs.Settings.{entriesOf, keptOf, recordOf}
-use Rattle.prepare.specs.declared.Prepared.the-variants as Prepared
 use Rattle.tiles.specs.Tiles.{footOf}
-use Rattle.prepare.specs.Prepare.{preparedSays, Ended, ending}
+use Rattle.prepare.specs.Prepare.{preparedNot, preparedSays, Ended, ending}
 use Rattle.counting.specs.declared.Counted.the-variants as Counted
 use Rattle.counting.specs.Counting.{rawCounts, countings, countsIn, countRows, countedSays, Tallied, counted, countOf, Alike}
 use Rattle.counts.specs.Counts.{mapRows, mapDoneOf, mapOf}
@@ -45,7 +44,7 @@ count-table w h pic s cs =
 -- mapping: "1, 3 to 12 with 31 after 9, then 33, then 34"
 pub map-table : (film w h : ℕ) (s : Settings) (cs m t : List ℕ)
     → ByTable (λ (x : Ended). preparedSays (x .answer)) (first (mapRows w h s cs (length m) (length t))) (recordOf film w h s, footOf w h s) (mapDoneOf film w h s cs m t)
-    (λ k. ending (Prepared.Refused k) m t) (mapOf film w h s cs m t)
+    (λ k. ending (preparedNot k) m t) (mapOf film w h s cs m t)
 unfolding mapDoneOf preparedSays
 map-table film w h s cs m t =
     record {

@@ -9,10 +9,11 @@ use Rattle.refuse.specs.Refuse.{first, unless}
 use Rattle.refuse.proofs.Walk.{unless-refused}
 use Rattle.settings.specs.declared.Settings.{Settings}
 use Rattle.settings.specs.declared.Footer.{Footer}
-use Rattle.settings.specs.Settings.{keptOf, clipOne}
+use Rattle.settings.specs.declared.MapRecord.{MapRecord}
+use Rattle.settings.specs.Settings.{recordOf, clipOne}
 use Rattle.tiles.specs.Tiles.{footOf, FilmAsks}
-use Rattle.prepare.specs.declared.Prepared.the-variants as Prepared
-use Rattle.prepare.specs.Prepare.{ending}
+use Rattle.prepare.specs.declared.Prepared.{Prepared}
+use Rattle.prepare.specs.Prepare.{preparedWith, preparedNot, ending}
 use Rattle.counts.specs.Counts.{mapRows, mapDoneOf, mapOf, MapsAsk, AllMapped}
 use Rattle.counts.proofs.Tables.{map-ready}
 
@@ -31,21 +32,25 @@ module _ (w h : ℕ) (s : Settings) (cs : List ℕ) (room scratch : ℕ) {r : �
 
 module _ (film w h : ℕ) (s : Settings) (cs m t : List ℕ) where
   -- a refusal, as it was worked out
-  pub map-refused : {r : ℕ} → r ≡ first (mapRows w h s cs (length m) (length t)) → (r ≡ 0 → ⊥) → ending (Prepared.Refused r) m t ≡ mapOf film w h s cs m t
+  pub map-refused : {r : ℕ} → r ≡ first (mapRows w h s cs (length m) (length t)) → (r ≡ 0 → ⊥) → ending (preparedNot r) m t ≡ mapOf film w h s cs m t
   unfolding mapOf
   map-refused {r} e z =
-      unless-refused r (λ n. ending (Prepared.Refused n) m t) (mapDoneOf film w h s cs m t) z
-      ∙ ap (λ k. unless k (λ n. ending (Prepared.Refused n) m t) (mapDoneOf film w h s cs m t)) e
+      unless-refused r (λ n. ending (preparedNot n) m t) (mapDoneOf film w h s cs m t) z
+      ∙ ap (λ k. unless k (λ n. ending (preparedNot n) m t) (mapDoneOf film w h s cs m t)) e
+
+  -- the same of the answer that prepare's refusals have
+  pub map-not : {r : ℕ} {p : Prepared} → r ≡ first (mapRows w h s cs (length m) (length t)) → (r ≡ 0 → ⊥) → p ≡ preparedNot r → ending p m t ≡ mapOf film w h s cs m t
+  map-not e z q = ap (λ p. ending p m t) q ∙ map-refused e z
 
   module _ {r : ℕ} (e : r ≡ first (mapRows w h s cs (length m) (length t))) (z : r ≡ 0) where
     -- no refusal
     pub map-done : mapDoneOf film w h s cs m t ≡ mapOf film w h s cs m t
     unfolding mapOf
-    map-done = ap (λ k. unless k (λ n. ending (Prepared.Refused n) m t) (mapDoneOf film w h s cs m t)) (sym z ∙ e)
+    map-done = ap (λ k. unless k (λ n. ending (preparedNot n) m t) (mapDoneOf film w h s cs m t)) (sym z ∙ e)
 
-    module _ {kept : Settings} {foot : Footer} {o : Bool} (f : foot ≡ footOf w h s) (k : kept ≡ keptOf s) (c : o ≡ clipOne (s .clip)) where
+    module _ {kept : MapRecord} {foot : Footer} {o : Bool} (f : foot ≡ footOf w h s) (k : kept ≡ recordOf film w h s) (c : o ≡ clipOne (s .clip)) where
       -- at the factor 1.0 the buffers stay
-      pub map-one : o ≡ true → ending (Prepared.Done record { film = film; width = w; height = h; settings = kept } foot) m t ≡ mapOf film w h s cs m t
+      pub map-one : o ≡ true → ending (preparedWith kept foot) m t ≡ mapOf film w h s cs m t
       unfolding mapDoneOf
       map-one y =
           let one : clipOne (s .clip) ≡ true = sym c ∙ y in
@@ -53,7 +58,7 @@ module _ (film w h : ℕ) (s : Settings) (cs m t : List ℕ) where
 
       -- else the mappings are laid down and the scratch is zero
       pub map-well : {m′ t′ : List ℕ} → o ≡ false → AllMapped w h s cs m m′ t t′
-          → ending (Prepared.Done record { film = film; width = w; height = h; settings = kept } foot) m′ t′ ≡ mapOf film w h s cs m t
+          → ending (preparedWith kept foot) m′ t′ ≡ mapOf film w h s cs m t
       unfolding mapDoneOf
       map-well y done =
           let one : clipOne (s .clip) ≡ false = sym c ∙ y in

@@ -16,6 +16,7 @@ use Rattle.settings.specs.declared.Settings.{Settings}
 use Rattle.settings.specs.Settings.{binsOf, entriesOf, keptOf, sideRows}
 use Rattle.settings.proofs.Like.{bins-kept, grid-kept, range-kept, clip-kept, room-kept}
 use Rattle.settings.proofs.Parts.{grey-parts}
+use Rattle.settings.proofs.Records.{record-of-kept}
 use Rattle.tiles.specs.Tiles.{pixelsIn}
 use Rattle.tiles.proofs.Like.{foot-kept}
 use Rattle.counting.specs.Counting.{countsIn}
@@ -47,7 +48,7 @@ from-kept w h s cs = joined-cong (s .across * s .down) (λ k l. rw (bins-kept s)
 pub map-kept : (film w h : ℕ) (s : Settings) (cs m t : List ℕ) → mapOf film w h (keptOf s) cs m t ≡ mapOf film w h s cs m t
 unfolding mapOf mapDoneOf mapRows sumRows
 map-kept film w h s cs m t =
-    rw (tiling-kept w h s, lent-kept s (length m) (length t) (length cs), sums-kept w h s cs, from-kept w h s cs, foot-kept w h s, bins-kept s) refl
+    rw (tiling-kept w h s, lent-kept s (length m) (length t) (length cs), sums-kept w h s cs, from-kept w h s cs, foot-kept w h s, record-of-kept film w h s, bins-kept s) refl
 
 -- ---- mapping looks at the front of the counts
 

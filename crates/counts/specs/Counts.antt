@@ -13,8 +13,7 @@ use Rattle.tile.specs.Tile.{countsMapping}
 use Rattle.settings.specs.declared.Settings.{Settings}
 use Rattle.settings.specs.Settings.{binsOf, entriesOf, recordOf, clipBad, clipOne, sideRows, gridRows, greyRows, roomRows, Tiled}
 use Rattle.tiles.specs.Tiles.{pixelsIn, footOf, Placed, AllPlaced}
-use Rattle.prepare.specs.declared.Prepared.the-variants as Prepared
-use Rattle.prepare.specs.Prepare.{Ended, ending}
+use Rattle.prepare.specs.Prepare.{preparedWith, preparedNot, Ended, ending}
 use Rattle.counting.specs.Counting.{countsIn, countsRows}
 
 -- ---- mappings from counts
@@ -55,7 +54,7 @@ mapRows w h s cs room scratch = tilingRows w h s ++ (lentRows s room scratch (le
 unfoldable pub mapDoneOf : ℕ → ℕ → ℕ → Settings → List ℕ → List ℕ → List ℕ → Ended
 mapDoneOf film w h s cs m t =
     record {
-      answer = Prepared.Done (recordOf film w h s) (footOf w h s);
+      answer = preparedWith (recordOf film w h s) (footOf w h s);
       map = cond (clipOne (s .clip)) m (onto m (mappingsFrom w h s cs));
       scratch = cond (clipOne (s .clip)) t (filled (λ k. 0) t (binsOf s));
     }
@@ -63,7 +62,7 @@ mapDoneOf film w h s cs m t =
 -- a refusal leaves all memory as it was; where none applies, mapping does its work
 unfoldable pub mapOf : ℕ → ℕ → ℕ → Settings → List ℕ → List ℕ → List ℕ → Ended
 mapOf film w h s cs m t =
-    unless (first (mapRows w h s cs (length m) (length t))) (λ n. ending (Prepared.Refused n) m t) (mapDoneOf film w h s cs m t)
+    unless (first (mapRows w h s cs (length m) (length t))) (λ n. ending (preparedNot n) m t) (mapDoneOf film w h s cs m t)
 
 -- ---- what the functions below ask
 

@@ -9,8 +9,8 @@ ghost use Rattle.tiles.specs.Tiles.{pixelsIn};
 ghost use Rattle.prepare.specs.Prepare.{ending};
 ghost use Rattle.counting.specs.Counting.{countsIn, LentAsks};
 ghost use Rattle.counts.specs.Counts.{addsUp, tilingRows, lentRows, mapRows, mapOf, SumsAsk, SumAsks, MapsAsk, MapAsks, CopyAsks, OneMapped, AllMapped};
+use prepare::Made;
 use prepare::Prepared;
-use settings::MapRecord;
 use settings::Settings;
 
 // Whether counts add up to these pixels. The sum of 4096 counts of 32 bits does not wrap in 64.
@@ -32,11 +32,11 @@ fn tile_adds_up(width: u32, height: u32, s: Settings, k: usize, counts: &[u32]) 
     requires { ⌜ SumAsks width height s k (length (now counts)) ⌝ }
     ensures { λ r. ⌜ r ≡ eqb (total (countsIn s (now (counts .entry)) k)) (pixelsIn width height s k) ⌝ }
 {
-    let pixels = tiles::tile_pixels(width, height, s, k);
+    let own = tiles::tile_pixels(width, height, s, k);
     let each = settings::bins(s) as usize;
     let from = k * each;
     let to = from + each;
-    adds_up(&counts[from..to], pixels)
+    adds_up(&counts[from..to], own)
 }
 
 // Whether each tile's counts add up to its pixels.
@@ -185,21 +185,21 @@ pub fn map_counts(
 {
     let refused = map_refusal(width, height, s, counts, map.len(), scratch.len());
     if refused != 0 {
-        return Prepared::Refused(refused);
+        return prepare::not_prepared(refused);
     }
     let clip = s.clip;
     let foot = tiles::foot(width, height, s);
-    let kept = settings::kept(s);
-    let record = MapRecord {
-        film,
-        width,
-        height,
-        settings: kept,
-    };
+    let kept = settings::made_for(film, width, height, s);
     let one = settings::clip_one(clip);
     if one {
-        return Prepared::Done(record, foot);
+        return Prepared {
+            answer: Made::Done(foot),
+            kept,
+        };
     }
     map_all(width, height, s, counts, map, scratch);
-    Prepared::Done(record, foot)
+    Prepared {
+        answer: Made::Done(foot),
+        kept,
+    }
 }

@@ -16,7 +16,7 @@ use Rattle.held.proofs.Laws.{record-fifteen}
 use Rattle.draw.specs.Draw.{drawRows}
 use Rattle.draw.proofs.Tables.{draw-record}
 
--- ---- a record that is another film's, of another size or of other settings
+-- ---- a record that is another film's, of another size, of other settings or with other edges or centres
 
 module _ (film w h : ℕ) (pic : List ℕ) (s : Settings) (r : MapRecord) (win : Window) (m : List ℕ) (room : ℕ) (shared : first (sharedRows w h (length pic) s (length m)) ≡ 0) where
   -- where none of the refusals 1 to 11 and 31 applies, a record that differs is refused with 15

@@ -16,7 +16,7 @@ use Rattle.tally.specs.Tally.{greysOf}
 use Rattle.settings.specs.declared.Settings.{Settings}
 use Rattle.settings.specs.declared.MapRecord.{MapRecord}
 use Rattle.settings.specs.declared.Window.{Window}
-use Rattle.settings.specs.Settings.{entriesOf, keptOf, recordOf, clipOne}
+use Rattle.settings.specs.Settings.{entriesOf, keptOf, keptRecord, clipOne}
 use Rattle.settings.proofs.Ready.{shared-room-alike}
 use Rattle.settings.proofs.Like.{bins-kept, shared-kept}
 use Rattle.render.specs.Render.{renderOf, rectOf}
@@ -62,7 +62,7 @@ draw-kept film w h pic s r win m out =
 
 -- which reads the record's bins so too: "bins 0 read as 128 on both sides"
 pub draw-kept-record : (film w h : ℕ) (pic : List ℕ) (s : Settings) (r : MapRecord) (win : Window) (m out : List ℕ)
-    → drawOf film w h pic s (recordOf (r .film) (r .width) (r .height) (r .settings)) win m out ≡ drawOf film w h pic s r win m out
+    → drawOf film w h pic s (keptRecord r) win m out ≡ drawOf film w h pic s r win m out
 unfolding drawOf drawRows
 draw-kept-record film w h pic s r win m out = rw (record-kept-record film w h s r) refl
 

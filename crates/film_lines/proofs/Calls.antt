@@ -3,7 +3,7 @@
 use Prim.Native.Nat.{ℕ, zero, suc, _<_}
 use mathlib.Core.Bool.{cond}
 use mathlib.Core.List.{List}
-use mathlib.Core.Path.{_≡_, refl, ap, _∙_}
+use mathlib.Core.Path.{_≡_, refl, sym, ap, _∙_}
 use lib.Dec.{lit<}
 use lib.ListN.{length}
 use native.Mathlib.Omega.{arith}
@@ -13,13 +13,12 @@ use Rattle.lists.proofs.Maps.{onto-whole}
 use Rattle.refuse.specs.Refuse.{first, unless}
 use Rattle.limit.proofs.Laws.{above-not-one}
 use Rattle.settings.specs.declared.Settings.{Settings}
-use Rattle.settings.specs.declared.MapRecord.{MapRecord}
 use Rattle.settings.specs.declared.Footer.{Footer}
 use Rattle.settings.specs.Settings.{binsOf}
 use Rattle.prepare.specs.declared.Prepared.{Prepared}
-use Rattle.prepare.specs.declared.Prepared.the-variants as Prepared
-use Rattle.prepare.specs.Prepare.{prepareRows, Ended, ending, preparedOf, prepareOf}
-use Rattle.tiles.specs.Tiles.{mappings, TilesAsk}
+use Rattle.prepare.specs.declared.Made.the-variants as Made
+use Rattle.prepare.specs.Prepare.{prepareRows, preparedNot, Ended, ending, preparedOf, prepareOf}
+use Rattle.tiles.specs.Tiles.{mappings, footOf, TilesAsk}
 use Rattle.tiles.proofs.Footers.{foot-limit}
 use Rattle.prepare.proofs.Table.{work}
 use Rattle.tiles.proofs.Films.{length-mappings}
@@ -46,10 +45,10 @@ module _ (w h m : ℕ) (pic : List ℕ) where
   number = first (prepareRows w h pic (settingsOf m) 16 4)
 
   -- a film that is not refused
-  pub record Made (limit : ℕ) (map scratch : List ℕ) : Type 0 where
+  pub record Accepted (limit : ℕ) (map scratch : List ℕ) : Type 0 where
     pub none : number ≡ 0
     pub film : TilesAsk w h pic (settingsOf m) 16 4
-    pub bound : limit ≡ limitFor w h m
+    pub bound : limit ≡ limitFor w h m 0
     pub mapped : map ≡ mappings w h pic (settingsOf m)
     pub counts : length scratch ≡ 4
 
@@ -57,49 +56,51 @@ module _ (w h m : ℕ) (pic : List ℕ) where
   tiles-asks : number ≡ 0 → TilesAsk w h pic (settingsOf m) 16 4
   tiles-asks z = record { work = work w h pic (settingsOf m) 16 4 z; changes = above-not-one two (refl, lit< tt) }
 
-  made : (map₀ scratch₀ : List ℕ) {rec : MapRecord} {foot : Footer} {map scratch : List ℕ} → length map₀ ≡ 16 → length scratch₀ ≡ 4 → number ≡ 0
-      → ending (Prepared.Done rec foot) map scratch ≡ preparedOf 0 w h pic (settingsOf m) map₀ scratch₀ → Made (foot .limit) map scratch
-  unfolding preparedOf binsOf
-  made map₀ scratch₀ {rec} {foot} {map} {scratch} n k z e =
-      record {
-        none = z;
-        film = tiles-asks z;
-        bound = ap (λ (f : Footer). f .limit) (same (ap (λ (x : Ended). x .answer) e)) ∙ foot-limit w h (settingsOf m) refl (tiles-asks z .changes);
-        mapped = ap (λ (x : Ended). x .map) e ∙ ap (λ b. cond b map₀ (onto map₀ (mappings w h pic (settingsOf m)))) (tiles-asks z .changes) ∙ onto-whole map₀ (mappings w h pic (settingsOf m)) (omega (arith, length-mappings w h pic (settingsOf m)));
-        counts = ap (λ (x : Ended). length (x .scratch)) e ∙ ap (λ b. length (cond b scratch₀ (filled (λ i. 0) scratch₀ 4))) (tiles-asks z .changes) ∙ (length-filled (λ i. 0) scratch₀ 4 (omega arith) ∙ k);
-      }
-    where
-      same : {a b : MapRecord} {f g : Footer} → Prepared.Done a f ≡ Prepared.Done b g → f ≡ g
-      same q = cc
+  module _ (map₀ scratch₀ : List ℕ) {map scratch : List ℕ} (n : length map₀ ≡ 16) (k : length scratch₀ ≡ 4) where
+    accepted : {p : Prepared} {foot : Footer} → p .answer ≡ Made.Done foot → number ≡ 0
+        → ending p map scratch ≡ preparedOf 0 w h pic (settingsOf m) map₀ scratch₀ → Accepted (foot .limit) map scratch
+    unfolding preparedOf binsOf
+    accepted {p} {foot} a z e =
+        record {
+          none = z;
+          film = tiles-asks z;
+          bound = ap (λ (f : Footer). f .limit) (same (sym a ∙ ap (λ (x : Ended). x .answer .answer) e)) ∙ foot-limit w h (settingsOf m) refl (tiles-asks z .changes);
+          mapped = ap (λ (x : Ended). x .map) e ∙ ap (λ b. cond b map₀ (onto map₀ (mappings w h pic (settingsOf m)))) (tiles-asks z .changes) ∙ onto-whole map₀ (mappings w h pic (settingsOf m)) (omega (arith, length-mappings w h pic (settingsOf m)));
+          counts = ap (λ (x : Ended). length (x .scratch)) e ∙ ap (λ b. length (cond b scratch₀ (filled (λ i. 0) scratch₀ 4))) (tiles-asks z .changes) ∙ (length-filled (λ i. 0) scratch₀ 4 (omega arith) ∙ k);
+        }
+      where
+        same : {f g : Footer} → Made.Done f ≡ Made.Done g → f ≡ g
+        same q = cc
 
-  -- the answer is a record: no row applied
-  pub prepared-done : (map₀ scratch₀ : List ℕ) {s : Settings} {answer : Prepared} {rec : MapRecord} {foot : Footer} {map scratch : List ℕ} → length map₀ ≡ 16 → length scratch₀ ≡ 4
-      → s ≡ settingsOf m → answer ≡ Prepared.Done rec foot → ending answer map scratch ≡ prepareOf 0 w h pic s map₀ scratch₀ → Made (foot .limit) map scratch
-  unfolding prepareOf
-  prepared-done map₀ scratch₀ {s} {answer} {rec} {foot} {map} {scratch} n k q a e =
-      go number refl (rw (q, a, n, k) at e)
-    where
-      go : (i : ℕ) → number ≡ i → ending (Prepared.Done rec foot) map scratch ≡ unless i (λ n. ending (Prepared.Refused n) map₀ scratch₀) (preparedOf 0 w h pic (settingsOf m) map₀ scratch₀)
-          → Made (foot .limit) map scratch
-      go zero z f = made map₀ scratch₀ n k z f
-      go (suc i) z f =
-          let a : Prepared.Done rec foot ≡ Prepared.Refused (suc i) = ap (λ (x : Ended). x .answer) f in
-          absurd (let o : _≡_ {A = ℕ} 0 1 = cc in omega arith)
+    module _ {s : Settings} {p : Prepared} (q : s ≡ settingsOf m) (e : ending p map scratch ≡ prepareOf 0 w h pic s map₀ scratch₀) where
+      -- what is left, by the rows' number
+      abbrev Left : ℕ → Type 0
+      Left i = ending p map scratch ≡ unless i (λ r. ending (preparedNot r) map₀ scratch₀) (preparedOf 0 w h pic (settingsOf m) map₀ scratch₀)
 
-  -- the answer is a refusal: it is the rows' number
-  pub prepared-refused : (map₀ scratch₀ : List ℕ) {s : Settings} {answer : Prepared} {r : ℕ} {map scratch : List ℕ} → length map₀ ≡ 16 → length scratch₀ ≡ 4
-      → s ≡ settingsOf m → answer ≡ Prepared.Refused r → ending answer map scratch ≡ prepareOf 0 w h pic s map₀ scratch₀
-      → (r < 100000) × ((text : List ℕ) → refusedText r ≡ unless number refusedText text)
-  unfolding prepareOf preparedOf
-  prepared-refused map₀ scratch₀ {s} {answer} {r} {map} {scratch} n k q a e =
-      go number refl (rw (q, a, n, k) at e)
-    where
-      go : (i : ℕ) → number ≡ i → ending (Prepared.Refused r) map scratch ≡ unless i (λ n. ending (Prepared.Refused n) map₀ scratch₀) (preparedOf 0 w h pic (settingsOf m) map₀ scratch₀)
-          → (r < 100000) × ((text : List ℕ) → refusedText r ≡ unless number refusedText text)
-      go zero z f =
-          let a : Prepared.Refused r ≡ preparedOf 0 w h pic (settingsOf m) map₀ scratch₀ .answer = ap (λ (x : Ended). x .answer) f in
-          absurd (let o : _≡_ {A = ℕ} 0 1 = cc in omega arith)
-      go (suc i) z f =
-          let a : Prepared.Refused r ≡ Prepared.Refused (suc i) = ap (λ (x : Ended). x .answer) f in
-          let b : r ≡ suc i = cc in
-          (omega (arith, prepare-below w h pic (settingsOf m) 16 4), λ text. rw (z, b) refl)
+      left : Left number
+      unfolding prepareOf
+      left = rw (q, n, k) at e
+
+      -- the answer is a footer: no row applied
+      pub prepared-done : {foot : Footer} → p .answer ≡ Made.Done foot → Accepted (foot .limit) map scratch
+      prepared-done {foot} a = go number refl left
+        where
+          go : (i : ℕ) → number ≡ i → Left i → Accepted (foot .limit) map scratch
+          go zero z f = accepted a z f
+          go (suc i) z f =
+              let b : p .answer ≡ Made.Refused (suc i) = ap (λ (x : Ended). x .answer .answer) f in
+              absurd (let o : _≡_ {A = ℕ} 0 1 = cc in omega arith)
+
+      -- the answer is a refusal: it is the rows' number
+      pub prepared-refused : {r : ℕ} → p .answer ≡ Made.Refused r → (r < 100000) × ((text : List ℕ) → refusedText r ≡ unless number refusedText text)
+      unfolding preparedOf
+      prepared-refused {r} a = go number refl left
+        where
+          go : (i : ℕ) → number ≡ i → Left i → (r < 100000) × ((text : List ℕ) → refusedText r ≡ unless number refusedText text)
+          go zero z f =
+              let b : p .answer ≡ Made.Done (footOf w h (settingsOf m)) = ap (λ (x : Ended). x .answer .answer) f in
+              absurd (let o : _≡_ {A = ℕ} 0 1 = cc in omega arith)
+          go (suc i) z f =
+              let b : p .answer ≡ Made.Refused (suc i) = ap (λ (x : Ended). x .answer .answer) f in
+              let d : r ≡ suc i = cc in
+              (omega (arith, prepare-below w h pic (settingsOf m) 16 4), λ text. rw (z, d) refl)

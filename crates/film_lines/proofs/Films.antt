@@ -22,7 +22,7 @@ use Rattle.film_lines.specs.FilmText.{settingsOf, limitFor, firstLine, e
 -- eight numbers
 pub length-first : (w h m : ℕ) → length (firstLine w h m) ≤ 48
 unfolding firstLine
-length-first w h m = length-line (w ∷ h ∷ 2 ∷ 2 ∷ 4 ∷ 0 ∷ m ∷ limitFor w h m ∷ []) (omega arith)
+length-first w h m = length-line (w ∷ h ∷ 2 ∷ 2 ∷ 4 ∷ 0 ∷ m ∷ limitFor w h m 0 ∷ []) (omega arith)
 
 -- seven numbers
 pub length-tile : (w h m : ℕ) (pic : List ℕ) (k : ℕ) → length (tileLine w h m pic k) ≤ 42
@@ -78,12 +78,12 @@ unfolding filmText joined
 text-joined w h m pic = ap (λ t. firstLine w h m ++ t) (simp append-assoc)
 
 -- the first line, as it is laid down
-pub first-is : (w h m : ℕ) {limit : ℕ} → limit ≡ limitFor w h m → line (w ∷ h ∷ 2 ∷ 2 ∷ 4 ∷ 0 ∷ m ∷ limit ∷ []) ≡ firstLine w h m
+pub first-is : (w h m : ℕ) {limit : ℕ} → limit ≡ limitFor w h m 0 → line (w ∷ h ∷ 2 ∷ 2 ∷ 4 ∷ 0 ∷ m ∷ limit ∷ []) ≡ firstLine w h m
 unfolding firstLine
 first-is w h m e = rw e refl
 
 -- it ends by place 48
-pub first-few : (w h m : ℕ) {limit : ℕ} {d s : List ℕ} {a : ℕ} → limit ≡ limitFor w h m
+pub first-few : (w h m : ℕ) {limit : ℕ} {d s : List ℕ} {a : ℕ} → limit ≡ limitFor w h m 0
     → Laid d 0 (line (w ∷ h ∷ 2 ∷ 2 ∷ 4 ∷ 0 ∷ m ∷ limit ∷ [])) s a → a ≤ 48
 first-few w h m e laid = omega (arith, laid .next, ap length (first-is w h m e), length-first w h m)
 

@@ -10,13 +10,15 @@ use native.Mathlib.Nat.{add-zero}
 use native.Mathlib.Omega.{arith}
 use Rattle.lists.specs.Lists.{onto, total}
 use Rattle.lists.proofs.Maps.{onto-whole}
+use Rattle.limit.specs.Limit.{allowed, limitOf, LimitAsks}
 use Rattle.limit.proofs.Laws.{limit-bound}
 use Rattle.clip.specs.Clip.{excess}
 use Rattle.clip.proofs.Shares.{excess-most}
 use Rattle.tally.specs.declared.Rect.{Rect}
 use Rattle.tally.specs.Tally.{greysOf, countsOf, CountAsks}
 use Rattle.tally.proofs.Counts.{length-counts, total-counts}
-use Rattle.settings.specs.Settings.{binsOf, Ready}
+use Rattle.settings.specs.declared.Settings.{Settings}
+use Rattle.settings.specs.Settings.{binsOf, Tiled, Ready}
 use Rattle.tiles.specs.Tiles.{tileOf, pixelsIn, tileMap, mappings, TilesAsk}
 use Rattle.tiles.proofs.Tiles.{tile-inside, length-tile-greys, tile-pixels-most, tile-pixels-film}
 use Rattle.tiles.proofs.Films.{tile-greys, length-tile-map, length-mappings, getD-mappings}
@@ -65,24 +67,35 @@ module _ {w h m : ℕ} {pic : List ℕ} (asks : TilesAsk w h pic (settingsOf m) 
     -- the excess of a tile is at most its pixels
     pub excess-few : excessFor w h m pic k ≤ w * h
     unfolding excessFor
-    excess-few = omega (arith, excess-most (limitFor w h m) (countsOf 0 m 4 (greysOf pic w (tileOf w h (settingsOf m) k))), counts-total, tile-pixels-film w h (settingsOf m) k)
+    excess-few = omega (arith, excess-most (limitFor w h m k) (countsOf 0 m 4 (greysOf pic w (tileOf w h (settingsOf m) k))), counts-total, tile-pixels-film (ready .tiled) l)
 
     pub excess-fits : excessFor w h m pic k ≤ 4194304
     unfolding excessFor
-    excess-fits = omega (arith, excess-most (limitFor w h m) (countsOf 0 m 4 (greysOf pic w (tileOf w h (settingsOf m) k))), counts-total, tile-pixels-most (ready .tiled) l)
+    excess-fits = omega (arith, excess-most (limitFor w h m k) (countsOf 0 m 4 (greysOf pic w (tileOf w h (settingsOf m) k))), counts-total, tile-pixels-most (ready .tiled) l)
 
 -- the excess of a tile, from its counts and its limit
-pub excess-is : (w h m : ℕ) (pic : List ℕ) (k : ℕ) {limit r : ℕ} {cs : List ℕ} → limit ≡ limitFor w h m
+pub excess-is : (w h m : ℕ) (pic : List ℕ) (k : ℕ) {limit r : ℕ} {cs : List ℕ} → limit ≡ limitFor w h m k
     → cs ≡ countsOf 0 m 4 (greysOf pic w (tileOf w h (settingsOf m) k)) → r ≡ excess limit cs → r ≡ excessFor w h m pic k
 unfolding excessFor
 excess-is w h m pic k {limit} {r} {cs} p q e = e ∙ ap₂ excess p q
 
 -- ---- the limit
 
+-- what a tile's limit asks
+pub limit-asks : {w h m k n : ℕ} {s : Settings} → Tiled w h (settingsOf m) → k < 4 → s ≡ settingsOf m → n ≡ pixelsIn w h s k → LimitAsks two n 4
+unfolding allowed
+limit-asks {w} {h} {m} {k} {n} {s} tiled l q e =
+    let most : pixelsIn w h (settingsOf m) k ≤ 4194304 = tile-pixels-most tiled l in
+    record { good = refl; pixels = rw (e, q) most; least = omega arith; most = omega arith }
+
+-- and it is the tile's own
+pub limit-is : (w h m k : ℕ) {n r : ℕ} {s : Settings} → s ≡ settingsOf m → n ≡ pixelsIn w h s k → r ≡ limitOf two n 4 → r ≡ limitFor w h m k
+limit-is w h m k q e f = f ∙ rw (e, q) refl
+
 -- the limit is at most the tile's pixels, or 1
-pub limit-few : (w h m : ℕ) → w * h ≤ 8192 → limitFor w h m < 100000
-limit-few w h m l =
-    omega (arith, tile-pixels-film w h (settingsOf m) 0, limit-bound false 1 (pos 1) (pixelsIn w h (settingsOf m) 0) 4 2 (omega arith) (omega arith))
+pub limit-few : (w h m : ℕ) → Tiled w h (settingsOf m) → w * h ≤ 8192 → limitFor w h m 0 < 100000
+limit-few w h m tiled l =
+    omega (arith, tile-pixels-film tiled {k = 0} (omega arith), limit-bound false 1 (pos 1) (pixelsIn w h (settingsOf m) 0) 4 2 (omega arith) (omega arith))
 
 -- ---- the mapping
 

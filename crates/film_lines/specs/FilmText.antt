@@ -21,18 +21,18 @@ two = fin false 1 (pos 1)
 abbrev pub settingsOf : ℕ → Settings
 settingsOf maxval = record { across = 2; down = 2; bins = 4; min = 0; max = maxval; clip = Factor two }
 
--- the limit of a film's tiles, which have the pixels of the first
-abbrev pub limitFor : ℕ → ℕ → ℕ → ℕ
-limitFor w h maxval = limitOf two (pixelsIn w h (settingsOf maxval) 0) 4
+-- "N and L are each tile's own": the limit of tile k
+abbrev pub limitFor : ℕ → ℕ → ℕ → ℕ → ℕ
+limitFor w h maxval k = limitOf two (pixelsIn w h (settingsOf maxval) k) 4
 
--- "First line: width, height, grid across, grid down, bins, Min, Max, L."
+-- "First line: width, height, grid across, grid down, bins, Min, Max, L.", that of tile 0, 0 as in the footer
 unfoldable pub firstLine : ℕ → ℕ → ℕ → List ℕ
-firstLine w h maxval = line (w ∷ h ∷ 2 ∷ 2 ∷ 4 ∷ 0 ∷ maxval ∷ limitFor w h maxval ∷ [])
+firstLine w h maxval = line (w ∷ h ∷ 2 ∷ 2 ∷ 4 ∷ 0 ∷ maxval ∷ limitFor w h maxval 0 ∷ [])
 
--- "Excess E is the sum over bins of what stands above L": that of tile k
+-- "Excess E is the sum over bins of what stands above L": that of tile k, over its own L
 unfoldable pub excessFor : ℕ → ℕ → ℕ → List ℕ → ℕ → ℕ
 excessFor w h maxval pic k =
-    excess (limitFor w h maxval) (countsOf 0 maxval 4 (greysOf pic w (tileOf w h (settingsOf maxval) k)))
+    excess (limitFor w h maxval k) (countsOf 0 maxval 4 (greysOf pic w (tileOf w h (settingsOf maxval) k)))
 
 -- "Then a line per tile: row, column, E, the mapping."
 unfoldable pub tileLine : ℕ → ℕ → ℕ → List ℕ → ℕ → List ℕ

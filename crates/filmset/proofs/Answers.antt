@@ -8,8 +8,11 @@ use lib.ListN.{getD, set}
 use native.Mathlib.Omega.{arith}
 use borrow.Author.Tests.{lt-ltb, le-ltb, le-leb, lt-leb, eq-eqb, ne-eqb}
 use Rattle.filmset.specs.declared.row.Line.{Line}
+use Rattle.grid.specs.Grid.{axisOf, noAxis}
 use Rattle.filmset.specs.declared.kept.Ten.{Ten}
-use Rattle.filmset.specs.Filmset.{freshLine, digitOf, longerLine, fedLine, lookedLine, isFilm, ownOf, tenOf, placeOf, handedOf}
+use Rattle.filmset.specs.declared.kept.Kept.{Kept}
+use Rattle.filmset.specs.declared.axes.Axes.{Axes}
+use Rattle.filmset.specs.Filmset.{freshLine, digitOf, longerLine, fedLine, lookedLine, isFilm, ownOf, tenOf, madeAxis, axesOf, changedAxes, keptAs, placeOf, handedOf}
 
 pub digit-low : (b : ℕ) → b < 65 → b - 48 ≡ digitOf b
 unfolding digitOf
@@ -67,10 +70,37 @@ pub own-at : (row : List ℕ) (place whole : ℕ) {r : ℕ} → isFilm row ≡ f
 unfolding ownOf
 own-at row place whole h e = rw h e
 
-pub handed-kept : (row drawn : List ℕ) (t : Ten) {f : ℕ} → f ≡ ownOf drawn 9 10 → 10 ≤ f → t ≡ handedOf row drawn t
-unfolding handedOf
-handed-kept row drawn t {f} e h = rw (← e, le-leb 10 f h) refl
+module _ (row drawn : List ℕ) (k : Kept) {f : ℕ} (e : f ≡ ownOf drawn 9 10) where
+  pub handed-kept : {a : Axes} → 10 ≤ f → a ≡ changedAxes (k .axes) f (getD drawn 10 0) → keptAs (k .number) (k .ten) a ≡ handedOf row drawn k
+  unfolding handedOf
+  handed-kept h q = rw (← e, le-leb 10 f h, q) refl
 
-pub handed-made : (row drawn : List ℕ) (t : Ten) {f : ℕ} {u : Ten} → f ≡ ownOf drawn 9 10 → f < 10 → u ≡ tenOf (set row (placeOf f) (getD drawn 10 0)) → u ≡ handedOf row drawn t
-unfolding handedOf
-handed-made row drawn t {f} {u} e h q = rw (← e, lt-leb 10 f h) q
+  pub handed-made : {t : Ten} {a : Axes} → f < 10 → t ≡ tenOf (set row (placeOf f) (getD drawn 10 0)) → a ≡ axesOf (tenOf row) → keptAs (k .number) t a ≡ handedOf row drawn k
+  unfolding handedOf
+  handed-made h q r = rw (← e, lt-leb 10 f h, q, r) refl
+
+-- ---- an axis of a made record
+
+module _ (side grid : ℕ) where
+  pub axis-none : grid < 2 → noAxis ≡ madeAxis side grid
+  unfolding madeAxis
+  axis-none h = rw (lt-leb 2 grid h) refl
+
+  module _ (a : 2 ≤ grid) where
+    pub axis-many : 16 < grid → noAxis ≡ madeAxis side grid
+    unfolding madeAxis
+    axis-many h = rw (le-leb 2 grid a, lt-leb grid 16 h) refl
+
+    module _ (b : grid ≤ 16) where
+      pub axis-short : side < grid → noAxis ≡ madeAxis side grid
+      unfolding madeAxis
+      axis-short h = rw (le-leb 2 grid a, le-leb grid 16 b, lt-leb grid side h) refl
+
+      module _ (d : grid ≤ side) where
+        pub axis-long : 4096 < side → noAxis ≡ madeAxis side grid
+        unfolding madeAxis
+        axis-long h = rw (le-leb 2 grid a, le-leb grid 16 b, le-leb grid side d, lt-leb side 4096 h) refl
+
+        pub axis-fitting : side ≤ 4096 → axisOf side grid ≡ madeAxis side grid
+        unfolding madeAxis
+        axis-fitting h = rw (le-leb 2 grid a, le-leb grid 16 b, le-leb grid side d, le-leb side 4096 h) refl

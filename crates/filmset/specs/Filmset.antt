@@ -1,6 +1,6 @@
 -- What the functions of the film set answer. A row is the list of its numbers, and a number that is not there reads as 0.
 -- Assumes nothing.
-use Prim.Native.Nat.{ℕ, _+_, _-_, _*_, _%_, _^_}
+use Prim.Native.Nat.{ℕ, _+_, _-_, _*_, _/_, _%_, _^_}
 use mathlib.Core.Bool.{Bool, cond, _&&_}
 use mathlib.Core.List.{List, [], _∷_}
 use lib.Dec.{eqb, ltb, leb}
@@ -10,11 +10,14 @@ use Rattle.text.specs.declared.Text.{Text}
 use Rattle.text.specs.Text.{run, blankText, fieldOf, fieldsOf, hexFieldOf, startOf, endOf, lineOf}
 use Rattle.limit.specs.declared.Clip.{Clip}
 use Rattle.limit.specs.declared.Clip.the-variants.{Off, Factor}
+use Rattle.grid.specs.declared.Axis.{Axis}
+use Rattle.grid.specs.Grid.{axisOf, noAxis}
 use Rattle.settings.specs.declared.Settings.{Settings}
 use Rattle.settings.specs.declared.MapRecord.{MapRecord}
 use Rattle.settings.specs.declared.Window.{Window}
 use Rattle.prepare.specs.declared.Prepared.{Prepared}
-use Rattle.prepare.specs.declared.Prepared.the-variants as prepared
+use Rattle.prepare.specs.declared.Made.{Made}
+use Rattle.prepare.specs.declared.Made.the-variants as made
 use Rattle.prepare.specs.declared.Enhanced.{Enhanced}
 use Rattle.prepare.specs.declared.Enhanced.the-variants as enhanced
 use Rattle.draw.specs.declared.Drawn.{Drawn}
@@ -22,6 +25,7 @@ use Rattle.draw.specs.declared.Drawn.the-variants as drawn
 use Rattle.filmset.specs.declared.row.Line.{Line}
 use Rattle.filmset.specs.declared.kept.Ten.{Ten}
 use Rattle.filmset.specs.declared.kept.Kept.{Kept}
+use Rattle.filmset.specs.declared.axes.Axes.{Axes}
 use Rattle.filmset.specs.declared.film.Shot.{Shot}
 use Rattle.filmset.specs.declared.file.Found.{Found}
 use Rattle.filmset.specs.declared.file.Laid.{Laid}
@@ -116,10 +120,6 @@ clipOf t = cond (eqb (t .clip) 0) Off (Factor (t .factor))
 unfoldable pub settingsOf : Ten → Settings
 settingsOf t = record { across = t .across; down = t .down; bins = t .bins; min = t .min; max = t .max; clip = clipOf t }
 
--- the map record of the ten
-unfoldable pub recordOf : Ten → MapRecord
-recordOf t = record { film = t .film; width = t .width; height = t .height; settings = settingsOf t }
-
 -- the number of a clip setting
 abbrev pub clipNumber : Clip → ℕ
 clipNumber Off = 0
@@ -146,6 +146,39 @@ flatOf r =
       factor = clipFactor (r .settings .clip);
     }
 
+-- ---- axes
+
+-- an axis of a made record: the rule's "where 2 <= grid <= 16 and grid <= side <= 4096 hold on that axis; else that axis is all 0"
+unfoldable pub madeAxis : ℕ → ℕ → Axis
+madeAxis side grid = cond (leb 2 grid && leb grid 16 && leb grid side && leb side 4096) (axisOf side grid) noAxis
+
+-- "The made record's axes are the rule's for its own width, height, across and down"
+unfoldable pub axesOf : Ten → Axes
+axesOf t = record { columns = madeAxis (t .width) (t .across); rows = madeAxis (t .height) (t .down) }
+
+-- those of a map record
+unfoldable pub axesIn : MapRecord → Axes
+axesIn r = record { columns = r .columns; rows = r .rows }
+
+-- "the entry value / 65536 becomes value mod 65536, and nothing changes where there is no such entry"
+abbrev pub changedEntry : Bool → List ℕ → ℕ → List ℕ
+changedEntry asked s value = cond asked (set s (value / 65536) (value % 65536)) s
+
+-- that of an axis whose edges and centres these fields are
+unfoldable pub changedAxis : Axis → ℕ → ℕ → ℕ → ℕ → Axis
+changedAxis a field edges centres value =
+    record {
+      edges = changedEntry (eqb field edges) (a .edges) value;
+      centres = changedEntry (eqb field centres) (a .centres) value;
+    }
+
+-- "If field is 20, 21, 22 or 23, one entry is then changed in this record's column edges, column centres, row edges or row centres"
+unfoldable pub changedAxes : Axes → ℕ → ℕ → Axes
+changedAxes a field value =
+    record { columns = changedAxis (a .columns) field 20 21 value; rows = changedAxis (a .rows) field 22 23 value }
+
+-- ---- what is kept
+
 -- the ten but for the factor, in the order in which C has them
 abbrev pub nineOf : Ten → List ℕ
 nineOf t =
@@ -168,18 +201,38 @@ tenFrom n f =
     }
 
 -- an answer and a record
-abbrev pub keptAs : ℕ → Ten → Kept
-keptAs number t = record { number = number; ten = t }
+abbrev pub keptAs : ℕ → Ten → Axes → Kept
+keptAs number t a = record { number = number; ten = t; axes = a }
 
--- what is kept of prepare's answer: its record, or the made one beside the refusal's number
+-- an answer and the made record
+abbrev pub keptMade : ℕ → Ten → Kept
+keptMade number t = keptAs number t (axesOf t)
+
+-- what is kept of an answer beside its record: that record, or the made one beside the refusal's number
+abbrev pub keptBeside : Ten → MapRecord → Made → Kept
+keptBeside t r (made.Done foot) = keptAs 0 (flatOf r) (axesIn r)
+keptBeside t r (made.Refused n) = keptMade n t
+
+-- what is kept of prepare's answer
 abbrev pub keptPrepared : Ten → Prepared → Kept
-keptPrepared t (prepared.Done r foot) = keptAs 0 (flatOf r)
-keptPrepared t (prepared.Refused n) = keptAs n t
+keptPrepared t p = keptBeside t (p .kept) (p .answer)
 
 -- what is kept of enhance's answer
 abbrev pub keptEnhanced : Ten → Enhanced → Kept
-keptEnhanced t (enhanced.Done foot) = keptAs 0 t
-keptEnhanced t (enhanced.Refused n) = keptAs n t
+keptEnhanced t (enhanced.Done foot) = keptMade 0 t
+keptEnhanced t (enhanced.Refused n) = keptMade n t
+
+-- the map record that is kept
+unfoldable pub recordOf : Kept → MapRecord
+recordOf k =
+    record {
+      film = k .ten .film;
+      width = k .ten .width;
+      height = k .ten .height;
+      settings = settingsOf (k .ten);
+      columns = k .axes .columns;
+      rows = k .axes .rows;
+    }
 
 -- ---- printed lines
 
@@ -187,18 +240,26 @@ keptEnhanced t (enhanced.Refused n) = keptAs n t
 unfoldable pub tenFields : Text → Ten → Text
 tenFields line t = hexFieldOf (fieldsOf line (nineOf t)) 8 (toBits binary32 (t .factor))
 
+-- the digests of an axis: of its edges and of its centres
+unfoldable pub axisFields : Text → Axis → Text
+axisFields line a = fieldOf (fieldOf line (digestOf (a .edges))) (digestOf (a .centres))
+
+-- "the digests of its column edges, column centres, row edges and row centres"
+unfoldable pub axesFields : Text → Axes → Text
+axesFields line a = axisFields (axisFields line (a .columns)) (a .rows)
+
 -- the fields of an accepted call: limit, factor asked for and factor used; under the letter P the record
-unfoldable pub doneFields : Text → ℕ → Ten → ℕ → Float → Float → Text
-doneFields line letter t limit asked used =
+unfoldable pub doneFields : Text → ℕ → Kept → ℕ → Float → Float → Text
+doneFields line letter k limit asked used =
     let foot = hexFieldOf (hexFieldOf (fieldOf line limit) 8 (toBits binary32 asked)) 16 (toBits binary64 used) in
-    cond (eqb letter 80) (tenFields foot t) foot
+    cond (eqb letter 80) (axesFields (tenFields foot (k .ten)) (k .axes)) foot
 
 -- the line of prepare or enhance: the answer, and of an accepted call its fields; none under the letter 0
 unfoldable pub answerLine : ℕ → ℕ → Kept → ℕ → Float → Float → Text
 answerLine letter n k limit asked used =
     let line = fieldOf (startOf letter n) (k .number) in
     cond (eqb letter 0) blankText
-    (cond (eqb (k .number) 0) (endOf (doneFields line letter (k .ten) limit asked used)) (endOf line))
+    (cond (eqb (k .number) 0) (endOf (doneFields line letter k limit asked used)) (endOf line))
 
 -- the line K, 1 or 0: whether two pictures have the same digest, where all calls accepted
 unfoldable pub sameLine : ℕ → Shot → Shot → Text
@@ -244,10 +305,13 @@ drawnNumber (drawn.Refused n) = n
 unfoldable pub placeOf : ℕ → ℕ
 placeOf field = cond (ltb field 3) (field + 2) (field % 16 + 9)
 
--- the record handed to draw: the kept one, or the made one with a field changed
-unfoldable pub handedOf : List ℕ → List ℕ → Ten → Ten
-handedOf row drawn t =
-    cond (leb 10 (ownOf drawn 9 10)) t (tenOf (set row (placeOf (ownOf drawn 9 10)) (getD drawn 10 0)))
+-- the record handed to draw: the kept one, of whose axes an entry may be changed, or the made one "with that field's number set to value,
+-- and its axes as they were"
+unfoldable pub handedOf : List ℕ → List ℕ → Kept → Kept
+handedOf row drawn k =
+    cond (leb 10 (ownOf drawn 9 10))
+    (keptAs (k .number) (k .ten) (changedAxes (k .axes) (ownOf drawn 9 10) (getD drawn 10 0)))
+    (keptAs (k .number) (tenOf (set row (placeOf (ownOf drawn 9 10)) (getD drawn 10 0))) (axesOf (tenOf row)))
 
 -- what came of two calls, the second of which rendered
 unfoldable pub joinedOf : ℕ → Shot → Shot

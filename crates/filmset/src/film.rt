@@ -2,6 +2,8 @@
 ghost use mathlib.Core.Path.{_≡_};
 ghost use lib.ListN.{length};
 ghost use Rattle.filmset.specs.Filmset.{digestOf, isFilm, ownOf, windowOf, drawnNumber, placeOf, handedOf, joinedOf, sameLine};
+use crate::axes;
+use crate::axes::Axes;
 use crate::column;
 use crate::digest;
 use crate::kept;
@@ -15,6 +17,7 @@ use crate::whole::low;
 use crate::whole::with;
 use crate::whole::word;
 use draw::Drawn;
+use grid::Axis;
 use settings::Window;
 use text::Text;
 
@@ -82,6 +85,13 @@ fn prepare_c(
 ) -> Kept {
     let mut numbers = kept::nine(t);
     let mut factor = t.factor;
+    let made = axes::of(t);
+    let columns = made.columns;
+    let rows = made.rows;
+    let mut column_edges = columns.edges;
+    let mut column_centres = columns.centres;
+    let mut row_edges = rows.edges;
+    let mut row_centres = rows.centres;
     let mut limit = 0;
     let mut asked = 0.0;
     let mut used = 0.0;
@@ -104,8 +114,32 @@ fn prepare_c(
         &mut limit,
         &mut asked,
         &mut used,
+        &mut column_edges,
+        &mut column_centres,
+        &mut row_edges,
+        &mut row_centres,
     );
-    kept::of_c(letter, no, number, numbers, factor, limit, asked, used)
+    let left = Axes {
+        columns: Axis {
+            edges: column_edges,
+            centres: column_centres,
+        },
+        rows: Axis {
+            edges: row_edges,
+            centres: row_centres,
+        },
+    };
+    kept::of_c(
+        letter,
+        no,
+        number,
+        numbers,
+        factor,
+        left,
+        limit,
+        asked,
+        used,
+    )
 }
 
 // Calls prepare, and prints its answer under the letter.
@@ -149,7 +183,7 @@ fn enhance_c(no: u64, t: Ten, picture: &mut [u16], map: &mut [u16], scratch: &mu
         &mut asked,
         &mut used,
     );
-    let k = Kept { number, ten: t };
+    let k = kept::of_made(number, t);
     text::print(kept::line(b'E', no, k, limit, asked, used));
     k
 }
@@ -223,8 +257,16 @@ pub fn called(by_c: bool, letter: u8, row: Row, picture: &mut [u16]) -> Made
 }
 
 // Calls draw for C; answers its number.
-fn draw_c(drawn: Row, t: Ten, kept: Ten, picture: &[u16], map: &[u16], out: &mut [u16]) -> u32 {
-    let numbers = kept::nine(kept);
+fn draw_c(drawn: Row, t: Ten, k: Kept, picture: &[u16], map: &[u16], out: &mut [u16]) -> u32 {
+    let ten = k.ten;
+    let axes = k.axes;
+    let columns = axes.columns;
+    let rows = axes.rows;
+    let numbers = kept::nine(ten);
+    let column_edges = columns.edges;
+    let column_centres = columns.centres;
+    let row_edges = rows.edges;
+    let row_centres = rows.centres;
     let win = window(drawn);
     abi::films::tz_draw(
         word(drawn, column::FILM),
@@ -239,13 +281,17 @@ fn draw_c(drawn: Row, t: Ten, kept: Ten, picture: &[u16], map: &[u16], out: &mut
         t.clip,
         t.factor,
         &numbers,
-        kept.factor,
+        ten.factor,
         win.left,
         win.top,
         win.width,
         win.height,
         map,
         out,
+        &column_edges,
+        &column_centres,
+        &row_edges,
+        &row_centres,
     )
 }
 
@@ -263,16 +309,16 @@ fn draw_by(
     by_c: bool,
     drawn: Row,
     t: Ten,
-    kept: Ten,
+    k: Kept,
     picture: &[u16],
     map: &[u16],
     out: &mut [u16],
 ) -> u32 {
     if by_c {
-        return draw_c(drawn, t, kept, picture, map, out);
+        return draw_c(drawn, t, k, picture, map, out);
     }
     let s = kept::settings(t);
-    let record = kept::record(kept);
+    let record = kept::record(k);
     let win = window(drawn);
     drawn_number(draw::draw(
         word(drawn, column::FILM),
@@ -297,15 +343,27 @@ fn place(field: u64) -> usize
     (field % 16 + 9) as usize
 }
 
-// The record that is handed to draw: the one that prepare left, or the made one with a field changed.
-pub fn handed(row: Row, drawn: Row, kept: Ten) -> Ten
-    ensures { λ r. ⌜ r ≡ handedOf row drawn kept ⌝ }
+// What is handed to draw: the record that prepare left, of whose axes an entry may be changed, or the made one with a field changed
+// and the axes as they were.
+pub fn handed(row: Row, drawn: Row, k: Kept) -> Kept
+    ensures { λ r. ⌜ r ≡ handedOf row drawn k ⌝ }
 {
     let field = own(drawn, column::FIELD, NO_FIELD);
+    let value = at(drawn, column::VALUE);
     if NO_FIELD <= field {
-        return kept;
+        let ten = k.ten;
+        let left = k.axes;
+        return Kept {
+            number: k.number,
+            ten,
+            axes: axes::changed(left, field, value),
+        };
     }
-    kept::made(with(row, place(field), at(drawn, column::VALUE)))
+    Kept {
+        number: k.number,
+        ten: kept::made(with(row, place(field), value)),
+        axes: axes::of(kept::made(row)),
+    }
 }
 
 // The lines of draw: the answer, the digests of picture, map and output, and the output.
@@ -330,7 +388,7 @@ fn drawn_from(
     by_c: bool,
     drawn: Row,
     t: Ten,
-    kept: Ten,
+    k: Kept,
     picture: &[u16],
     map: &[u16],
     out: &mut [u16],
@@ -338,7 +396,7 @@ fn drawn_from(
     let n = fitting(at(drawn, column::OUT_ROOM), out.len());
     let o = &mut out[0..n];
     made::output(o, OUTPUT_BASE);
-    let number = draw_by(by_c, drawn, t, kept, picture, map, o);
+    let number = draw_by(by_c, drawn, t, k, picture, map, o);
     drawn_lines(drawn, number, picture, map, &o[..])
 }
 
@@ -361,7 +419,7 @@ fn drawn_of(
         own(drawn, column::MAP_AT, NOWHERE),
         at(drawn, column::MAP_VALUE),
     );
-    let kept = handed(row, drawn, k.ten);
+    let kept = handed(row, drawn, k);
     drawn_from(by_c, drawn, kept::made(row), kept, picture, &m[..], out)
 }
 

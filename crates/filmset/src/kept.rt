@@ -1,12 +1,15 @@
-// The ten numbers of a film's record, and what the calls of prepare make of them.
+// The ten numbers of a film's record, and what the calls of prepare make of them and of its axes.
 ghost use mathlib.Core.Path.{_≡_};
 ghost use lib.ListN.{getD};
-ghost use Rattle.filmset.specs.Filmset.{factorOf, tenOf, clipOf, settingsOf, recordOf, clipNumber, clipFactor, flatOf, nineOf, tenFrom, keptAs, keptPrepared, keptEnhanced, tenFields, doneFields, answerLine};
+ghost use Rattle.filmset.specs.Filmset.{factorOf, tenOf, clipOf, settingsOf, recordOf, clipNumber, clipFactor, flatOf, axesIn, nineOf, tenFrom, keptAs, keptMade, keptPrepared, keptEnhanced, tenFields, doneFields, answerLine};
+use crate::axes;
+use crate::axes::Axes;
 use crate::column;
 use crate::whole::Row;
 use crate::whole::word;
 use limit::Clip;
 use prepare::Enhanced;
+use prepare::Made;
 use prepare::Prepared;
 use settings::MapRecord;
 use settings::Settings;
@@ -30,6 +33,7 @@ pub struct Ten {
 pub struct Kept {
     pub number: u32,
     pub ten: Ten,
+    pub axes: Axes,
 }
 
 // The f32 of a bit pattern; one NaN stands for all.
@@ -84,15 +88,22 @@ pub fn settings(t: Ten) -> Settings
     }
 }
 
-pub fn record(t: Ten) -> MapRecord
-    ensures { λ r. ⌜ r ≡ recordOf t ⌝ }
+// The map record that is kept.
+pub fn record(k: Kept) -> MapRecord
+    ensures { λ r. ⌜ r ≡ recordOf k ⌝ }
 {
+    let t = k.ten;
+    let axes = k.axes;
     let settings = settings(t);
+    let columns = axes.columns;
+    let rows = axes.rows;
     MapRecord {
         film: t.film,
         width: t.width,
         height: t.height,
         settings,
+        columns,
+        rows,
     }
 }
 
@@ -134,6 +145,15 @@ fn flat(r: MapRecord) -> Ten
     }
 }
 
+// The axes of a record.
+fn axes_in(r: MapRecord) -> Axes
+    ensures { λ a. ⌜ a ≡ axesIn r ⌝ }
+{
+    let columns = r.columns;
+    let rows = r.rows;
+    Axes { columns, rows }
+}
+
 // The fields of the ten.
 fn ten_fields(line: Text, t: Ten) -> Text
     ensures { λ r. ⌜ r ≡ tenFields line t ⌝ }
@@ -143,12 +163,14 @@ fn ten_fields(line: Text, t: Ten) -> Text
 }
 
 // The fields of an accepted call: the footer, and of prepare the record.
-fn done_fields(line: Text, letter: u8, t: Ten, limit: u32, asked: f32, used: f64) -> Text
-    ensures { λ r. ⌜ r ≡ doneFields line letter t limit asked used ⌝ }
+fn done_fields(line: Text, letter: u8, k: Kept, limit: u32, asked: f32, used: f64) -> Text
+    ensures { λ r. ⌜ r ≡ doneFields line letter k limit asked used ⌝ }
 {
     let foot = text::used_field(text::factor_field(text::word(line, limit), asked), used);
     if letter == b'P' {
-        return ten_fields(foot, t);
+        let ten = k.ten;
+        let axes = k.axes;
+        return axes::fields(ten_fields(foot, ten), axes);
     }
     foot
 }
@@ -164,8 +186,7 @@ pub(crate) fn line(letter: u8, no: u64, k: Kept, limit: u32, asked: f32, used: f
     if k.number != 0 {
         return text::end(line);
     }
-    let ten = k.ten;
-    text::end(done_fields(line, letter, ten, limit, asked, used))
+    text::end(done_fields(line, letter, k, limit, asked, used))
 }
 
 // The ten but for the factor, in the order in which C has them.
@@ -212,6 +233,14 @@ fn ten_of(n: [u32; 9], factor: f32) -> Ten
     }
 }
 
+// An answer beside the made record.
+pub(crate) fn of_made(number: u32, ten: Ten) -> Kept
+    ensures { λ r. ⌜ r ≡ keptMade number ten ⌝ }
+{
+    let axes = axes::of(ten);
+    Kept { number, ten, axes }
+}
+
 // What prepare for C left, printed under the letter if that is not 0.
 pub(crate) fn of_c(
     letter: u8,
@@ -219,14 +248,15 @@ pub(crate) fn of_c(
     number: u32,
     numbers: [u32; 9],
     factor: f32,
+    axes: Axes,
     limit: u32,
     asked: f32,
     used: f64,
 ) -> Kept
-    ensures { λ r. ⌜ r ≡ keptAs number (tenFrom numbers factor) ⌝ }
+    ensures { λ r. ⌜ r ≡ keptAs number (tenFrom numbers factor) axes ⌝ }
 {
     let ten = ten_of(numbers, factor);
-    let k = Kept { number, ten };
+    let k = Kept { number, ten, axes };
     text::print(line(letter, no, k, limit, asked, used));
     k
 }
@@ -235,15 +265,22 @@ pub(crate) fn of_c(
 pub fn of_prepared(letter: u8, no: u64, asked: Ten, p: Prepared) -> Kept
     ensures { λ r. ⌜ r ≡ keptPrepared asked p ⌝ }
 {
-    match p {
-        Prepared::Done(record, footer) => {
+    let answer = p.answer;
+    let record = p.kept;
+    match answer {
+        Made::Done(footer) => {
             let ten = flat(record);
-            let k = Kept { number: 0, ten };
+            let axes = axes_in(record);
+            let k = Kept {
+                number: 0,
+                ten,
+                axes,
+            };
             text::print(line(letter, no, k, footer.limit, footer.asked, footer.used));
             k
         }
-        Prepared::Refused(number) => {
-            let k = Kept { number, ten: asked };
+        Made::Refused(number) => {
+            let k = of_made(number, asked);
             text::print(line(letter, no, k, 0, 0.0, 0.0));
             k
         }
@@ -256,15 +293,12 @@ pub fn of_enhanced(no: u64, asked: Ten, e: Enhanced) -> Kept
 {
     match e {
         Enhanced::Done(footer) => {
-            let k = Kept {
-                number: 0,
-                ten: asked,
-            };
+            let k = of_made(0, asked);
             text::print(line(b'E', no, k, footer.limit, footer.asked, footer.used));
             k
         }
         Enhanced::Refused(number) => {
-            let k = Kept { number, ten: asked };
+            let k = of_made(number, asked);
             text::print(line(b'E', no, k, 0, 0.0, 0.0));
             k
         }

@@ -1,5 +1,6 @@
 // The film set: its rows come from standard input, go through every call of prepare, draw and pgm, and what comes out is
 // printed. The programs `films` and `calls` are this, once over the calls themselves and once over those for C.
+pub mod axes;
 pub mod column;
 pub mod digest;
 mod file;

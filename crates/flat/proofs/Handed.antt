@@ -11,7 +11,7 @@ use Rattle.limit.specs.declared.Clip.the-variants.{Off, Factor}
 use Rattle.settings.specs.declared.MapRecord.{MapRecord}
 use Rattle.settings.specs.declared.Footer.{Footer}
 use Rattle.prepare.specs.declared.Prepared.{Prepared}
-use Rattle.prepare.specs.declared.Prepared.the-variants as Prepared
+use Rattle.prepare.specs.declared.Made.the-variants as Made
 use Rattle.prepare.specs.declared.Enhanced.{Enhanced}
 use Rattle.prepare.specs.declared.Enhanced.the-variants as Enhanced
 use Rattle.prepare.specs.Prepare.{preparedSays, enhancedSays, Ended, Over, ending, overing}
@@ -30,8 +30,8 @@ use Rattle.pgm.specs.Pgm.{readOf, sizesOf, rasterOf, sizesSays}
 use Rattle.pgm_greys.specs.Greys.{turnedSays, Greyed, greyedAs}
 use Rattle.pgm_write.specs.Write.{writtenSays, Wrote, wroteAs}
 use Rattle.pgm.proofs.Tables.{read-within}
-use Rattle.flat.specs.Flat.{clipFrom, clipNumber, clipFactor, recordNumbers, recordFrom}
-use Rattle.flat.specs.Films.{Foot, footAfter, preparedAs, flatPrepared, enhancedAs, flatEnhanced, drawnAs, flatDrawn}
+use Rattle.flat.specs.Flat.{returned, clipFrom, clipNumber, clipFactor, recordNumbers, Axes, axesAfter, recordFrom}
+use Rattle.flat.specs.Films.{Foot, footAfter, Cells, celled, cellsAfter, preparedAs, flatPrepared, enhancedAs, flatEnhanced, drawnAs, flatDrawn}
 use Rattle.flat.specs.Files.{answered, flatSizes, flatRaster, flatGreys, writtenAs, flatWritten}
 
 -- a number that is not 0 carries the factor
@@ -41,16 +41,24 @@ clip-some (suc n) f h = refl
 
 -- ---- films
 
-pub prepared-done : {a : Prepared} {m t : List ℕ} (e : Ended) (numbers : List ℕ) (factor : Float) (foot : Foot) {r : MapRecord} {f : Footer} {ns : List ℕ} {x : Float} {y : Foot}
-    → ending a m t ≡ e → a ≡ Prepared.Done r f → ns ≡ recordNumbers r → x ≡ clipFactor (r .settings .clip) → y ≡ footAfter f
-    → preparedAs 0 m t ns x y ≡ flatPrepared e numbers factor foot
-unfolding flatPrepared preparedSays
-prepared-done e numbers factor foot p q n x y = rw (← p, q, n, x, y) refl
+-- prepare's answer handed out: an accepted film's record and footer stand in their cells
+pub prepared-done : (p : Prepared) (old : Cells) {f : Footer} {ns : List ℕ} {x : Float} {a : Axes} {y : Foot}
+    → p .answer ≡ Made.Done f → ns ≡ recordNumbers (p .kept) → x ≡ clipFactor (p .kept .settings .clip) → a ≡ axesAfter (p .kept) → y ≡ footAfter f
+    → (0 ≡ returned (preparedSays p)) × (celled ns x a y ≡ cellsAfter (preparedSays p) old)
+unfolding preparedSays
+prepared-done p old q n x a y = rw (q, n, x, a, y) (refl, refl)
 
-pub prepared-refused : {a : Prepared} {m t : List ℕ} (e : Ended) (numbers : List ℕ) (factor : Float) (foot : Foot) {n : ℕ}
-    → ending a m t ≡ e → a ≡ Prepared.Refused n → preparedAs n m t numbers factor foot ≡ flatPrepared e numbers factor foot
-unfolding flatPrepared preparedSays
-prepared-refused e numbers factor foot p q = rw (← p, q) refl
+-- a refusal leaves them
+pub prepared-refused : (p : Prepared) (old : Cells) {n : ℕ} → p .answer ≡ Made.Refused n
+    → (n ≡ returned (preparedSays p)) × (old ≡ cellsAfter (preparedSays p) old)
+unfolding preparedSays
+prepared-refused p old q = rw q (refl, refl)
+
+-- so what prepare leaves and what was handed out are what the call for C leaves
+pub prepared-handed : {p : Prepared} {m t : List ℕ} (e : Ended) (old : Cells) {n : ℕ} {cells : Cells} → ending p m t ≡ e
+    → (n ≡ returned (preparedSays p)) × (cells ≡ cellsAfter (preparedSays p) old) → preparedAs n m t cells ≡ flatPrepared e old
+unfolding flatPrepared
+prepared-handed e old q h = rw (← q, h .0, h .1) refl
 
 pub enhanced-done : {a : Enhanced} {pic m t : List ℕ} (o : Over) (foot : Foot) {f : Footer} {y : Foot}
     → overing a pic m t ≡ o → a ≡ Enhanced.Done f → y ≡ footAfter f → enhancedAs 0 pic m t y ≡ flatEnhanced o foot
@@ -125,8 +133,8 @@ clip-back : (clip : Clip) → clipFrom (clipNumber clip) (clipFactor clip) ≡ c
 clip-back Off = refl
 clip-back (Factor f) = refl
 
--- "A record is nine numbers and its factor apart.": those that tz_prepare hands out are read by tz_draw as the same record
-pub record-back : (r : MapRecord) → recordFrom (recordNumbers r) (clipFactor (r .settings .clip)) ≡ r
+-- "A record is nine numbers and its factor apart.", and its edges and centres: those that tz_prepare hands out are read by tz_draw as the same record
+pub record-back : (r : MapRecord) → recordFrom (recordNumbers r) (clipFactor (r .settings .clip)) (axesAfter r) ≡ r
 record-back r =
     ap (λ c. record {
       film = r .film;
@@ -141,4 +149,6 @@ record-back r =
             max = r .settings .max;
             clip = c;
           };
+      columns = r .columns;
+      rows = r .rows;
     }) (clip-back (r .settings .clip))

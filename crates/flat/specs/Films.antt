@@ -9,7 +9,7 @@ use Rattle.settings.specs.declared.MapRecord.{MapRecord}
 use Rattle.settings.specs.declared.Footer.{Footer}
 use Rattle.prepare.specs.Prepare.{preparedSays, enhancedSays, Ended, Over}
 use Rattle.draw.specs.Draw.{drawnSays, Shows}
-use Rattle.flat.specs.Flat.{returned, recordNumbers, clipFactor}
+use Rattle.flat.specs.Flat.{returned, recordNumbers, clipFactor, Axes, axesAfter}
 
 -- "a footer record with L, the factor asked as f32 and the factor used as f64": the three cells that it is handed out in
 pub record Foot : Type 0 where
@@ -27,28 +27,36 @@ footAfter f = footed (f .limit) (f .asked) (f .used)
 
 -- ---- tz_prepare
 
--- "It returns the map record and a footer record": what tz_prepare leaves, its number and every cell that it was lent
+-- "It returns the map record and a footer record": the cells that they are handed out in, the record's numbers, factor and arrays, and the footer's three
+pub record Cells : Type 0 where
+  pub numbers : List ℕ
+  pub factor : Float
+  pub axes : Axes
+  pub foot : Foot
+
+-- the cells as one
+abbrev pub celled : List ℕ → Float → Axes → Foot → Cells
+celled numbers factor axes foot = record { numbers = numbers; factor = factor; axes = axes; foot = foot }
+
+-- an accepted film's record and footer in their cells; "after a refusal all lent memory holds what it held before"
+abbrev pub cellsAfter : Says (MapRecord × Footer) → Cells → Cells
+cellsAfter (accepted v) cells = celled (recordNumbers (v .0)) (clipFactor (v .0 .settings .clip)) (axesAfter (v .0)) (footAfter (v .1))
+cellsAfter (refused n) cells = cells
+
+-- what tz_prepare leaves: its number, the map buffer, the scratch and the cells
 pub record FlatPrepared : Type 0 where
   pub number : ℕ
   pub map : List ℕ
   pub scratch : List ℕ
-  pub numbers : List ℕ
-  pub factor : Float
-  pub foot : Foot
+  pub cells : Cells
 
--- a number and the cells as one
-abbrev pub preparedAs : ℕ → List ℕ → List ℕ → List ℕ → Float → Foot → FlatPrepared
-preparedAs n m t numbers factor foot = record { number = n; map = m; scratch = t; numbers = numbers; factor = factor; foot = foot }
+-- a number, two buffers and the cells as one
+abbrev pub preparedAs : ℕ → List ℕ → List ℕ → Cells → FlatPrepared
+preparedAs n m t cells = record { number = n; map = m; scratch = t; cells = cells }
 
--- an accepted film's record and footer in their cells; "after a refusal all lent memory holds what it held before"
-abbrev pub preparedBy : Says (MapRecord × Footer) → List ℕ → List ℕ → List ℕ → Float → Foot → FlatPrepared
-preparedBy (accepted v) m t numbers factor foot =
-    preparedAs 0 m t (recordNumbers (v .0)) (clipFactor (v .0 .settings .clip)) (footAfter (v .1))
-preparedBy (refused n) m t numbers factor foot = preparedAs n m t numbers factor foot
-
--- from what prepare leaves, and what the record's and the footer's cells held before
-unfoldable pub flatPrepared : Ended → List ℕ → Float → Foot → FlatPrepared
-flatPrepared e numbers factor foot = preparedBy (preparedSays (e .answer)) (e .map) (e .scratch) numbers factor foot
+-- from what prepare leaves, and what the cells held before
+unfoldable pub flatPrepared : Ended → Cells → FlatPrepared
+flatPrepared e cells = preparedAs (returned (preparedSays (e .answer))) (e .map) (e .scratch) (cellsAfter (preparedSays (e .answer)) cells)
 
 -- ---- tz_enhance
 

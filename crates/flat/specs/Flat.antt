@@ -10,6 +10,7 @@ use lib.ListN.{getD}
 use Rattle.refuse.specs.Refuse.{Says, accepted, refused}
 use Rattle.limit.specs.declared.Clip.{Clip}
 use Rattle.limit.specs.declared.Clip.the-variants.{Off, Factor}
+use Rattle.grid.specs.declared.Axis.{Axis}
 use Rattle.settings.specs.declared.Settings.{Settings}
 use Rattle.settings.specs.declared.MapRecord.{MapRecord}
 use Rattle.settings.specs.declared.Window.{Window}
@@ -53,14 +54,39 @@ recordNumbers r =
     ∷ clipNumber (r .settings .clip)
     ∷ []
 
--- "A map record holds the film's number (any 32-bit number), sizes and settings": from its nine numbers and its factor
-abbrev pub recordFrom : List ℕ → Float → MapRecord
-recordFrom l factor =
+-- order 6: "The map record keeps the edges and centres": the four arrays that they are handed over in
+pub record Axes : Type 0 where
+  pub columnEdges : List ℕ
+  pub columnCentres : List ℕ
+  pub rowEdges : List ℕ
+  pub rowCentres : List ℕ
+
+-- four arrays as one
+abbrev pub axed : List ℕ → List ℕ → List ℕ → List ℕ → Axes
+axed ce cc re rc = record { columnEdges = ce; columnCentres = cc; rowEdges = re; rowCentres = rc }
+
+-- the arrays that hold the columns' and the rows'
+abbrev pub axesOf : Axis → Axis → Axes
+axesOf columns rows = axed (columns .edges) (columns .centres) (rows .edges) (rows .centres)
+
+-- those that hold a record's
+abbrev pub axesAfter : MapRecord → Axes
+axesAfter r = axesOf (r .columns) (r .rows)
+
+-- an axis from two of them
+abbrev pub axisFrom : List ℕ → List ℕ → Axis
+axisFrom edges centres = record { edges = edges; centres = centres }
+
+-- "A map record holds the film's number (any 32-bit number), sizes and settings", and its edges and centres: from its nine numbers, its factor and its four arrays
+abbrev pub recordFrom : List ℕ → Float → Axes → MapRecord
+recordFrom l factor axes =
     record {
       film = getD l 0 0;
       width = getD l 1 0;
       height = getD l 2 0;
       settings = settingsFrom (getD l 3 0) (getD l 4 0) (getD l 5 0) (getD l 6 0) (getD l 7 0) (getD l 8 0) factor;
+      columns = axisFrom (axes .columnEdges) (axes .columnCentres);
+      rows = axisFrom (axes .rowEdges) (axes .rowCentres);
     }
 
 -- draw's window, from its four numbers

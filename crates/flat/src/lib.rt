@@ -1,8 +1,12 @@
 // Settings, records and footers as the calls for C pass them: numbers and slices to records and back, once.
 ghost use mathlib.Core.Path.{_≡_};
-ghost use Rattle.flat.specs.Flat.{clipFrom, clipNumber, clipFactor, settingsFrom, recordNumbers, recordFrom};
-ghost use Rattle.flat.specs.Films.{footed, footAfter};
+ghost use Rattle.prepare.specs.Prepare.{preparedSays};
+ghost use Rattle.flat.specs.Flat.{returned, clipFrom, clipNumber, clipFactor, settingsFrom, recordNumbers, axed, axesOf, axesAfter, axisFrom, recordFrom};
+ghost use Rattle.flat.specs.Films.{footed, footAfter, celled, cellsAfter};
+use grid::Axis;
 use limit::Clip;
+use prepare::Made;
+use prepare::Prepared;
 use settings::Footer;
 use settings::MapRecord;
 use settings::Settings;
@@ -56,9 +60,38 @@ pub fn settings_from(
     }
 }
 
-// A record goes out in nine numbers, and its factor in a cell apart.
-pub fn put_record(numbers: &mut [u32; 9], kept: &mut f32, r: MapRecord)
-    ensures { λ _. ⌜ (now (numbers .exit) ≡ recordNumbers r) × (now (kept .exit) ≡ clipFactor (r .settings .clip)) ⌝ }
+// The edges and centres of an axis go out in two arrays.
+fn put_axis(edges: &mut [u32; 17], centres: &mut [u32; 16], a: Axis)
+    ensures { λ _. ⌜ (now (edges .exit) ≡ a .edges) × (now (centres .exit) ≡ a .centres) ⌝ }
+{
+    let e = a.edges;
+    *edges = e;
+    let c = a.centres;
+    *centres = c;
+}
+
+pub fn axis_from(edges: &[u32; 17], centres: &[u32; 16]) -> Axis
+    ensures { λ r. ⌜ r ≡ axisFrom (now (edges .entry)) (now (centres .entry)) ⌝ }
+{
+    let e = *edges;
+    let c = *centres;
+    Axis {
+        edges: e,
+        centres: c,
+    }
+}
+
+// A record goes out in nine numbers, its factor in a cell apart, and its edges and centres in four arrays.
+fn put_record(
+    numbers: &mut [u32; 9],
+    kept: &mut f32,
+    column_edges: &mut [u32; 17],
+    column_centres: &mut [u32; 16],
+    row_edges: &mut [u32; 17],
+    row_centres: &mut [u32; 16],
+    r: MapRecord,
+)
+    ensures { λ _. ⌜ (now (numbers .exit) ≡ recordNumbers r) × (now (kept .exit) ≡ clipFactor (r .settings .clip)) × (axed (now («column_edges» .exit)) (now («column_centres» .exit)) (now («row_edges» .exit)) (now («row_centres» .exit)) ≡ axesAfter r) ⌝ }
 {
     let s = r.settings;
     let clip = s.clip;
@@ -74,10 +107,14 @@ pub fn put_record(numbers: &mut [u32; 9], kept: &mut f32, r: MapRecord)
         clip_number(clip),
     ];
     *kept = clip_factor(clip);
+    let columns = r.columns;
+    put_axis(column_edges, column_centres, columns);
+    let rows = r.rows;
+    put_axis(row_edges, row_centres, rows);
 }
 
-pub fn record_from(numbers: &[u32; 9], factor: f32) -> MapRecord
-    ensures { λ r. ⌜ r ≡ recordFrom (now (numbers .entry)) factor ⌝ }
+pub fn record_from(numbers: &[u32; 9], factor: f32, columns: Axis, rows: Axis) -> MapRecord
+    ensures { λ r. ⌜ r ≡ recordFrom (now (numbers .entry)) factor (axesOf columns rows) ⌝ }
 {
     let settings = settings_from(
         numbers[3],
@@ -93,6 +130,8 @@ pub fn record_from(numbers: &[u32; 9], factor: f32) -> MapRecord
         width: numbers[1],
         height: numbers[2],
         settings,
+        columns,
+        rows,
     }
 }
 
@@ -103,4 +142,39 @@ pub fn put_footer(limit: &mut u32, asked: &mut f32, used: &mut f64, foot: Footer
     *limit = foot.limit;
     *asked = foot.asked;
     *used = foot.used;
+}
+
+// What prepare answers goes out: an accepted film's record and footer to their cells. A refusal writes to none.
+pub fn put_prepared(
+    numbers: &mut [u32; 9],
+    kept: &mut f32,
+    limit: &mut u32,
+    asked: &mut f32,
+    used: &mut f64,
+    column_edges: &mut [u32; 17],
+    column_centres: &mut [u32; 16],
+    row_edges: &mut [u32; 17],
+    row_centres: &mut [u32; 16],
+    p: Prepared,
+) -> u32
+    ensures { λ r. ⌜ (r ≡ returned (preparedSays p)) × (celled (now (numbers .exit)) (now (kept .exit)) (axed (now («column_edges» .exit)) (now («column_centres» .exit)) (now («row_edges» .exit)) (now («row_centres» .exit))) (footed (now (limit .exit)) (now (asked .exit)) (now (used .exit))) ≡ cellsAfter (preparedSays p) (celled (now (numbers .entry)) (now (kept .entry)) (axed (now («column_edges» .entry)) (now («column_centres» .entry)) (now («row_edges» .entry)) (now («row_centres» .entry))) (footed (now (limit .entry)) (now (asked .entry)) (now (used .entry))))) ⌝ }
+{
+    let answer = p.answer;
+    match answer {
+        Made::Done(foot) => {
+            let r = p.kept;
+            put_record(
+                numbers,
+                kept,
+                column_edges,
+                column_centres,
+                row_edges,
+                row_centres,
+                r,
+            );
+            put_footer(limit, asked, used, foot);
+            0
+        }
+        Made::Refused(n) => n,
+    }
 }

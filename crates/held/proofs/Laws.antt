@@ -13,15 +13,18 @@ use Rattle.limit.specs.declared.Clip.the-variants.{Off, Factor}
 use Rattle.limit.specs.Limit.{allowed}
 use Rattle.lists.specs.Lists.{all}
 use Rattle.refuse.specs.Refuse.{first}
-use Rattle.refuse.proofs.Walk.{each-first}
+use Rattle.refuse.proofs.Walk.{each-first, behind}
+use Rattle.grid.specs.Grid.{axisOf}
+use Rattle.grid.proofs.Axes.{same-axis-self}
 use Rattle.settings.specs.declared.Settings.{Settings}
 use Rattle.settings.specs.declared.MapRecord.{MapRecord}
-use Rattle.settings.specs.Settings.{binsOf, keptOf, recordOf, clipBad, sameClip}
+use Rattle.settings.specs.Settings.{binsOf, keptOf, recordOf, keptRecord, clipBad, sameClip}
 use Rattle.settings.proofs.Like.{bins-kept}
-use Rattle.held.specs.Held.{filmRows, keptRows, recordRows}
-use Rattle.held.proofs.Tables.{record-numbers}
+use Rattle.settings.proofs.Records.{record-film, record-width, record-height, record-settings, record-columns, record-rows}
+use Rattle.held.specs.Held.{filmRows, keptRows, axisRows, recordRows, Held}
+use Rattle.held.proofs.Tables.{record-numbers, kept-numbered, record-held}
 
--- ---- a record that is another film's, of another size or of other settings
+-- ---- a record that is another film's, of another size, of other settings or with other edges or centres
 
 -- the rows of 15 give no other number
 pub record-fifteen : (film w h : ℕ) (s : Settings) (r : MapRecord) → first (recordRows film w h s r) ≢ 0 → first (recordRows film w h s r) ≡ 15
@@ -30,6 +33,19 @@ record-fifteen film w h s r d =
     eqb-true (first (recordRows film w h s r)) 15
     (sym (ap (λ b. b || eqb (first (recordRows film w h s r)) 15) (ne-eqb (first (recordRows film w h s r)) 0 d))
     ∙ each-first (λ n. eqb n 0 || eqb n 15) (recordRows film w h s r) refl (rw (record-numbers film w h s r) refl))
+
+module _ (film w h : ℕ) (s : Settings) (r : MapRecord) where
+  -- a record that differs in any field is refused with 15
+  pub other-held : (Held film w h s r → ⊥) → first (recordRows film w h s r) ≡ 15
+  other-held d = record-fifteen film w h s r (λ e. d (record-held film w h s r e))
+
+  -- "also given where the record's edges or centres aren't those of this rule": those of the columns
+  pub other-columns : axisOf w (s .across) ≢ r .columns → first (recordRows film w h s r) ≡ 15
+  other-columns d = other-held (λ held. d (held .columns))
+
+  -- and those of the rows
+  pub other-rows : axisOf h (s .down) ≢ r .rows → first (recordRows film w h s r) ≡ 15
+  other-rows d = other-held (λ held. d (held .rows))
 
 -- ---- the record that prepare makes of these settings
 
@@ -65,18 +81,34 @@ own-settings s c =
     )
     refl
 
+-- nor are the edges and centres of a film's record
+pub own-axes : (film w h : ℕ) (s : Settings) → first (axisRows w h s (recordOf film w h s)) ≡ 0
+unfolding first axisRows
+own-axes film w h s =
+    rw (record-columns film w h s, record-rows film w h s, same-axis-self (axisOf w (s .across)), same-axis-self (axisOf h (s .down))) refl
+
+-- a record of the film, its sizes, its settings and its edges and centres is not refused
+same-record : (film w h : ℕ) (s : Settings) (r : MapRecord) → film ≡ r .film → w ≡ r .width → h ≡ r .height → first (keptRows s (r .settings)) ≡ 0 → first (axisRows w h s r) ≡ 0
+    → first (recordRows film w h s r) ≡ 0
+unfolding first recordRows filmRows
+same-record film w h s r number wide high kept axes =
+    rw (eq-eqb film (r .film) number, eq-eqb w (r .width) wide, eq-eqb h (r .height) high)
+    (sym (behind (keptRows s (r .settings)) (axisRows w h s r) (kept-numbered s (r .settings)) (sym kept) refl (sym axes)))
+
 -- nor is the record of a film, its sizes and these settings
 pub own-record : (film w h : ℕ) (s : Settings) → clipBad (s .clip) ≡ false → first (recordRows film w h s (recordOf film w h s)) ≡ 0
-unfolding first recordRows filmRows
-own-record film w h s c = rw (eq-eqb film film refl, eq-eqb w w refl, eq-eqb h h refl) (own-settings s c)
+own-record film w h s c =
+    same-record film w h s (recordOf film w h s) (sym (record-film film w h s)) (sym (record-width film w h s)) (sym (record-height film w h s))
+    (ap (λ kept. first (keptRows s kept)) (record-settings film w h s) ∙ own-settings s c)
+    (own-axes film w h s)
 
 -- ---- the settings, with bins 0 kept as 128
 
 -- 15 reads the bins so on both sides
 pub record-kept : (film w h : ℕ) (s : Settings) (r : MapRecord) → recordRows film w h (keptOf s) r ≡ recordRows film w h s r
-unfolding recordRows keptRows
+unfolding recordRows keptRows axisRows
 record-kept film w h s r = rw (bins-kept s) refl
 
-pub record-kept-record : (film w h : ℕ) (s : Settings) (r : MapRecord) → recordRows film w h s (recordOf (r .film) (r .width) (r .height) (r .settings)) ≡ recordRows film w h s r
-unfolding recordRows filmRows keptRows
+pub record-kept-record : (film w h : ℕ) (s : Settings) (r : MapRecord) → recordRows film w h s (keptRecord r) ≡ recordRows film w h s r
+unfolding recordRows filmRows keptRows axisRows
 record-kept-record film w h s r = rw (bins-kept (r .settings)) refl

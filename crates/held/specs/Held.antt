@@ -7,6 +7,7 @@ use mathlib.Core.List.{List, [], _∷_, _++_}
 use mathlib.Core.Path.{_≡_}
 use lib.Dec.{ltb, eqb}
 use Rattle.refuse.specs.Refuse.{Row, row}
+use Rattle.grid.specs.Grid.{axisOf, sameAxis}
 use Rattle.settings.specs.declared.Settings.{Settings}
 use Rattle.settings.specs.declared.MapRecord.{MapRecord}
 use Rattle.settings.specs.declared.Window.{Window}
@@ -28,9 +29,14 @@ keptRows s kept =
     ∷ row 15 (not (sameClip (s .clip) (kept .clip)))
     ∷ []
 
--- 15: the record was made for another film, another size or other settings
+-- 15: "also given where the record's edges or centres aren't those of this rule", a row for the columns and one for the rows
+unfoldable pub axisRows : ℕ → ℕ → Settings → MapRecord → List Row
+axisRows w h s r =
+    row 15 (not (sameAxis (axisOf w (s .across)) (r .columns))) ∷ row 15 (not (sameAxis (axisOf h (s .down)) (r .rows))) ∷ []
+
+-- 15: the record was made for another film, another size or other settings, or has other edges or centres
 unfoldable pub recordRows : ℕ → ℕ → ℕ → Settings → MapRecord → List Row
-recordRows film w h s r = filmRows film w h r ++ keptRows s (r .settings)
+recordRows film w h s r = filmRows film w h r ++ (keptRows s (r .settings) ++ axisRows w h s r)
 
 -- 16 and 17: "window empty or not inside the film / output length is not the window's area"
 unfoldable pub windowRows : ℕ → ℕ → Window → ℕ → List Row
@@ -53,3 +59,5 @@ pub record Held (film w h : ℕ) (s : Settings) (r : MapRecord) : Type 0 where
   pub least : s .min ≡ r .settings .min
   pub most : s .max ≡ r .settings .max
   pub clip : sameClip (s .clip) (r .settings .clip) ≡ true
+  pub columns : axisOf w (s .across) ≡ r .columns
+  pub rows : axisOf h (s .down) ≡ r .rows

@@ -1,7 +1,8 @@
 // What a map record and a window are judged by: whether the record was made for this film, size and settings, and whether the window lies inside the film.
 ghost use mathlib.Core.Path.{_≡_};
 ghost use Rattle.refuse.specs.Refuse.{first};
-ghost use Rattle.held.specs.Held.{filmRows, keptRows, recordRows, windowRows};
+ghost use Rattle.settings.specs.Settings.{Tiled};
+ghost use Rattle.held.specs.Held.{filmRows, keptRows, axisRows, recordRows, windowRows};
 use settings::MapRecord;
 use settings::Settings;
 use settings::Window;
@@ -49,8 +50,25 @@ pub fn kept_refusal(s: Settings, kept: Settings) -> u32
     0
 }
 
+// Refusal 15, where the record's edges or centres are not those of a film of this size with this grid, else 0.
+pub fn axis_refusal(width: u32, height: u32, s: Settings, record: MapRecord) -> u32
+    requires { ⌜ Tiled width height s ⌝ }
+    ensures { λ r. ⌜ r ≡ first (axisRows width height s «record») ⌝ }
+{
+    let columns = record.columns;
+    if !grid::same_axis(grid::axis_for(width, s.across), columns) {
+        return 15;
+    }
+    let rows = record.rows;
+    if !grid::same_axis(grid::axis_for(height, s.down), rows) {
+        return 15;
+    }
+    0
+}
+
 // Refusal 15, where the record differs from what comes with the call, else 0.
 pub fn record_refusal(film: u32, width: u32, height: u32, s: Settings, record: MapRecord) -> u32
+    requires { ⌜ Tiled width height s ⌝ }
     ensures { λ r. ⌜ r ≡ first (recordRows film width height s «record») ⌝ }
 {
     let differs = film_refusal(film, width, height, record);
@@ -58,7 +76,11 @@ pub fn record_refusal(film: u32, width: u32, height: u32, s: Settings, record: M
         return differs;
     }
     let kept = record.settings;
-    kept_refusal(s, kept)
+    let other = kept_refusal(s, kept);
+    if other != 0 {
+        return other;
+    }
+    axis_refusal(width, height, s, record)
 }
 
 // The first of the refusals 16 and 17 that applies, else 0.

@@ -56,7 +56,8 @@ fn rasters() {
     show(24, b"P5 2 2 256 \x01\0\x01\x01\0\0\0\0");
 }
 
-// Films whose sides are no multiples of the grid: 5 before 6, 26 before both, and all of them before 31.
+// Films of too few greys: with sides that are no multiples of the grid they are 31; with sides shorter than it 5 stands before 6,
+// 26 before both, and all of them before 31.
 fn grids() {
     show(25, b"P5 3 2 1 \0\x01\x01\0\0\0");
     show(26, b"P5 2 3 1 \0\x01\x01\0\0\0");
@@ -95,6 +96,14 @@ fn greys() {
     );
 }
 
+// A film whose sides are no multiples of the grid: its tiles have 2, 3, 4 and 6 pixels, and each its own limit.
+fn tiles() {
+    show(
+        37,
+        b"P5 5 3 15 \0\0\x05\x05\x05\x0f\x0f\x08\x08\x08\x0f\x0f\x08\x08\0",
+    );
+}
+
 fn main() {
     listed();
     headers();
@@ -103,4 +112,5 @@ fn main() {
     lengths();
     largest();
     greys();
+    tiles();
 }

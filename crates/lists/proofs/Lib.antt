@@ -12,3 +12,4 @@ pub mod Maps
 pub mod Inverses
 pub mod Steps
 pub mod Puts
+pub mod Sames

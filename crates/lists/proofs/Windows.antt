@@ -14,7 +14,7 @@ use borrow.Author.Tests.{lt-ltb, le-ltb}
 use Rattle.lists.specs.Lists.{tab, joined, onto, filled, blocks}
 use Rattle.lists.proofs.Orders.{lt-or-ge}
 use Rattle.lists.proofs.Tabs.{length-tab}
-use Rattle.lists.proofs.Fills.{length-joined}
+use Rattle.lists.proofs.Fills.{length-joined, filled-end}
 use Rattle.lists.proofs.Blocks.{getD-joined, block-fits}
 
 -- an entry of a part, the n entries from a on
@@ -101,7 +101,11 @@ pub filled-whole : (f : ℕ → ℕ) (d : List ℕ) → filled f d (length d) �
 unfolding filled
 filled-whole f d = rw (drop-length d, append-nil) refl
 
--- nor does one that is filled with blocks to its end
+-- a list whose n entries are all replaced, at the end of the loop that replaces them
+pub filled-all : (f : ℕ → ℕ) (d : List ℕ) {s : List ℕ} {i n : ℕ} → length d ≡ n → s ≡ filled f d i → i ≤ n → n ≤ i → s ≡ tab n f
+filled-all f d q e l k = filled-end f d e l k ∙ ap (filled f d) (sym q) ∙ filled-whole f d ∙ ap (λ m. tab m f) q
+
+-- nor does a slice that is filled with blocks to its end
 pub blocks-whole : (k : ℕ) (f : ℕ → List ℕ) (d : List ℕ) (n : ℕ) → length d ≡ n * k → blocks k f d n ≡ joined n f
 unfolding blocks
 blocks-whole k f d n e = rw (← e, drop-length d, append-nil) refl

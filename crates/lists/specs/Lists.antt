@@ -1,7 +1,7 @@
 -- Lists by index: what the whole project says of lists and the kit's libraries do not have.
 -- Assumes nothing.
 use Prim.Native.Nat.{ℕ, zero, suc, _+_, _*_}
-use mathlib.Core.Bool.{Bool, true, _&&_, cond}
+use mathlib.Core.Bool.{Bool, true, false, _&&_, cond}
 use mathlib.Core.List.{List, [], _∷_, _++_}
 use lib.Dec.{eqb}
 use lib.ListN.{length, take, drop}
@@ -56,3 +56,10 @@ filled f d n = tab n f ++ drop n d
 -- d with its first n blocks of k entries replaced by f 0 .. f (n - 1)
 unfoldable pub blocks : ℕ → (ℕ → List ℕ) → List ℕ → ℕ → List ℕ
 blocks k f d n = joined n f ++ drop (n * k) d
+
+-- whether two lists of numbers are equal
+unfoldable pub same : List ℕ → List ℕ → Bool
+same [] [] = true
+same [] (y ∷ ys) = false
+same (x ∷ xs) [] = false
+same (x ∷ xs) (y ∷ ys) = eqb x y && same xs ys

@@ -1,8 +1,8 @@
-// Filling and copying a slice.
+// Filling, copying and comparing slices.
 ghost use mathlib.Core.Path.{_≡_};
 ghost use Prim.Native.Nat.{_≤_};
 ghost use lib.ListN.{length};
-ghost use Rattle.lists.specs.Lists.{onto, filled};
+ghost use Rattle.lists.specs.Lists.{onto, filled, same as Lists·same};
 
 // Sets the first n entries to 0; entries behind keep their contents.
 pub fn clear(s: &mut [u32], n: usize)
@@ -50,4 +50,21 @@ pub fn copy32(src: &[u32], dst: &mut [u32])
         dst[j] = src[j];
         j += 1;
     }
+}
+
+// Whether two slices hold the same numbers.
+pub fn same(a: &[u32], b: &[u32]) -> bool
+    ensures { λ r. ⌜ r ≡ Lists·same (now (a .entry)) (now (b .entry)) ⌝ }
+{
+    if a.len() != b.len() {
+        return false;
+    }
+    let mut i = 0;
+    while i < a.len() {
+        if a[i] != b[i] {
+            return false;
+        }
+        i += 1;
+    }
+    true
 }

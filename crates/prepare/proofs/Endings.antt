@@ -10,11 +10,12 @@ use Rattle.refuse.specs.Refuse.{first, unless}
 use Rattle.refuse.proofs.Walk.{unless-refused}
 use Rattle.settings.specs.declared.Settings.{Settings}
 use Rattle.settings.specs.declared.Footer.{Footer}
-use Rattle.settings.specs.Settings.{binsOf, keptOf, recordOf, clipOne}
+use Rattle.settings.specs.declared.MapRecord.{MapRecord}
+use Rattle.settings.specs.Settings.{binsOf, recordOf, clipOne, Tiled}
 use Rattle.tiles.specs.Tiles.{mappings, footOf, FilmAsks, Work, TilesAsk, TilesDone}
 use Rattle.tiles.proofs.Footers.{film-asks}
-use Rattle.prepare.specs.declared.Prepared.the-variants as Prepared
-use Rattle.prepare.specs.Prepare.{prepareRows, Ended, ending, preparedOf, prepareOf}
+use Rattle.prepare.specs.declared.Prepared.{Prepared}
+use Rattle.prepare.specs.Prepare.{preparedWith, preparedNot, prepareRows, Ended, ending, preparedOf, prepareOf}
 use Rattle.prepare.proofs.Table.{work}
 
 -- ---- what the work asks, once none of the rows applies
@@ -23,6 +24,10 @@ module _ (w h : ℕ) (pic : List ℕ) (s : Settings) (room scratch : ℕ) {r : �
   -- the whole of it
   pub asks-work : Work w h pic s room scratch
   asks-work = work w h pic s room scratch (sym e ∙ z)
+
+  -- the record
+  pub asks-record : Tiled w h s
+  asks-record = asks-work .ready .tiled
 
   -- the footer
   pub asks-foot : FilmAsks w h s
@@ -37,22 +42,27 @@ module _ (w h : ℕ) (pic : List ℕ) (s : Settings) (room scratch : ℕ) {r : �
 module _ (film w h : ℕ) (pic : List ℕ) (s : Settings) (m t : List ℕ) where
   -- a refusal, as it was worked out
   pub ends-refused : {r : ℕ} → r ≡ first (prepareRows w h pic s (length m) (length t)) → (r ≡ 0 → ⊥)
-      → ending (Prepared.Refused r) m t ≡ prepareOf film w h pic s m t
+      → ending (preparedNot r) m t ≡ prepareOf film w h pic s m t
   unfolding prepareOf
   ends-refused {r} e z =
-      unless-refused r (λ n. ending (Prepared.Refused n) m t) (preparedOf film w h pic s m t) z
-      ∙ ap (λ k. unless k (λ n. ending (Prepared.Refused n) m t) (preparedOf film w h pic s m t)) e
+      unless-refused r (λ n. ending (preparedNot n) m t) (preparedOf film w h pic s m t) z
+      ∙ ap (λ k. unless k (λ n. ending (preparedNot n) m t) (preparedOf film w h pic s m t)) e
+
+  -- the same of the answer that `not_prepared` gives
+  pub ends-not : {r : ℕ} {p : Prepared} → r ≡ first (prepareRows w h pic s (length m) (length t)) → (r ≡ 0 → ⊥) → p ≡ preparedNot r
+      → ending p m t ≡ prepareOf film w h pic s m t
+  ends-not e z q = ap (λ p. ending p m t) q ∙ ends-refused e z
 
   -- no refusal
   pub ends-done : {r : ℕ} → r ≡ first (prepareRows w h pic s (length m) (length t)) → r ≡ 0 → preparedOf film w h pic s m t ≡ prepareOf film w h pic s m t
   unfolding prepareOf
-  ends-done {r} e z = ap (λ k. unless k (λ n. ending (Prepared.Refused n) m t) (preparedOf film w h pic s m t)) (sym z ∙ e)
+  ends-done {r} e z = ap (λ k. unless k (λ n. ending (preparedNot n) m t) (preparedOf film w h pic s m t)) (sym z ∙ e)
 
   -- what it leaves then, from the mappings however they were made
   pub prepared-as : {maps : List ℕ} → maps ≡ mappings w h pic s
       → _≡_ {A = Ended}
       record {
-        answer = Prepared.Done (recordOf film w h s) (footOf w h s);
+        answer = preparedWith (recordOf film w h s) (footOf w h s);
         map = cond (clipOne (s .clip)) m (onto m maps);
         scratch = cond (clipOne (s .clip)) t (filled (λ k. 0) t (binsOf s));
       }
@@ -61,19 +71,19 @@ module _ (film w h : ℕ) (pic : List ℕ) (s : Settings) (m t : List ℕ) where
   prepared-as e = rw e refl
 
   -- at the factor 1.0 the buffers stay
-  pub ends-one : {r : ℕ} {kept : Settings} {foot : Footer} {o : Bool} → r ≡ first (prepareRows w h pic s (length m) (length t)) → r ≡ 0
-      → foot ≡ footOf w h s → kept ≡ keptOf s → o ≡ clipOne (s .clip) → o ≡ true
-      → ending (Prepared.Done record { film = film; width = w; height = h; settings = kept } foot) m t ≡ prepareOf film w h pic s m t
+  pub ends-one : {r : ℕ} {kept : MapRecord} {foot : Footer} {o : Bool} → r ≡ first (prepareRows w h pic s (length m) (length t)) → r ≡ 0
+      → foot ≡ footOf w h s → kept ≡ recordOf film w h s → o ≡ clipOne (s .clip) → o ≡ true
+      → ending (preparedWith kept foot) m t ≡ prepareOf film w h pic s m t
   unfolding preparedOf
   ends-one e z f k c y =
       let one : clipOne (s .clip) ≡ true = sym c ∙ y in
       rw (f, k, one) refl ∙ ends-done e z
 
   -- else the mappings are laid down and the scratch is zero
-  pub ends-well : {r : ℕ} {kept : Settings} {foot : Footer} {o : Bool} {m′ t′ : List ℕ} → r ≡ first (prepareRows w h pic s (length m) (length t)) → r ≡ 0
-      → foot ≡ footOf w h s → kept ≡ keptOf s → o ≡ clipOne (s .clip) → o ≡ false
+  pub ends-well : {r : ℕ} {kept : MapRecord} {foot : Footer} {o : Bool} {m′ t′ : List ℕ} → r ≡ first (prepareRows w h pic s (length m) (length t)) → r ≡ 0
+      → foot ≡ footOf w h s → kept ≡ recordOf film w h s → o ≡ clipOne (s .clip) → o ≡ false
       → TilesDone w h pic s m m′ t t′
-      → ending (Prepared.Done record { film = film; width = w; height = h; settings = kept } foot) m′ t′ ≡ prepareOf film w h pic s m t
+      → ending (preparedWith kept foot) m′ t′ ≡ prepareOf film w h pic s m t
   unfolding preparedOf
   ends-well e z f k c y done =
       let one : clipOne (s .clip) ≡ false = sym c ∙ y in

@@ -7,6 +7,7 @@ use lib.ListN.{length}
 use Rattle.settings.specs.declared.Settings.{Settings}
 use Rattle.settings.specs.Settings.{keptOf}
 use Rattle.settings.proofs.Like.{bins-kept, shared-kept}
+use Rattle.settings.proofs.Records.{record-of-kept}
 use Rattle.render.specs.Render.{whole}
 use Rattle.render.proofs.Laws.{render-kept}
 use Rattle.tiles.specs.Tiles.{mappings}
@@ -27,7 +28,7 @@ rows-kept w h pic s room scratch = rw (shared-kept w h (length pic) s room, work
 pub prepare-kept : (film w h : ℕ) (pic : List ℕ) (s : Settings) (m t : List ℕ) → prepareOf film w h pic (keptOf s) m t ≡ prepareOf film w h pic s m t
 unfolding prepareOf preparedOf
 prepare-kept film w h pic s m t =
-    rw (rows-kept w h pic s (length m) (length t), mappings-kept w h pic s, foot-kept w h s, bins-kept s) refl
+    rw (rows-kept w h pic s (length m) (length t), mappings-kept w h pic s, foot-kept w h s, record-of-kept film w h s, bins-kept s) refl
 
 -- and enhance
 pub enhance-kept : (w h : ℕ) (pic : List ℕ) (s : Settings) (m t : List ℕ) → enhanceOf w h pic (keptOf s) m t ≡ enhanceOf w h pic s m t

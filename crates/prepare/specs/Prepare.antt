@@ -12,11 +12,12 @@ use Rattle.scan.specs.Scan.{within}
 use Rattle.settings.specs.declared.Settings.{Settings}
 use Rattle.settings.specs.declared.MapRecord.{MapRecord}
 use Rattle.settings.specs.declared.Footer.{Footer}
-use Rattle.settings.specs.Settings.{binsOf, recordOf, clipOne, sharedRows}
+use Rattle.settings.specs.Settings.{binsOf, recordOf, noRecord, clipOne, sharedRows}
 use Rattle.render.specs.Render.{renderOf, whole}
 use Rattle.tiles.specs.Tiles.{mappings, footOf}
 use Rattle.prepare.specs.declared.Prepared.{Prepared}
-use Rattle.prepare.specs.declared.Prepared.the-variants as Prepared
+use Rattle.prepare.specs.declared.Made.{Made}
+use Rattle.prepare.specs.declared.Made.the-variants as Made
 use Rattle.prepare.specs.declared.Enhanced.{Enhanced}
 use Rattle.prepare.specs.declared.Enhanced.the-variants as Enhanced
 
@@ -30,10 +31,22 @@ prepareRows w h pic s room scratch = sharedRows w h (length pic) s room ++ workR
 
 -- ---- the answers
 
+-- an accepted film's record and footer
+abbrev pub preparedWith : MapRecord → Footer → Prepared
+preparedWith r foot = record { answer = Made.Done foot; kept = r }
+
+-- "A refusal returns its number alone": the record is no film's
+abbrev pub preparedNot : ℕ → Prepared
+preparedNot n = record { answer = Made.Refused n; kept = noRecord }
+
+-- the values and number of an answer beside its record
+abbrev pub madeSays : Made → MapRecord → Says (MapRecord × Footer)
+madeSays (Made.Done foot) r = accepted (r, foot)
+madeSays (Made.Refused n) r = refused n
+
 -- document 01's values and number of prepare's answers: "the map record and a footer record", or a refusal
 unfoldable pub preparedSays : Prepared → Says (MapRecord × Footer)
-preparedSays (Prepared.Done r foot) = accepted (r, foot)
-preparedSays (Prepared.Refused n) = refused n
+preparedSays p = madeSays (p .answer) (p .kept)
 
 -- and of enhance's: "the same .. footer", or a refusal
 unfoldable pub enhancedSays : Enhanced → Says Footer
@@ -57,7 +70,7 @@ ending r m t = record { answer = r; map = m; scratch = t }
 unfoldable pub preparedOf : ℕ → ℕ → ℕ → List ℕ → Settings → List ℕ → List ℕ → Ended
 preparedOf film w h pic s m t =
     record {
-      answer = Prepared.Done (recordOf film w h s) (footOf w h s);
+      answer = preparedWith (recordOf film w h s) (footOf w h s);
       map = cond (clipOne (s .clip)) m (onto m (mappings w h pic s));
       scratch = cond (clipOne (s .clip)) t (filled (λ k. 0) t (binsOf s));
     }
@@ -65,7 +78,7 @@ preparedOf film w h pic s m t =
 -- "The first that applies is given", and all memory stays as it was; where none applies, prepare does its work
 unfoldable pub prepareOf : ℕ → ℕ → ℕ → List ℕ → Settings → List ℕ → List ℕ → Ended
 prepareOf film w h pic s m t =
-    unless (first (prepareRows w h pic s (length m) (length t))) (λ n. ending (Prepared.Refused n) m t) (preparedOf film w h pic s m t)
+    unless (first (prepareRows w h pic s (length m) (length t))) (λ n. ending (preparedNot n) m t) (preparedOf film w h pic s m t)
 
 -- ---- enhance
 

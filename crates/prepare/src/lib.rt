@@ -1,16 +1,22 @@
 // The calls prepare and enhance: the tile mappings of a film, and the whole film rendered in place.
 ghost use mathlib.Core.Path.{_≡_};
 ghost use Rattle.refuse.specs.Refuse.{first};
-ghost use Rattle.prepare.specs.Prepare.{workRows, prepareRows, prepareOf, enhanceOf, ending, overing};
+ghost use Rattle.prepare.specs.Prepare.{workRows, prepareRows, prepareOf, enhanceOf, ending, overing, preparedNot};
 use settings::Footer;
 use settings::MapRecord;
 use settings::Settings;
 use settings::Window;
 
-// What prepare answers: the record and the footer, or the refusal's number alone.
-pub enum Prepared {
-    Done(MapRecord, Footer),
+// What became of a film: its footer, or the refusal's number alone.
+pub enum Made {
+    Done(Footer),
     Refused(u32),
+}
+
+// What prepare answers: that, beside the record of what the mappings were made for. A refusal's record is no film's.
+pub struct Prepared {
+    pub answer: Made,
+    pub kept: MapRecord,
 }
 
 // What enhance answers: the footer, or the refusal's number alone.
@@ -50,6 +56,17 @@ fn refusal(
     work_refusal(picture, s, scratch)
 }
 
+// What prepare answers with a refusal.
+pub fn not_prepared(number: u32) -> Prepared
+    ensures { λ r. ⌜ r ≡ preparedNot number ⌝ }
+{
+    let kept = settings::no_record();
+    Prepared {
+        answer: Made::Refused(number),
+        kept,
+    }
+}
+
 // The mappings of a film in the map buffer, with the record of what they were made for and the footer.
 pub fn prepare(
     film: u32,
@@ -64,23 +81,23 @@ pub fn prepare(
 {
     let refused = refusal(width, height, picture, s, map.len(), scratch.len());
     if refused != 0 {
-        return Prepared::Refused(refused);
+        return not_prepared(refused);
     }
     let clip = s.clip;
     let foot = tiles::foot(width, height, s);
-    let kept = settings::kept(s);
-    let record = MapRecord {
-        film,
-        width,
-        height,
-        settings: kept,
-    };
+    let kept = settings::made_for(film, width, height, s);
     let one = settings::clip_one(clip);
     if one {
-        return Prepared::Done(record, foot);
+        return Prepared {
+            answer: Made::Done(foot),
+            kept,
+        };
     }
     tiles::map_tiles(picture, width, height, s, map, scratch);
-    Prepared::Done(record, foot)
+    Prepared {
+        answer: Made::Done(foot),
+        kept,
+    }
 }
 
 // The whole film rendered in place, with the mappings in the map buffer.

@@ -14,10 +14,9 @@ use Rattle.settings.specs.declared.Footer.{Footer}
 use Rattle.settings.specs.declared.Window.{Window}
 use Rattle.settings.specs.Settings.{binsOf, recordOf, clipOne}
 use Rattle.render.specs.Render.{renderOf, rectOf}
-use Rattle.prepare.specs.declared.Prepared.the-variants as Prepared
 use Rattle.prepare.specs.declared.Enhanced.the-variants as Enhanced
 use Rattle.tiles.specs.Tiles.{footOf, Work}
-use Rattle.prepare.specs.Prepare.{prepareRows, preparedSays, enhancedSays, Ended, ending, preparedOf, prepareOf, Over, overing, enhancedOf, enhanceOf}
+use Rattle.prepare.specs.Prepare.{preparedNot, prepareRows, preparedSays, enhancedSays, Ended, ending, preparedOf, prepareOf, Over, overing, enhancedOf, enhanceOf}
 use Rattle.prepare.proofs.Table.{work}
 use Rattle.prepare.proofs.Endings.{ends-refused, ends-done}
 use Rattle.prepare.proofs.Renders.{over-refused, over-done}
@@ -100,7 +99,7 @@ module _ {Y A : Type 0} {said : Y → Says A} {n : ℕ} {v : A} {done : Y} {lent
 module _ (film w h : ℕ) (pic : List ℕ) (s : Settings) (m t : List ℕ) where
   -- prepare goes by the rows 1 to 13 and 31
   pub prepare-table : ByTable (λ (x : Ended). preparedSays (x .answer)) (first (prepareRows w h pic s (length m) (length t)))
-      (recordOf film w h s, footOf w h s) (preparedOf film w h pic s m t) (λ k. ending (Prepared.Refused k) m t) (prepareOf film w h pic s m t)
+      (recordOf film w h s, footOf w h s) (preparedOf film w h pic s m t) (λ k. ending (preparedNot k) m t) (prepareOf film w h pic s m t)
   unfolding preparedOf preparedSays
   prepare-table =
       record {

@@ -8,10 +8,12 @@ use mathlib.Core.Path.{_≡_, refl, sym, ap, subst, _∙_}
 use native.Mathlib.Omega.{arith}
 use lib.ListN.{length, getD, take}
 use Rattle.refuse.specs.Refuse.{first, accepted, refused}
+use Rattle.grid.specs.Grid.{axisOf}
 use Rattle.tile.specs.Tile.{mappedOf}
 use Rattle.settings.specs.declared.MapRecord.{MapRecord}
 use Rattle.settings.specs.declared.Footer.{Footer}
 use Rattle.settings.specs.Settings.{binsOf, entriesOf, keptOf, clipOne, sameClip, sharedRows}
+use Rattle.settings.proofs.Records.{record-film}
 use Rattle.tiles.specs.Tiles.{pixelsIn}
 use Rattle.prepare.specs.Prepare.{preparedSays, enhancedSays, Ended, prepareOf, Over, overing, enhanceOf}
 use Rattle.held.specs.Held.{Held}
@@ -22,9 +24,9 @@ use Rattle.promises.specs.Films.{clippedCounts, ruleGrey, HandedOn}
 use Rattle.promises.proofs.Accepted.{refused-says, prepare-record}
 use Rattle.prepare.proofs.Like.{enhance-kept}
 use Rattle.promises.proofs.Reuse.{left-settings}
-use Rattle.promises.proofs.Demand1.{draw-refusal-keeps, draw-says}
+use Rattle.promises.proofs.Demand1.{draw-refusal-keeps, prepare-accepted, enhance-accepted, draw-says}
 use Rattle.promises.proofs.Demand2.{own-mapping, own-mapping-enhance, own-rendering, own-pixels, enhance-agrees, draw-agrees}
-use Rattle.promises.proofs.Windows.{accepted-by-rule, accepted-as-film, accepted-as-enhanced}
+use Rattle.promises.proofs.Windows.{accepted-handed, accepted-by-rule, accepted-as-film, accepted-as-enhanced}
 use Rattle.promises.proofs.Runs.{PrepareCall, Prepares, prepare-ends, EnhanceCall, Enhances, enhance-ends, DrawCall, Draws, draw-ends}
 
 -- ---- a record of another film
@@ -88,12 +90,20 @@ module _ {d : DrawCall} (ran : Draws d) (shared : first (sharedRows (d .width) (
   pub other-clip-15 : sameClip (d .settings .clip) (d .kept .settings .clip) ≢ true → drawnSays (d .answer) ≡ refused 15
   other-clip-15 other = draw-differing-15 (λ held. other (held .clip))
 
+  -- order 6, "15 is also given where the record's edges or centres aren't those of this rule": those of the columns, any of them
+  pub other-columns-15 : axisOf (d .width) (d .settings .across) ≢ d .kept .columns → drawnSays (d .answer) ≡ refused 15
+  other-columns-15 other = draw-differing-15 (λ held. other (held .columns))
+
+  -- and of the rows
+  pub other-rows-15 : axisOf (d .height) (d .settings .down) ≢ d .kept .rows → drawnSays (d .answer) ≡ refused 15
+  other-rows-15 other = draw-differing-15 (λ held. other (held .rows))
+
 -- ---- the whole film
 
 -- a film that enhance accepted
 module _ {e : EnhanceCall} {foot : Footer} (ran : Enhances e) (enhanced : enhancedSays (e .answer) ≡ accepted foot) where
   over : enhancedSays (enhanceOf (e .width) (e .height) (e .pixels) (e .settings) (e .map) (e .scratch) .answer) ≡ accepted foot
-  over = sym (ap (λ (z : Over). enhancedSays (z .answer)) (enhance-ends ran)) ∙ enhanced
+  over = enhance-accepted ran enhanced
 
   -- "The rendering of every accepted film is the one that the integer rule of document 01 gives for that film's own pixels and settings: whole"
   pub enhanced-by-rule : clipOne (e .settings .clip) ≡ false → (i j : ℕ) → i < e .width → j < e .height
@@ -121,7 +131,7 @@ ended p = prepareOf (p .film) (p .width) (p .height) (p .pixels) (p .settings) (
 -- a film that prepare accepted, answering the record r
 module _ {p : PrepareCall} {r : MapRecord} {foot : Footer} (ran : Prepares p) (prepared : preparedSays (p .answer) ≡ accepted (r, foot)) where
   done : preparedSays (ended p .answer) ≡ accepted (r, foot)
-  done = sym (ap (λ (z : Ended). preparedSays (z .answer)) (prepare-ends ran)) ∙ prepared
+  done = prepare-accepted ran prepared
 
   -- each tile's own mapping lies in the map buffer
   pub prepared-by-rule : clipOne (p .settings .clip) ≡ false → (k b : ℕ) → k < p .settings .across * p .settings .down → b < binsOf (p .settings)
@@ -137,7 +147,7 @@ module _ {p : PrepareCall} {r : MapRecord} {foot : Footer} (ran : Prepares p) (p
   -- "A window drawn with the record of a film of another number is refused.": handed that record and another film's number, whatever else
   pub prepared-other-film : {d : DrawCall} → Draws d → d .kept ≡ r → d .film ≢ p .film → Refuses d
   prepared-other-film drew same other =
-      draw-other-film-refused drew (λ e. other (e ∙ ap (λ (z : MapRecord). z .film) (same ∙ sym (prepare-record _ _ _ _ _ _ _ done))))
+      draw-other-film-refused drew (λ e. other (e ∙ ap (λ (z : MapRecord). z .film) (same ∙ sym (prepare-record _ _ _ _ _ _ _ done)) ∙ record-film _ _ _ (p .settings)))
 
 -- what prepare left, handed to draw: prepare accepted the film of p with this footer, and draw is handed the same film with the record that prepare answered, the settings,
 -- the mappings that prepare left, a window inside the film and an output of its area
@@ -207,6 +217,12 @@ module _ {p : PrepareCall} {foot : Footer} {d : DrawCall} (from : DrawnFrom p fo
 
   entries : clipOne (p .settings .clip) ≡ false → take (entriesOf (p .settings)) (d .map) ≡ take (entriesOf (p .settings)) (ended p .map)
   entries one = from .mappings one ∙ ap (λ (z : Ended). take (entriesOf (p .settings)) (z .map)) (prepare-ends (from .prepares))
+
+  -- the window lies inside the film
+  pub drawn-inside : (d .window .left + d .window .width ≤ p .width) × (d .window .top + d .window .height ≤ p .height)
+  drawn-inside =
+      let handed = accepted-handed (p .film) (p .width) (p .height) (p .pixels) (p .settings) _ _ made _ _ _ _ _ (d .window) _ accepts entries in
+      (handed .across, handed .down)
 
   -- "or through a window from the record and mappings prepared for those pixels and unchanged since"
   pub drawn-by-rule : clipOne (p .settings .clip) ≡ false → (j i : ℕ) → j < d .window .height → i < d .window .width

@@ -1,4 +1,5 @@
--- Document 00, demand 3, call by call: "in every tile of a film that prepare or enhance accepts", with the limit that the footer hands back; and order 2: that limit, and that no clip refusal is given.
+-- Document 00, demand 3, call by call: "in every tile of a film that prepare or enhance accepts", with "each tile's own N and L" (order 6), of which the footer shows
+-- the first tile's; and order 2: those limits, and that no clip refusal is given.
 -- Of every run of the calls by their contracts (Runs); a name with ′ is lent memory at the end.
 -- Assumes nothing.
 use Prim.Native.Nat.{ℕ}
@@ -18,10 +19,10 @@ use Rattle.settings.specs.Settings.{binsOf, clipBad}
 use Rattle.tiles.specs.Tiles.{pixelsIn}
 use Rattle.prepare.specs.Prepare.{preparedSays, enhancedSays, Ended, prepareOf, Over, enhanceOf}
 use Rattle.prepare.proofs.Table.{table-never-14}
-use Rattle.promises.specs.Films.{ClippingOn, ClipCase, FooterShows, FilmSound, LimitFits}
+use Rattle.promises.specs.Films.{ClippingOn, ClipCase, FooterShows, limitIn, FilmSound, LimitFits}
 use Rattle.promises.proofs.Accepted.{says-refused, prepare-work, enhance-work}
-use Rattle.promises.proofs.Demand1.{prepare-says, enhance-says}
-use Rattle.promises.proofs.Demand3.{tiles-sound, tiles-sound-enhance, footer-shows, footer-shows-enhance, clip-cases, footer-fits}
+use Rattle.promises.proofs.Demand1.{prepare-says, enhance-says, prepare-accepted, enhance-accepted}
+use Rattle.promises.proofs.Demand3.{tiles-sound, tiles-sound-enhance, footer-shows, footer-shows-enhance, clip-cases, limit-fits}
 use Rattle.promises.proofs.Runs.{PrepareCall, Prepares, prepare-ends, EnhanceCall, Enhances, enhance-ends, JudgeCall, Judges, judge-ends}
 
 -- ---- every tile
@@ -29,7 +30,7 @@ use Rattle.promises.proofs.Runs.{PrepareCall, Prepares, prepare-ends, E
 -- a film that prepare accepted, answering this footer
 module _ {p : PrepareCall} {r : MapRecord} {foot : Footer} (ran : Prepares p) (done : preparedSays (p .answer) ≡ accepted (r, foot)) where
   prepared : preparedSays (prepareOf (p .film) (p .width) (p .height) (p .pixels) (p .settings) (p .map) (p .scratch) .answer) ≡ accepted (r, foot)
-  prepared = sym (ap (λ (z : Ended). preparedSays (z .answer)) (prepare-ends ran)) ∙ done
+  prepared = prepare-accepted ran done
 
   -- "a footer record with L, the factor asked as f32 and the factor used as f64": what it shows, by the clip setting
   pub prepared-footer : FooterShows (p .settings .clip) (pixelsIn (p .width) (p .height) (p .settings) 0) (binsOf (p .settings)) foot
@@ -39,21 +40,19 @@ module _ {p : PrepareCall} {r : MapRecord} {foot : Footer} (ran : Prepares p) (d
   pub prepared-clip : ClipCase (p .settings .clip)
   prepared-clip = clip-cases (prepare-work _ _ _ _ _ (p .map) (p .scratch) prepared)
 
-  -- "With clipping on (a factor above one), in every tile of a film that prepare .. accepts": with the limit of the footer, and the map entries that prepare left
-  pub prepared-tiles-sound : {f : Float} → ClippingOn (p .settings .clip) f → FilmSound (p .width) (p .height) (p .pixels) (p .settings) (foot .limit) (p .map′)
-  prepared-tiles-sound {f} on =
-      rw (ap (λ (z : Footer). z .limit) (prepared-footer .above f on), ap (λ (z : Ended). z .map) (prepare-ends ran))
-      (tiles-sound _ _ _ _ _ (p .map) (p .scratch) prepared on)
+  -- "With clipping on (a factor above one), in every tile of a film that prepare .. accepts": with the tile's own limit, and the map entries that prepare left
+  pub prepared-tiles-sound : {f : Float} → ClippingOn (p .settings .clip) f → FilmSound (p .width) (p .height) (p .pixels) (p .settings) f (p .map′)
+  prepared-tiles-sound on = rw (ap (λ (z : Ended). z .map) (prepare-ends ran)) (tiles-sound _ _ _ _ _ (p .map) (p .scratch) prepared on)
 
-  -- "L x B is never below N, and L is the least that can hold the tile where the factor would give less": of each tile, with the limit of the footer
-  pub prepared-limit-fits : {f : Float} → ClippingOn (p .settings .clip) f
-      → (k : ℕ) → LimitFits f (pixelsIn (p .width) (p .height) (p .settings) k) (binsOf (p .settings)) (foot .limit)
-  prepared-limit-fits on k = footer-fits (prepare-work _ _ _ _ _ (p .map) (p .scratch) prepared) prepared-footer on k
+  -- "L x B is never below N, and L is the least that can hold the tile where the factor would give less": of each tile and its own limit
+  pub prepared-limit-fits : {f : Float} → ClippingOn (p .settings .clip) f → (k : ℕ)
+      → LimitFits f (pixelsIn (p .width) (p .height) (p .settings) k) (binsOf (p .settings)) (limitIn (p .width) (p .height) (p .settings) f k)
+  prepared-limit-fits {f} on k = limit-fits (prepare-work _ _ _ _ _ (p .map) (p .scratch) prepared) f k
 
 -- a film that enhance accepted, answering this footer
 module _ {e : EnhanceCall} {foot : Footer} (ran : Enhances e) (done : enhancedSays (e .answer) ≡ accepted foot) where
   enhanced : enhancedSays (enhanceOf (e .width) (e .height) (e .pixels) (e .settings) (e .map) (e .scratch) .answer) ≡ accepted foot
-  enhanced = sym (ap (λ (z : Over). enhancedSays (z .answer)) (enhance-ends ran)) ∙ done
+  enhanced = enhance-accepted ran done
 
   -- "the same .. footer"
   pub enhanced-footer : FooterShows (e .settings .clip) (pixelsIn (e .width) (e .height) (e .settings) 0) (binsOf (e .settings)) foot
@@ -64,15 +63,13 @@ module _ {e : EnhanceCall} {foot : Footer} (ran : Enhances e) (done : enhancedSa
   enhanced-clip = clip-cases (enhance-work _ _ _ _ (e .map) (e .scratch) enhanced)
 
   -- "With clipping on (a factor above one), in every tile of a film that .. enhance accepts"
-  pub enhanced-tiles-sound : {f : Float} → ClippingOn (e .settings .clip) f → FilmSound (e .width) (e .height) (e .pixels) (e .settings) (foot .limit) (e .map′)
-  enhanced-tiles-sound {f} on =
-      rw (ap (λ (z : Footer). z .limit) (enhanced-footer .above f on), ap (λ (z : Over). z .map) (enhance-ends ran))
-      (tiles-sound-enhance _ _ _ _ (e .map) (e .scratch) enhanced on)
+  pub enhanced-tiles-sound : {f : Float} → ClippingOn (e .settings .clip) f → FilmSound (e .width) (e .height) (e .pixels) (e .settings) f (e .map′)
+  enhanced-tiles-sound on = rw (ap (λ (z : Over). z .map) (enhance-ends ran)) (tiles-sound-enhance _ _ _ _ (e .map) (e .scratch) enhanced on)
 
   -- "L x B is never below N, and L is the least that can hold the tile where the factor would give less"
-  pub enhanced-limit-fits : {f : Float} → ClippingOn (e .settings .clip) f
-      → (k : ℕ) → LimitFits f (pixelsIn (e .width) (e .height) (e .settings) k) (binsOf (e .settings)) (foot .limit)
-  enhanced-limit-fits on k = footer-fits (enhance-work _ _ _ _ (e .map) (e .scratch) enhanced) enhanced-footer on k
+  pub enhanced-limit-fits : {f : Float} → ClippingOn (e .settings .clip) f → (k : ℕ)
+      → LimitFits f (pixelsIn (e .width) (e .height) (e .settings) k) (binsOf (e .settings)) (limitIn (e .width) (e .height) (e .settings) f k)
+  enhanced-limit-fits {f} on k = limit-fits (enhance-work _ _ _ _ (e .map) (e .scratch) enhanced) f k
 
 -- ---- the clip refusal
 

@@ -4,10 +4,12 @@
 use Prim.Native.Nat.{ℕ}
 use mathlib.Core.Path.{_≡_, sym, ap, _∙_}
 use lib.ListN.{length}
-use Rattle.refuse.specs.Refuse.{first, refused, says}
+use Rattle.refuse.specs.Refuse.{first, accepted, refused, says}
+use Rattle.settings.specs.declared.MapRecord.{MapRecord}
+use Rattle.settings.specs.declared.Footer.{Footer}
 use Rattle.settings.specs.Settings.{binsOf, recordOf}
 use Rattle.tiles.specs.Tiles.{footOf}
-use Rattle.prepare.specs.Prepare.{prepareRows, preparedSays, enhancedSays, Ended, Over}
+use Rattle.prepare.specs.Prepare.{prepareRows, preparedSays, enhancedSays, Ended, prepareOf, Over, enhanceOf}
 use Rattle.draw.specs.Draw.{drawRows, drawnSays, Shows}
 use Rattle.promises.proofs.Accepted.{table-says, table-kept, prepare-table, enhance-table, draw-table}
 use Rattle.promises.proofs.Runs.{PrepareCall, Prepares, prepare-ends, EnhanceCall, Enhances, enhance-ends, DrawCall, Draws, draw-ends}
@@ -48,6 +50,16 @@ pub enhance-says : {e : EnhanceCall} → Enhances e
     ≡ says (first (prepareRows (e .width) (e .height) (e .pixels) (e .settings) (length (e .map)) (length (e .scratch))))
     (footOf (e .width) (e .height) (e .settings))
 enhance-says ran = ap (λ (y : Over). enhancedSays (y .answer)) (enhance-ends ran) ∙ table-says (enhance-table _ _ _ _ _ _)
+
+-- so the outcome that the contract cites says what the answer does: of a film that prepare accepted
+pub prepare-accepted : {p : PrepareCall} {v : MapRecord × Footer} → Prepares p → preparedSays (p .answer) ≡ accepted v
+    → preparedSays (prepareOf (p .film) (p .width) (p .height) (p .pixels) (p .settings) (p .map) (p .scratch) .answer) ≡ accepted v
+prepare-accepted ran e = sym (ap (λ (y : Ended). preparedSays (y .answer)) (prepare-ends ran)) ∙ e
+
+-- and of one that enhance accepted
+pub enhance-accepted : {e : EnhanceCall} {foot : Footer} → Enhances e → enhancedSays (e .answer) ≡ accepted foot
+    → enhancedSays (enhanceOf (e .width) (e .height) (e .pixels) (e .settings) (e .map) (e .scratch) .answer) ≡ accepted foot
+enhance-accepted ran e = sym (ap (λ (y : Over). enhancedSays (y .answer)) (enhance-ends ran)) ∙ e
 
 -- draw's is that of draw's rows; where none applies there is no value to hand back
 pub draw-says : {d : DrawCall} → Draws d

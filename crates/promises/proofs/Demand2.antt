@@ -14,6 +14,7 @@ use Rattle.lists.proofs.Blocks.{block-fits}
 use Rattle.lists.proofs.Alls.{all-at}
 use Rattle.refuse.specs.Refuse.{first, accepted, says}
 use Rattle.scan.specs.Scan.{within}
+use Rattle.binning.specs.Binning.{binOf}
 use Rattle.tally.specs.Tally.{greysOf}
 use Rattle.tile.specs.Tile.{mappedOf}
 use Rattle.settings.specs.declared.Settings.{Settings}
@@ -25,13 +26,14 @@ use Rattle.render.specs.Render.{rectOf, renderedOf, renderOf, whole}
 use Rattle.render.proofs.Pixels.{tile-index}
 use Rattle.tally.proofs.Greys.{getD-greys}
 use Rattle.render.proofs.Laws.{render-at, rendered-by, window-law}
-use Rattle.tiles.specs.Tiles.{pixelsIn, mappings, Work, TilesAsk}
+use Rattle.tiles.specs.Tiles.{tileOf, pixelsIn, mappings, Work, TilesAsk}
 use Rattle.prepare.specs.Prepare.{preparedSays, enhancedSays, Ended, prepareOf, preparedOf, Over, enhanceOf, enhancedOf}
 use Rattle.prepare.proofs.Table.{rows-any}
+use Rattle.tiles.proofs.Tiles.{tile-area}
 use Rattle.tiles.proofs.Films.{length-mappings, mappings-own}
 use Rattle.prepare.proofs.Renders.{laid-mapped, laid-render}
 use Rattle.draw.specs.Draw.{drawRows, drawnSays, Shows, drawOf}
-use Rattle.promises.specs.Films.{clippedCounts, tileValue, ruleGrey, HandedOn}
+use Rattle.promises.specs.Films.{clippedCounts, tileValue, greyFrom, ruleGrey, HandedOn}
 use Rattle.promises.proofs.Accepted.{table-says, prepare-accepts, prepare-work, prepare-done, prepare-foot, enhance-table, enhance-work, enhance-done, draw-table}
 use Rattle.draw.proofs.Like.{drawn-pixels, draw-kept, draw-room}
 use Rattle.promises.proofs.Reuse.{left-room, left-laid, left-asks, draw-free}
@@ -74,10 +76,13 @@ own-mapping-enhance w h pic s m t e one k b l q =
 laid-grey : (m : List ℕ) {w h : ℕ} {pic : List ℕ} {s : Settings} {scratch : ℕ} → TilesAsk w h pic s (length m) scratch → (x y : ℕ) → x < w → y < h
     → within (s .min) (s .max) (getD pic (y * w + x) 0) ≡ true
     → renderedOf w h s (onto m (mappings w h pic s)) x y (getD pic (y * w + x) 0) ≡ ruleGrey w h pic s x y
-unfolding ruleGrey tileValue
+unfolding ruleGrey greyFrom tileValue
 laid-grey m {w} {h} {pic} {s} asks x y l k g =
-    rendered-by (laid-mapped m asks refl) (tileValue w h pic s (getD pic (y * w + x) 0)) (getD pic (y * w + x) 0) l k g
-    (λ j i p q bin. laid-own w h pic s m (j * s .across + i) _ (tile-index {across = s .across} {down = s .down} p q) bin)
+    rendered-by (laid-mapped m asks refl) (λ j i. tileValue w pic s (tileOf w h s (j * s .across + i)) (getD pic (y * w + x) 0)) (getD pic (y * w + x) 0) l k g
+    (λ j i p q bin.
+    laid-own w h pic s m (j * s .across + i) _ (tile-index {across = s .across} {down = s .down} p q) bin
+    ∙ ap (λ n. mappedOf (s .min) (s .max) n (clippedCounts w h pic s (j * s .across + i)) (binOf (s .min) (s .max) (binsOf s) (getD pic (y * w + x) 0)))
+    (sym (tile-area w h (s .across) (s .down) (j * s .across + i))))
 
 -- "The rendering of every accepted film is the one that the integer rule of document 01 gives for that film's own pixels and settings: whole":
 -- each pixel of enhance's picture

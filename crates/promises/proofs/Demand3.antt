@@ -32,10 +32,10 @@ use Rattle.settings.specs.Settings.{binsOf, clipBad, clipOne}
 use Rattle.tiles.specs.Tiles.{tileOf, pixelsIn, footOf, FooterAsks, Work, TilesAsk}
 use Rattle.prepare.specs.Prepare.{preparedSays, enhancedSays, prepareOf, enhanceOf}
 use Rattle.tiles.proofs.Footers.{footer-asks, film-asks, footer-off, footer-one, footer-above, foot-is}
-use Rattle.tiles.proofs.Tiles.{tile-area, tile-pixels-some, tile-pixels-alike}
+use Rattle.tiles.proofs.Tiles.{tile-area, tile-pixels-some}
 use Rattle.tiles.proofs.Films.{tile-greys, rect-holds}
 use Rattle.counting.specs.Counting.{rawCounts}
-use Rattle.promises.specs.Films.{clippedCounts, ClippingOn, ClipCase, clip-off, clip-one, clip-on, FooterShows, TileSound, FilmSound, LimitFits}
+use Rattle.promises.specs.Films.{clippedCounts, ClippingOn, ClipCase, clip-off, clip-one, clip-on, FooterShows, TileSound, limitIn, FilmSound, LimitFits}
 use Rattle.promises.proofs.Accepted.{prepare-work, prepare-foot, enhance-work, enhance-foot}
 use Rattle.promises.proofs.Demand2.{own-mapping, own-mapping-enhance}
 
@@ -107,31 +107,30 @@ module _ {w h : ℕ} {pic : List ℕ} {s : Settings} {room scratch : ℕ} (work 
         holds = rect-holds asks k;
       }
 
+  -- with its own pixels and its own limit
   tile-sound : (k : ℕ) → k < s .across * s .down → (entry : ℕ → ℕ)
       → ((i : ℕ) → i < binsOf s → entry i ≡ mappedOf (s .min) (s .max) (pixelsIn w h s k) (clippedCounts w h pic s k) i)
-      → TileSound (s .min) (s .max) (pixelsIn w h s k) (binsOf s) (limitOf f (pixelsIn w h s 0) (binsOf s)) (rawCounts w h pic s k) (clippedCounts w h pic s k) entry
+      → TileSound (s .min) (s .max) (pixelsIn w h s k) (binsOf s) (limitIn w h s f k) (rawCounts w h pic s k) (clippedCounts w h pic s k) entry
   tile-sound k l entry =
       subst
       (λ n. ((i : ℕ) → i < binsOf s → entry i ≡ mappedOf (s .min) (s .max) n (clippedCounts w h pic s k) i)
-      → TileSound (s .min) (s .max) n (binsOf s) (limitOf f (pixelsIn w h s 0) (binsOf s)) (rawCounts w h pic s k) (clippedCounts w h pic s k) entry)
+      → TileSound (s .min) (s .max) n (binsOf s) (limitOf f n (binsOf s)) (rawCounts w h pic s k) (clippedCounts w h pic s k) entry)
       (tile-area w h (s .across) (s .down) k)
-      (λ own. subst (λ l. TileSound (s .min) (s .max) (tileOf w h s k .width * tileOf w h s k .height) (binsOf s) l (rawCounts w h pic s k) (clippedCounts w h pic s k) entry)
-      (ap (λ n. limitOf f n (binsOf s)) (tile-area w h (s .across) (s .down) k ∙ tile-pixels-alike w h s k))
-      (rect-sound (tile-rect-asks k l) on entry own))
+      (rect-sound (tile-rect-asks k l) on entry)
 
 -- ---- every tile
 
--- demand 3, of prepare: every tile of an accepted film with a factor above one, and the map entries that prepare leaves for it
+-- demand 3, of prepare: every tile of an accepted film with a factor above one, with its own limit, and the map entries that prepare leaves for it
 pub tiles-sound : (film w h : ℕ) (pic : List ℕ) (s : Settings) (m t : List ℕ) {r : MapRecord} {foot : Footer} {f : Float}
     → preparedSays (prepareOf film w h pic s m t .answer) ≡ accepted (r, foot) → ClippingOn (s .clip) f
-    → FilmSound w h pic s (limitOf f (pixelsIn w h s 0) (binsOf s)) (prepareOf film w h pic s m t .map)
+    → FilmSound w h pic s f (prepareOf film w h pic s m t .map)
 tiles-sound film w h pic s m t e on k l =
     tile-sound (prepare-work film w h pic s m t e) on k l _ (λ i q. own-mapping film w h pic s m t e (on-not-one on) k i l q)
 
 -- the same of enhance
 pub tiles-sound-enhance : (w h : ℕ) (pic : List ℕ) (s : Settings) (m t : List ℕ) {foot : Footer} {f : Float}
     → enhancedSays (enhanceOf w h pic s m t .answer) ≡ accepted foot → ClippingOn (s .clip) f
-    → FilmSound w h pic s (limitOf f (pixelsIn w h s 0) (binsOf s)) (enhanceOf w h pic s m t .map)
+    → FilmSound w h pic s f (enhanceOf w h pic s m t .map)
 tiles-sound-enhance w h pic s m t e on k l =
     tile-sound (enhance-work w h pic s m t e) on k l _ (λ i q. own-mapping-enhance w h pic s m t e (on-not-one on) k i l q)
 
@@ -169,7 +168,8 @@ module _ {w h : ℕ} {pic : List ℕ} {s : Settings} {room scratch : ℕ} (work 
       go Off e = clip-off e
       go (Factor f) e = which f e (isOne f) refl
 
--- the footer that prepare hands back: with a factor above one it shows that same limit, the factor asked and the factor used, with clip off and at 1.0 what document 01 says
+-- the footer that prepare hands back: with a factor above one it shows the limit of tile 0, 0, the factor asked and the factor used of that limit,
+-- with clip off and at 1.0 what document 01 says
 pub footer-shows : (film w h : ℕ) (pic : List ℕ) (s : Settings) (m t : List ℕ) {r : MapRecord} {foot : Footer}
     → preparedSays (prepareOf film w h pic s m t .answer) ≡ accepted (r, foot) → FooterShows (s .clip) (pixelsIn w h s 0) (binsOf s) foot
 footer-shows film w h pic s m t e =
@@ -183,12 +183,10 @@ footer-shows-enhance w h pic s m t e =
 
 -- ---- the limit
 
--- order 2: the limit that the footer of an accepted film shows holds each tile, and is no larger than the factor and the tile ask
-pub footer-fits : {w h : ℕ} {pic : List ℕ} {s : Settings} {room scratch : ℕ} {foot : Footer} → Work w h pic s room scratch → FooterShows (s .clip) (pixelsIn w h s 0) (binsOf s) foot
-    → {f : Float} → ClippingOn (s .clip) f → (k : ℕ) → LimitFits f (pixelsIn w h s k) (binsOf s) (foot .limit)
-footer-fits {w} {h} {pic} {s} work shows {f} on k =
-    subst (LimitFits f (pixelsIn w h s k) (binsOf s))
-    (ap (λ n. limitOf f n (binsOf s)) (tile-pixels-alike w h s k) ∙ sym (ap (λ (z : Footer). z .limit) (shows .above f on)))
+-- order 2: the limit of each tile of an accepted film holds the tile, and is no larger than the factor and the tile ask
+pub limit-fits : {w h : ℕ} {pic : List ℕ} {s : Settings} {room scratch : ℕ} → Work w h pic s room scratch
+    → (f : Float) (k : ℕ) → LimitFits f (pixelsIn w h s k) (binsOf s) (limitIn w h s f k)
+limit-fits {w} {h} {pic} {s} work f k =
     record {
       holds = limit-holds f _ (binsOf s) some;
       least = λ less l enough. limit-tight f _ (binsOf s) l some less enough;

@@ -12,3 +12,5 @@ pub mod Clipping
 pub mod Files
 pub mod FileOutcomes
 pub mod Bins
+pub mod Covers
+pub mod Fitted

@@ -3,7 +3,7 @@
 -- Assumes nothing.
 use mathlib.Core.Path.{_≡_, sym, ap, _∙_}
 use lib.ListN.{take}
-use Rattle.settings.specs.Settings.{entriesOf, keptOf, recordOf}
+use Rattle.settings.specs.Settings.{entriesOf, keptOf, keptRecord}
 use Rattle.prepare.specs.Prepare.{Ended, prepareOf, Over, enhanceOf}
 use Rattle.draw.specs.Draw.{Shows, drawOf}
 use Rattle.prepare.proofs.Like.{prepare-kept, enhance-kept}
@@ -38,7 +38,7 @@ enhance-alike {e} {f} x y same =
 
 -- what draw shows is what it shows of what it reads
 shown : (d : DrawCall)
-    → drawOf (d .film) (d .width) (d .height) (d .pixels) (keptOf (d .settings)) (recordOf (d .kept .film) (d .kept .width) (d .kept .height) (d .kept .settings)) (d .window)
+    → drawOf (d .film) (d .width) (d .height) (d .pixels) (keptOf (d .settings)) (keptRecord (d .kept)) (d .window)
     (take (entriesOf (d .settings)) (d .map)) (d .out)
     ≡ drawOf (d .film) (d .width) (d .height) (d .pixels) (d .settings) (d .kept) (d .window) (d .map) (d .out)
 shown d =
@@ -67,4 +67,4 @@ enhance-determined x y same = enhance-alike x y (ap (λ g. (g .0, g .1, g .2, ke
 -- draw: one answer and one output at the end
 pub draw-determined : {d f : DrawCall} → Draws d → Draws f → draw-given d ≡ draw-given f → (d .answer ≡ f .answer) × (d .out′ ≡ f .out′)
 draw-determined x y same =
-    draw-alike x y (ap (λ g. (g .0, g .1, g .2, g .3, keptOf (g .4), recordOf (g .5 .film) (g .5 .width) (g .5 .height) (g .5 .settings), g .6, take (entriesOf (g .4)) (g .7), g .8)) same)
+    draw-alike x y (ap (λ g. (g .0, g .1, g .2, g .3, keptOf (g .4), keptRecord (g .5), g .6, take (entriesOf (g .4)) (g .7), g .8)) same)

@@ -19,6 +19,7 @@ use Rattle.settings.specs.declared.Footer.{Footer}
 use Rattle.settings.specs.declared.Window.{Window}
 use Rattle.settings.specs.Settings.{entriesOf, keptOf, clipOne, sharedRows}
 use Rattle.settings.proofs.Like.{bins-kept, kept-same}
+use Rattle.settings.proofs.Records.{record-settings}
 use Rattle.render.specs.Render.{rectOf}
 use Rattle.tiles.specs.Tiles.{mappings, Work, TilesAsk}
 use Rattle.prepare.specs.Prepare.{preparedSays, Ended, prepareOf, preparedOf}
@@ -61,7 +62,10 @@ module _ (film w h : ℕ) (pic : List ℕ) (s : Settings) (m t : List ℕ) {r : 
 
   -- the record's own settings are kept as the same
   pub left-settings : keptOf (r .settings) ≡ keptOf s
-  left-settings = ap (λ (x : MapRecord). keptOf (x .settings)) (sym (prepare-record film w h pic s m t done)) ∙ kept-same s (keptOf s) refl refl (bins-kept s) refl refl refl
+  left-settings =
+      ap (λ (x : MapRecord). keptOf (x .settings)) (sym (prepare-record film w h pic s m t done))
+      ∙ ap keptOf (record-settings film w h s)
+      ∙ kept-same s (keptOf s) refl refl (bins-kept s) refl refl refl
 
   -- with a factor that is not 1.0 the mappings lie there
   pub left-laid : clipOne (s .clip) ≡ false → prepareOf film w h pic s m t .map ≡ onto m (mappings w h pic s)

@@ -17,7 +17,7 @@ use Rattle.limit.proofs.judge.Reads as judge-reads
 use Rattle.settings.specs.declared.Settings.{Settings}
 use Rattle.settings.specs.declared.MapRecord.{MapRecord}
 use Rattle.settings.specs.declared.Window.{Window}
-use Rattle.settings.specs.Settings.{entriesOf, keptOf, recordOf}
+use Rattle.settings.specs.Settings.{entriesOf, keptOf, keptRecord}
 use Rattle.prepare.specs.declared.Prepared.{Prepared}
 use Rattle.prepare.specs.declared.Enhanced.{Enhanced}
 use Rattle.prepare.specs.Prepare.{ending, prepareOf, overing, enhanceOf}
@@ -150,7 +150,7 @@ draw-read c = (
   c .height,
   c .pixels,
   keptOf (c .settings),
-  recordOf (c .kept .film) (c .kept .width) (c .kept .height) (c .kept .settings),
+  keptRecord (c .kept),
   c .window,
   take (entriesOf (c .settings)) (c .map),
   c .out,

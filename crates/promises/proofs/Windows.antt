@@ -12,14 +12,14 @@ use Rattle.settings.specs.declared.Settings.{Settings}
 use Rattle.settings.specs.declared.MapRecord.{MapRecord}
 use Rattle.settings.specs.declared.Footer.{Footer}
 use Rattle.settings.specs.declared.Window.{Window}
-use Rattle.settings.specs.Settings.{binsOf, entriesOf, recordOf, clipOne}
+use Rattle.settings.specs.Settings.{binsOf, entriesOf, recordOf, clipOne, sameClip}
 use Rattle.render.specs.Render.{renderOf, rectOf}
 use Rattle.prepare.specs.Prepare.{preparedSays, prepareOf, enhanceOf}
 use Rattle.draw.specs.declared.Drawn.the-variants.{Done}
 use Rattle.held.specs.Held.{Held}
 use Rattle.draw.specs.Draw.{drawnSays, Shows, showing, drawOf, DrawReady}
 use Rattle.settings.proofs.Clips.{same-clip-one}
-use Rattle.settings.proofs.Like.{bins-kept}
+use Rattle.settings.proofs.Records.{record-width, record-height, record-settings, record-bins}
 use Rattle.render.proofs.Laws.{render-fields}
 use Rattle.draw.proofs.Like.{drawn-pixels}
 use Rattle.draw.proofs.Tables.{draw-ready}
@@ -38,11 +38,32 @@ module _ (film w h : ℕ) (pic : List ℕ) (s : Settings) (m t : List ℕ) {r : 
   held : Held film′ w′ h′ s′ (recordOf film w h s)
   held = subst (Held film′ w′ h′ s′) (sym (prepare-record film w h pic s m t done)) (known .held)
 
+  wide : w′ ≡ w
+  wide = held .wide ∙ record-width film w h s
+
+  high : h′ ≡ h
+  high = held .high ∙ record-height film w h s
+
+  across : s′ .across ≡ s .across
+  across = held .across ∙ ap (λ (z : Settings). z .across) (record-settings film w h s)
+
+  down : s′ .down ≡ s .down
+  down = held .down ∙ ap (λ (z : Settings). z .down) (record-settings film w h s)
+
   bins : binsOf s′ ≡ binsOf s
-  bins = held .bins ∙ bins-kept s
+  bins = held .bins ∙ record-bins film w h s
+
+  least : s′ .min ≡ s .min
+  least = held .least ∙ ap (λ (z : Settings). z .min) (record-settings film w h s)
+
+  most : s′ .max ≡ s .max
+  most = held .most ∙ ap (λ (z : Settings). z .max) (record-settings film w h s)
+
+  clip : sameClip (s′ .clip) (s .clip) ≡ true
+  clip = subst (λ (z : Settings). sameClip (s′ .clip) (z .clip) ≡ true) (record-settings film w h s) (held .clip)
 
   entries : entriesOf s′ ≡ entriesOf s
-  entries = rw (bins, held .across, held .down) refl
+  entries = rw (bins, across, down) refl
 
   -- so it is a window that prepare's record and mappings can be handed on for
   pub accepted-handed : HandedOn w h s (prepareOf film w h pic s m t .map) s m′ win (length out)
@@ -53,8 +74,8 @@ module _ (film w h : ℕ) (pic : List ℕ) (s : Settings) (m t : List ℕ) {r : 
         front = front;
         wide = known .shown .wide;
         high = known .shown .high;
-        across = omega (arith, held .wide, known .shown .across);
-        down = omega (arith, held .high, known .shown .down);
+        across = omega (arith, wide, known .shown .across);
+        down = omega (arith, high, known .shown .down);
         area = known .shown .area;
       }
 
@@ -70,8 +91,8 @@ module _ (film w h : ℕ) (pic : List ℕ) (s : Settings) (m t : List ℕ) {r : 
 
       pixels : cond (clipOne (s′ .clip)) (greysOf pic w′ (rectOf win)) (renderOf w′ h′ s′ m′ win (greysOf pic w′ (rectOf win))) ≡ cond (clipOne (s .clip)) greys (renderOf w h s m′ win greys)
       pixels =
-          rw (held .wide, held .high, same-clip-one (s′ .clip) (s .clip) (known .shown .ready .clip) (prepare-work film w h pic s m t done .ready .clip) (held .clip))
-          (ap (cond (clipOne (s .clip)) greys) (render-fields w h s s′ m′ win greys (held .across) (held .down) bins (held .least) (held .most)))
+          rw (wide, high, same-clip-one (s′ .clip) (s .clip) (known .shown .ready .clip) (prepare-work film w h pic s m t done .ready .clip) clip)
+          (ap (cond (clipOne (s .clip)) greys) (render-fields w h s s′ m′ win greys across down bins least most))
 
   -- demand 2, "through a window from the record and mappings prepared for those pixels and unchanged since": whatever else was handed to draw, each drawn pixel of an accepted
   -- window is the one of the integer rule

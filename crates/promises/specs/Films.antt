@@ -1,5 +1,5 @@
--- What the promises speak of: the grey of a pixel by document 01's rule, clipping that is on, the footer by the clip setting, what holds of each tile
--- of an accepted film with clipping on, its limit, and that its bins are reached.
+-- What the promises speak of: the grey of a pixel by document 01's rule, the one tile that a pixel lies in, clipping that is on, the footer by the clip setting,
+-- what holds of each tile of an accepted film with clipping on, its limit, and that its bins are reached.
 -- w and h are the film's width and height, pic its pixels.
 -- Assumes nothing.
 use Prim.Native.Nat.{ℕ, _+_, _-_, _*_, _/_, _≤_, _<_}
@@ -16,12 +16,14 @@ use Rattle.limit.specs.Limit.{isOne, AboveOne, flooredOf, limitOf, usedOf}
 use Rattle.clip.specs.Clip.{share}
 use Rattle.scan.specs.Scan.{within}
 use Rattle.binning.specs.Binning.{binOf}
+use Rattle.tally.specs.declared.Rect.{Rect}
 use Rattle.tally.specs.Tally.{greysOf}
 use Rattle.tile.specs.Tile.{mappedOf, tileCounts}
 use Rattle.settings.specs.declared.Settings.{Settings}
 use Rattle.settings.specs.declared.Footer.{Footer}
 use Rattle.settings.specs.declared.Window.{Window}
 use Rattle.settings.specs.Settings.{binsOf, entriesOf, keptOf, clipOne}
+use Rattle.blend.specs.declared.Place.{Place}
 use Rattle.blend.specs.Blend.{greyOf}
 use Rattle.render.specs.Render.{columnPlace, rowPlace}
 use Rattle.counting.specs.Counting.{rawCounts}
@@ -33,18 +35,34 @@ use Rattle.tiles.specs.Tiles.{tileOf, pixelsIn, none, one}
 abbrev pub clippedCounts : ℕ → ℕ → List ℕ → Settings → ℕ → List ℕ
 clippedCounts w h pic s k = tileCounts (s .min) (s .max) (binsOf s) (s .clip) (greysOf pic w (tileOf w h s k))
 
--- the mapped value of a grey v by the tile in tile row j and tile column i: of that tile's own clipped counts, at the grey's bin
-unfoldable pub tileValue : ℕ → ℕ → List ℕ → Settings → ℕ → ℕ → ℕ → ℕ
-tileValue w h pic s v j i =
-    mappedOf (s .min) (s .max) (pixelsIn w h s (j * s .across + i)) (clippedCounts w h pic s (j * s .across + i)) (binOf (s .min) (s .max) (binsOf s) v)
+-- the mapped value of a grey v by a tile that is the rectangle r of the film: of that tile's own clipped counts, at the grey's bin
+unfoldable pub tileValue : ℕ → List ℕ → Settings → Rect → ℕ → ℕ
+tileValue w pic s r v =
+    mappedOf (s .min) (s .max) (r .width * r .height) (tileCounts (s .min) (s .max) (binsOf s) (s .clip) (greysOf pic w r)) (binOf (s .min) (s .max) (binsOf s) v)
 
--- the grey of the pixel in column x and row y by "the integer rule of document 01 .. for that film's own pixels and settings"
-unfoldable pub ruleGrey : ℕ → ℕ → List ℕ → Settings → ℕ → ℕ → ℕ
-ruleGrey w h pic s x y =
-    let column = columnPlace w s x in
-    let row = rowPlace h s y in
-    let value = tileValue w h pic s (getD pic (y * w + x) 0) in
+-- the grey of a pixel of grey v from the tiles of its two places, `tile k` being the rectangle of tile k, "tiles row by row"
+unfoldable pub greyFrom : ℕ → List ℕ → Settings → (ℕ → Rect) → Place → Place → ℕ → ℕ
+greyFrom w pic s tile column row v =
+    let value : ℕ → ℕ → ℕ = λ j i. tileValue w pic s (tile (j * s .across + i)) v in
     greyOf column row (value (row .lower) (column .lower)) (value (row .lower) (column .upper)) (value (row .upper) (column .lower)) (value (row .upper) (column .upper))
+
+-- the grey of the pixel in column x and row y by "the integer rule of document 01 .. for that film's own pixels and settings", with the tiles and places of order 6
+unfoldable pub ruleGrey : ℕ → ℕ → List ℕ → Settings → ℕ → ℕ → ℕ
+ruleGrey w h pic s x y = greyFrom w pic s (tileOf w h s) (columnPlace w s x) (rowPlace h s y) (getD pic (y * w + x) 0)
+
+-- the pixel in column x and row y lies in the rectangle r
+pub record LiesIn (x y : ℕ) (r : Rect) : Type 0 where
+  pub left : r .left ≤ x
+  pub right : x < r .left + r .width
+  pub top : r .top ≤ y
+  pub bottom : y < r .top + r .height
+
+-- order 6, tiles without gap or overlap: it lies in one tile of the film and in no other
+pub record InOneTile (w h : ℕ) (s : Settings) (x y : ℕ) : Type 0 where
+  pub tile : ℕ
+  pub below : tile < s .across * s .down
+  pub lies : LiesIn x y (tileOf w h s tile)
+  pub only : (k : ℕ) → k < s .across * s .down → LiesIn x y (tileOf w h s k) → k ≡ tile
 
 -- ---- the clip setting
 
@@ -65,7 +83,7 @@ pub data ClipCase (clip : Clip) : Type 0 where
 abbrev pub footer : ℕ → Float → Float → Footer
 footer l asked used = record { limit = l; asked = asked; used = used }
 
--- what a footer shows of a film with this clip setting, n pixels in its first tile and b bins
+-- what a footer shows of a film with this clip setting, n pixels in its first tile and b bins: order 6, "the footer shows those of tile 0, 0"
 pub record FooterShows (clip : Clip) (n b : ℕ) (foot : Footer) : Type 0 where
   -- "Clip off: L 0, both factors 0.0."
   pub off : clip ≡ Off → foot ≡ footer 0 none none
@@ -117,11 +135,15 @@ pub record TileSound (lo hi n b l : ℕ) (raw clipped : List ℕ) (entry : ℕ �
   -- and from Min to the first bin by at most as much
   pub begins : entry 0 ≤ lo + steepest lo hi n l
 
--- "in every tile of a film": all of that of each tile, with the limit l and the map buffer m that holds the tiles' mappings
-abbrev pub FilmSound : ℕ → ℕ → List ℕ → Settings → ℕ → List ℕ → Type 0
-FilmSound w h pic s l m =
+-- order 6, "N and L are each tile's own": the limit of tile k with the factor f
+abbrev pub limitIn : ℕ → ℕ → Settings → Float → ℕ → ℕ
+limitIn w h s f k = limitOf f (pixelsIn w h s k) (binsOf s)
+
+-- "in every tile of a film", and "Demand 3 reads with each tile's own N and L": all of that of each tile, with the factor f and the map buffer m that holds the tiles' mappings
+abbrev pub FilmSound : ℕ → ℕ → List ℕ → Settings → Float → List ℕ → Type 0
+FilmSound w h pic s f m =
     (k : ℕ) → k < s .across * s .down
-    → TileSound (s .min) (s .max) (pixelsIn w h s k) (binsOf s) l (rawCounts w h pic s k) (clippedCounts w h pic s k) (λ b. getD m (k * binsOf s + b) 0)
+    → TileSound (s .min) (s .max) (pixelsIn w h s k) (binsOf s) (limitIn w h s f k) (rawCounts w h pic s k) (clippedCounts w h pic s k) (λ b. getD m (k * binsOf s + b) 0)
 
 -- order 2: a limit l of a tile of n pixels and b bins, with the factor f
 pub record LimitFits (f : Float) (n b l : ℕ) : Type 0 where

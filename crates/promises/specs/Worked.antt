@@ -1,23 +1,19 @@
--- Document 01, "Numbers to check by hand": the numbers marked (*), as rows of one table. The rules are the definitions that the contracts cite.
+-- Document 01, "Numbers to check by hand": the numbers marked (*), and those of the orders since, as rows of one table. The rules are the definitions that the contracts cite.
 -- Assumes nothing.
 use Prim.Native.Nat.{ℕ, _+_, _*_}
-use mathlib.Core.Bool.{Bool, true, false, _&&_}
+use mathlib.Core.Bool.{Bool, true, _&&_}
 use mathlib.Core.List.{List, [], _∷_}
 use lib.Dec.{eqb}
 use lib.ListN.{getD}
 use lib.Ieee.{ofBits, binary32}
+use Rattle.lists.specs.Lists.{same}
 use Rattle.limit.specs.Limit.{limitOf}
 use Rattle.clip.specs.Clip.{clipped}
 use Rattle.binning.specs.Binning.{binOf}
 use Rattle.tile.specs.Tile.{mappingOf}
+use Rattle.grid.specs.Grid.{edgeOf, centreOf}
+use Rattle.blend.specs.declared.Place.{Place}
 use Rattle.blend.specs.Blend.{placeOf, greyOf}
-
--- two lists of numbers are the same
-unfoldable pub same : List ℕ → List ℕ → Bool
-same [] [] = true
-same [] (y ∷ ys) = false
-same (x ∷ xs) [] = false
-same (x ∷ xs) (y ∷ ys) = eqb x y && same xs ys
 
 -- a worked number: what goes in, and last what the document says comes out
 pub data Worked : Type 0 where
@@ -29,14 +25,24 @@ pub data Worked : Type 0 where
   mapping : ℕ → ℕ → ℕ → List ℕ → List ℕ → Worked
   -- Min, Max, B and a grey: its bin
   bin : ℕ → ℕ → ℕ → ℕ → ℕ → Worked
-  -- a pixel of a film of 2 by 2 tiles, each 2 by 2, whose mapped values are 10, 20, 30, 41: its grey
-  grey : ℕ → ℕ → ℕ → Worked
+  -- a side, a grid and i: edge i
+  edge : ℕ → ℕ → ℕ → ℕ → Worked
+  -- the same: centre i
+  centre : ℕ → ℕ → ℕ → ℕ → Worked
+  -- a side, a grid and a column: its place, which is two tiles, a weight for each, and the span
+  place : ℕ → ℕ → ℕ → List ℕ → Worked
+  -- a side of a square film of 2 by 2 tiles, whose mapped values are 10, 20, 30, 41, and a pixel: its grey
+  grey : ℕ → ℕ → ℕ → ℕ → Worked
+
+-- the numbers of a place
+abbrev pub numbers : Place → List ℕ
+numbers p = p .lower ∷ p .upper ∷ p .lowerweight ∷ p .upperweight ∷ p .span ∷ []
 
 -- the grey of that pixel
-unfoldable pub greyAt : ℕ → ℕ → ℕ
-greyAt x y =
-    let column = placeOf 2 2 x in
-    let row = placeOf 2 2 y in
+unfoldable pub greyAt : ℕ → ℕ → ℕ → ℕ
+greyAt side x y =
+    let column = placeOf side 2 x in
+    let row = placeOf side 2 y in
     let tile : ℕ → ℕ → ℕ = λ j i. getD (10 ∷ 20 ∷ 30 ∷ 41 ∷ []) (j * 2 + i) 0 in
     greyOf column row
     (tile (row .lower) (column .lower)) (tile (row .lower) (column .upper))
@@ -48,7 +54,10 @@ holds (limit f n b l) = eqb (limitOf (ofBits binary32 f) n b) l
 holds (clip l cs ds) = same (clipped l cs) ds
 holds (mapping lo hi n cs vs) = same (mappingOf lo hi n cs) vs
 holds (bin lo hi b v k) = eqb (binOf lo hi b v) k
-holds (grey x y v) = eqb (greyAt x y) v
+holds (edge side grid i e) = eqb (edgeOf side grid i) e
+holds (centre side grid i c) = eqb (centreOf side grid i) c
+holds (place side grid x ns) = same (numbers (placeOf side grid x)) ns
+holds (grey side x y v) = eqb (greyAt side x y) v
 
 -- all of a table hold: "rows of a single table under a single claim"
 unfoldable pub allHold : List Worked → Bool
@@ -78,7 +87,13 @@ worked =
     ∷ bin 0 255 100 255 99
     ∷ bin 0 255 255 255 254
     -- Tiles 2 by 2, grid 2 by 2, mapped values 10, 20, 30, 41: pixel x 2, y 2 gives 25; x 1, y 2 gives 20; x 2, y 0 gives 15.
-    ∷ grey 2 2 25
-    ∷ grey 1 2 20
-    ∷ grey 2 0 15
+    ∷ grey 4 2 2 25
+    ∷ grey 4 1 2 20
+    ∷ grey 4 2 0 15
+    -- Order 6. Side 17, grid 16: edge 16 is 17, centre 15 is 16. Side 5, grid 2: column 2 has tiles 0 and 1, weights 1 and 1, span 2.
+    ∷ edge 17 16 16 17
+    ∷ centre 17 16 15 16
+    ∷ place 5 2 2 (0 ∷ 1 ∷ 1 ∷ 1 ∷ 2 ∷ [])
+    -- A film of 5 by 5, grid 2 by 2, the same mapped values: pixel x 2, y 2 gives 25.
+    ∷ grey 5 2 2 25
     ∷ []

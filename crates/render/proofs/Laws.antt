@@ -1,16 +1,15 @@
 -- Laws of rendering: where a window's pixels lie, a window against the whole film, and what the rendered greys are held to.
 -- Assumes nothing.
-use Prim.Native.Nat.{ℕ, zero, suc, _+_, _-_, _*_, _/_, _%_, _≤_, _<_}
+use Prim.Native.Nat.{ℕ, _+_, _*_, _≤_, _<_}
 use mathlib.Core.Bool.{true}
 use mathlib.Core.List.{List}
 use mathlib.Core.Path.{_≡_, refl, sym, ap, ap₂, _∙_}
 use lib.ListN.{length, getD, take}
-use lib.Seq.{length-take-le}
 use native.Mathlib.Nat.{zero-add}
 use native.Mathlib.Omega.{arith}
-use Rattle.lists.specs.Lists.{all, onto}
+use Rattle.lists.specs.Lists.{all}
 use Rattle.lists.proofs.Tabs.{getD-tab, tab-cong}
-use Rattle.lists.proofs.Fills.{length-joined, joined-cong, take-onto}
+use Rattle.lists.proofs.Fills.{length-joined, joined-cong}
 use Rattle.lists.proofs.Blocks.{getD-joined, block-fits}
 use Rattle.lists.proofs.Alls.{all-at, all-joined, all-tab}
 use Rattle.scan.specs.Scan.{within}
@@ -22,9 +21,9 @@ use Rattle.settings.specs.declared.Settings.{Settings}
 use Rattle.settings.specs.declared.Window.{Window}
 use Rattle.settings.specs.Settings.{binsOf, entriesOf, keptOf, Ready}
 use Rattle.settings.proofs.Like.{bins-kept}
-use Rattle.settings.proofs.Ready.{tiles-exact, tile-some, tile-most}
+use Rattle.settings.proofs.Records.{tiled-columns, tiled-rows}
 use Rattle.weigh.proofs.Pixels.{corners-by}
-use Rattle.render.specs.Render.{pixelOf, columnPlace, rowPlace, renderedOf, renderOf, whole, rectOf, Fits, Mapped, Shown, PixelAsks}
+use Rattle.render.specs.Render.{pixelOf, columnPlace, rowPlace, renderedOf, renderOf, whole, rectOf, Mapped, Shown, PixelAsks}
 use Rattle.render.proofs.Pixels.{pixel-corners, pixel-fields, pixel-bin, pixel-within, pixel-front}
 use Rattle.render.proofs.Rows.{pixel-asks}
 use Rattle.render.proofs.Strips.{strip, length-strip, render-strips}
@@ -52,7 +51,7 @@ unfolding renderOf renderedOf
 render-fields w h s s′ m win vs across down bins min max =
     joined-cong (win .height)
     (λ j l. tab-cong (win .width) (λ i k. pixel-fields s s′ m _ _ _ across bins min max
-    ∙ ap₂ (λ a d. pixelOf s m (placeOf (w / a) a (win .left + i)) (placeOf (h / d) d (win .top + j)) (getD vs (j * win .width + i) 0)) across down))
+    ∙ ap₂ (λ a d. pixelOf s m (placeOf w a (win .left + i)) (placeOf h d (win .top + j)) (getD vs (j * win .width + i) 0)) across down))
 
 -- and bins 0 are 128: with the settings as they are kept the pixels come out the same
 pub render-kept : (w h : ℕ) (s : Settings) (m : List ℕ) (win : Window) (vs : List ℕ) → renderOf w h (keptOf s) m win vs ≡ renderOf w h s m win vs
@@ -110,11 +109,6 @@ render-front {w} {h} {s} {m} {win} {vs} mapped shown m′ e =
 
 -- ---- what a call knows once no refusal applies
 
--- a side of 1 to 4096 pixels, in 2 to 16 parts with nothing left over
-part-fits : (n k : ℕ) → k ≤ 16 → 0 < n → n ≤ 4096 → 2 ≤ k → n % k ≡ 0 → Fits n k
-part-fits n k few some most two none =
-    record { few = few; some = tile-some n k some none; most = tile-most n k most two; whole = tiles-exact n k none }
-
 -- settings that are not refused, and mappings from Min to Max in a buffer that is long enough: pixels can be rendered
 pub ready-mapped : {w h size : ℕ} {s : Settings} {room : ℕ} {m : List ℕ} → Ready w h size s room → length m ≡ room → all (within (s .min) (s .max)) (take (entriesOf s) m) ≡ true
     → Mapped w h s m
@@ -128,8 +122,8 @@ ready-mapped {w} {h} {size} {s} {room} {m} ready e g =
             room = rw e (ready .fitting);
             greys = g;
           };
-      columns = part-fits w (s .across) (ready .tiled .acrossmost) (ready .tiled .wide) (ready .tiled .widest) (ready .tiled .across) (ready .tiled .columns);
-      rows = part-fits h (s .down) (ready .tiled .downmost) (ready .tiled .high) (ready .tiled .highest) (ready .tiled .down) (ready .tiled .rows);
+      columns = tiled-columns (ready .tiled);
+      rows = tiled-rows (ready .tiled);
     }
 
 -- the rendered grey by the mapped values of the four tiles, where `value j i` is that of the pixel's bin in tile row j and tile column i

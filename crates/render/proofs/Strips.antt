@@ -12,10 +12,11 @@ use Rattle.lists.proofs.Tabs.{length-tab, tab-cong}
 use Rattle.lists.proofs.Blocks.{length-blocks, drop-blocks, blocks-step, blocks-end, block-fits}
 use Rattle.lists.proofs.Windows.{blocks-whole, block, getD-block, length-block}
 use Rattle.lists.proofs.Alls.{all-drop, all-take}
+use Rattle.grid.specs.Grid.{Fits}
+use Rattle.blend.proofs.Places.{place-sound}
 use Rattle.settings.specs.declared.Settings.{Settings}
 use Rattle.settings.specs.declared.Window.{Window}
-use Rattle.render.specs.Render.{renderedOf, rowPlace, rowOf, renderOf, Fits, Mapped, Shown, RowAsks}
-use Rattle.render.proofs.Sections.{place-among}
+use Rattle.render.specs.Render.{renderedOf, rowPlace, rowOf, renderOf, Mapped, Shown, RowAsks}
 
 -- row j of the window, rendered
 abbrev pub strip : ℕ → ℕ → Settings → List ℕ → Window → List ℕ → ℕ → List ℕ
@@ -51,7 +52,7 @@ module _ {w h : ℕ} {s : Settings} {m : List ℕ} {win : Window} {vs : List ℕ
           maps = asks .0 .maps;
           columns = asks .0 .columns;
           across = omega (arith, length-block vs j (win .width) (strip-room l), asks .1 .across);
-          row = place-among (asks .0 .rows) below;
+          row = place-sound (asks .0 .rows) below;
           greys = all-take _ (j * win .width + win .width - j * win .width) (drop (j * win .width) vs) (all-drop _ (j * win .width) vs (asks .1 .greys));
         },
       )

@@ -11,6 +11,7 @@ use Rattle.lists.proofs.Tabs.{tab-cong}
 use Rattle.lists.proofs.Fills.{filled-end}
 use Rattle.lists.proofs.Windows.{getD-part, filled-whole}
 use Rattle.blend.specs.declared.Place.{Place}
+use Rattle.blend.proofs.Places.{place-sound}
 use Rattle.settings.specs.declared.Settings.{Settings}
 use Rattle.settings.specs.Settings.{binsOf}
 use Rattle.weigh.specs.Weigh.{cornersOf}
@@ -20,7 +21,7 @@ use Rattle.pairs.proofs.Strands.{run-is, woven-alone, pairs-ready, woven-corner
 use Rattle.render.specs.declared.Section.{Section}
 use Rattle.render.specs.Render.{columnPlace, pixelOf, rowOf, wovenRow, RowAsks, Sectioned, WeaveRowAsks}
 use Rattle.render.proofs.Pixels.{pixel-corners}
-use Rattle.render.proofs.Sections.{place-among, placed, ahead-is, ahead-length, section-next}
+use Rattle.render.proofs.Sections.{placed, ahead-is, ahead-length, section-next}
 
 -- ---- a row from bins and pairs
 
@@ -50,7 +51,7 @@ module _ {w : ℕ} {s : Settings} {ps : List ℕ} {left : ℕ} {row : Place} {ks
   strand-asks =
       record {
         pairs = asks .pairs;
-        column = rw (cut .column) (place-among (asks .columns) (omega (arith, cut .start, cut .end, asks .across)));
+        column = rw (cut .column) (place-sound (asks .columns) (omega (arith, cut .start, cut .end, asks .across)));
         room = omega (arith, strand-length, cut .run .most);
         bins = λ j l. strand-bin l;
       }
@@ -72,7 +73,7 @@ module _ {w : ℕ} {s : Settings} {m : List ℕ} {left : ℕ} {row : Place} {vs 
   -- a pixel by its pairs is the pixel
   pixel-woven : {i : ℕ} → i < length vs → wovenAt s ps (columnPlace w s (left + i)) row (getD ks i 0) ≡ pixelOf s m (columnPlace w s (left + i)) row (getD vs i 0)
   pixel-woven {i} l =
-      woven-corners s m row d hp (place-among (asks .columns) (omega (arith, asks .across))) (held-in s vs hk l (asks .maps .scale) (asks .greys))
+      woven-corners s m row d hp (place-sound (asks .columns) (omega (arith, asks .across))) (held-in s vs hk l (asks .maps .scale) (asks .greys))
       ∙ ap (cornersOf s m (columnPlace w s (left + i)) row) (held-is s vs hk l)
       ∙ sym (pixel-corners s m (columnPlace w s (left + i)) row (getD vs i 0))
 

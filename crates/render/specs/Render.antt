@@ -1,7 +1,7 @@
 -- Document 01, "From mappings to grey": pixels of the rendered film, from mappings that lie tile by tile in a map buffer.
 -- w and h are the film's width and height, m the map buffer.
 -- Assumes nothing.
-use Prim.Native.Nat.{ℕ, _+_, _-_, _*_, _/_, _≤_, _<_}
+use Prim.Native.Nat.{ℕ, _+_, _-_, _*_, _≤_, _<_}
 use mathlib.Core.Bool.{true}
 use mathlib.Core.List.{List}
 use mathlib.Core.Path.{_≡_}
@@ -10,6 +10,7 @@ use Rattle.lists.specs.Lists.{tab, joined, all}
 use Rattle.scan.specs.Scan.{within}
 use Rattle.binning.specs.Binning.{binOf}
 use Rattle.tally.specs.declared.Rect.{Rect}
+use Rattle.grid.specs.Grid.{Fits}
 use Rattle.blend.specs.declared.Place.{Place}
 use Rattle.blend.specs.Blend.{placeOf, greyOf, Sound, moved, Run}
 use Rattle.settings.specs.declared.Settings.{Settings}
@@ -31,11 +32,11 @@ pixelOf s m column row v =
 
 -- the place of column x among the tiles across
 abbrev pub columnPlace : ℕ → Settings → ℕ → Place
-columnPlace w s x = placeOf (w / s .across) (s .across) x
+columnPlace w s x = placeOf w (s .across) x
 
 -- and of row y among the tiles down
 abbrev pub rowPlace : ℕ → Settings → ℕ → Place
-rowPlace h s y = placeOf (h / s .down) (s .down) y
+rowPlace h s y = placeOf h (s .down) y
 
 -- the rendered grey of the pixel in column x and row y, whose grey is v
 unfoldable pub renderedOf : ℕ → ℕ → Settings → List ℕ → ℕ → ℕ → ℕ → ℕ
@@ -71,13 +72,6 @@ abbrev pub rectOf : Window → Rect
 rectOf win = record { left = win .left; top = win .top; width = win .width; height = win .height }
 
 -- ---- what the functions ask
-
--- a side of whole tiles: 16 at most, each of 1 to 2048 pixels
-pub record Fits (side grid : ℕ) : Type 0 where
-  pub few : grid ≤ 16
-  pub some : 0 < side / grid
-  pub most : side / grid ≤ 2048
-  pub whole : side ≡ side / grid * grid
 
 -- settings and mappings from which a film's pixels can be rendered
 pub record Mapped (w h : ℕ) (s : Settings) (m : List ℕ) : Type 0 where
@@ -117,10 +111,10 @@ pub record RowAsks (w : ℕ) (s : Settings) (m : List ℕ) (left : ℕ) (atrow :
 
 -- pixels from `at` on, of n: the first one's place, and where those between the same tiles end
 pub record Sectioned (w grid left at n : ℕ) (r : Section) : Type 0 where
-  pub column : r .column ≡ placeOf (w / grid) grid (left + at)
+  pub column : r .column ≡ placeOf w grid (left + at)
   pub start : at < r .end
   pub end : r .end ≤ n
-  pub run : Run (w / grid) grid (left + at) (r .column) (r .end - at)
+  pub run : Run w grid (left + at) (r .column) (r .end - at)
 
 -- what `weave_row` asks: pixels inside the film from column `left` on, and bins
 pub record WeaveRowAsks (w : ℕ) (s : Settings) (ps : List ℕ) (left : ℕ) (atrow : Place) (ks : List ℕ) : Type 0 where

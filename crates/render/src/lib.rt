@@ -4,9 +4,10 @@ ghost use mathlib.Core.Path.{_≡_};
 ghost use Prim.Native.Nat.{_+_, _≤_, _<_};
 ghost use lib.ListN.{length};
 ghost use Rattle.binning.specs.Binning.{factorOf};
+ghost use Rattle.grid.specs.Grid.{Fits};
 ghost use Rattle.settings.specs.Settings.{binsOf};
 ghost use Rattle.pairs.specs.Pairs.{rowEntries};
-ghost use Rattle.render.specs.Render.{rowPlace, rowOf, runOf, wovenRow, renderOf, Fits, Mapped, Shown, RunAsks, RowAsks, Sectioned, WeaveRowAsks};
+ghost use Rattle.render.specs.Render.{rowPlace, rowOf, runOf, wovenRow, renderOf, Mapped, Shown, RunAsks, RowAsks, Sectioned, WeaveRowAsks};
 use blend::Place;
 use settings::Settings;
 use settings::Window;
@@ -41,10 +42,9 @@ fn section_from(width: u32, across: u32, left: u32, at: usize, len: usize) -> Se
     requires { ⌜ Fits width across × (left + len ≤ width) × (at < len) ⌝ }
     ensures { λ r. ⌜ Sectioned width across left at len r ⌝ }
 {
-    let side = width / across;
     let x = left + (at as u32);
-    let column = blend::locate(side, across, x);
-    let run = blend::run(column, side, across, x) as usize;
+    let column = blend::locate(width, across, x);
+    let run = blend::run(column, width, across, x) as usize;
     let end = at + lesser(run, len - at);
     Section { column, end }
 }
@@ -124,7 +124,7 @@ pub fn render_row(
     requires { ⌜ Fits height (s .down) × (y < height) × RowAsks width s (now map) left (rowPlace height s y) (now pixels) ⌝ }
     ensures { λ _. ⌜ (now (pixels .exit) ≡ rowOf width s (now (map .entry)) left (rowPlace height s y) (now (pixels .entry))) × (length (now (pairs .exit)) ≡ length (now (pairs .entry))) ⌝ }
 {
-    let row = blend::locate(height / s.down, s.down, y);
+    let row = blend::locate(height, s.down, y);
     if pairs_pay(s, pixels.len(), pairs.len()) {
         paired_row(pixels, left, width, s, map, row, pairs);
         return;

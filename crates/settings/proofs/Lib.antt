@@ -3,3 +3,4 @@ pub mod Like
 pub mod Ready
 pub mod Reach
 pub mod Parts
+pub mod Records

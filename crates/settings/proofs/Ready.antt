@@ -1,12 +1,12 @@
 -- The rows 1 to 9, 31, 10 and 11: their numbers, and what they tell where none of them applies.
 -- Assumes nothing.
-use Prim.Native.Nat.{ℕ, zero, suc, _+_, _*_, _/_, _%_, _≤_, _<_}
+use Prim.Native.Nat.{ℕ, _*_, _≤_, _<_}
 use mathlib.Core.Bool.{Bool, true, false, cond}
 use mathlib.Core.List.{[], _∷_, _++_}
-use mathlib.Core.Path.{_≡_, refl, sym, _∙_}
+use mathlib.Core.Path.{_≡_, refl, sym}
 use native.Mathlib.Omega.{arith}
-use native.Mathlib.Nat.{div-add-mod', mul-le-mul, mul-le-mul-right, zero-mul, le-trans, div-le-of-le-mul}
-use lib.Dec.{eqb, ltb, lit≤}
+use native.Mathlib.Nat.{mul-le-mul}
+use lib.Dec.{eqb, ltb}
 use borrow.Author.Tests.{le-ltb, ltb-false, leb-false, eqb-false, eqb-true, not-false}
 use Rattle.lists.specs.Lists.{all}
 use Rattle.lists.proofs.Orders.{pos}
@@ -110,8 +110,8 @@ tiled w h s sides grid range =
       acrossmost = ltb-false _ _ (g .1 .0);
       down = ltb-false _ _ (g .1 .1 .0);
       downmost = ltb-false _ _ (g .1 .1 .1 .0);
-      columns = eqb-true _ _ (not-false _ (g .1 .1 .1 .1 .0));
-      rows = eqb-true _ _ (not-false _ (g .1 .1 .1 .1 .1 .0));
+      columns = ltb-false _ _ (g .1 .1 .1 .1 .0);
+      rows = ltb-false _ _ (g .1 .1 .1 .1 .1 .0);
       max = ltb-false _ _ (v .0);
       min = leb-false _ _ (v .1 .0);
       bins = bins-low (s .bins) (v .1 .1 .0);
@@ -180,22 +180,3 @@ shared-room-alike w h size s room room′ e = rw e refl
 -- a product of a grid and its bins is small
 pub entries-small : (a d b : ℕ) → a ≤ 16 → d ≤ 16 → b ≤ 4096 → a * d * b ≤ 1048576
 entries-small a d b p q r = mul-le-mul (mul-le-mul p q) r
-
--- ---- tiles of a side that is a multiple of the grid
-
--- the tiles make up the side
-pub tiles-exact : (side grid : ℕ) → side % grid ≡ 0 → side ≡ side / grid * grid
-tiles-exact side grid e = sym (omega (arith, div-add-mod' side grid))
-
--- a tile has a pixel at least
-pub tile-some : (side grid : ℕ) → 0 < side → side % grid ≡ 0 → 0 < side / grid
-tile-some side grid h e = go (side / grid) (tiles-exact side grid e)
-  where
-    go : (t : ℕ) → side ≡ t * grid → 0 < t
-    go zero q = let z : side ≡ 0 = q ∙ zero-mul grid in absurd (omega arith)
-    go (suc t) q = omega arith
-
--- and 2048 at most
-pub tile-most : (side grid : ℕ) → side ≤ 4096 → 2 ≤ grid → side / grid ≤ 2048
-tile-most side grid h g =
-    div-le-of-le-mul grid (le-trans h (le-trans (lit≤ tt) (mul-le-mul-right 2048 g)))

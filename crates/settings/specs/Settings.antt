@@ -1,6 +1,6 @@
 -- Document 01, "Settings and sizes", and the rows of the refusal table that prepare, enhance and draw share.
 -- Assumes nothing.
-use Prim.Native.Nat.{ℕ, _+_, _-_, _*_, _%_, _≤_, _<_}
+use Prim.Native.Nat.{ℕ, _+_, _-_, _*_, _≤_, _<_}
 use mathlib.Core.Bool.{Bool, true, false, not, cond}
 use mathlib.Core.List.{List, [], _∷_, _++_}
 use mathlib.Core.Path.{_≡_}
@@ -9,6 +9,7 @@ use lib.Ieee.{eq}
 use Rattle.limit.specs.declared.Clip.{Clip}
 use Rattle.limit.specs.declared.Clip.the-variants.{Off, Factor}
 use Rattle.limit.specs.Limit.{allowed, isOne}
+use Rattle.grid.specs.Grid.{axisOf, noAxis}
 use Rattle.refuse.specs.Refuse.{Row, row}
 use Rattle.settings.specs.declared.Settings.{Settings}
 use Rattle.settings.specs.declared.MapRecord.{MapRecord}
@@ -21,9 +22,23 @@ binsOf s = cond (eqb (s .bins) 0) 128 (s .bins)
 abbrev pub keptOf : Settings → Settings
 keptOf s = record { across = s .across; down = s .down; bins = binsOf s; min = s .min; max = s .max; clip = s .clip }
 
--- "A map record holds the film's number .., sizes and settings, with bins 0 kept as 128."
-abbrev pub recordOf : ℕ → ℕ → ℕ → Settings → MapRecord
-recordOf film w h s = record { film = film; width = w; height = h; settings = keptOf s }
+-- "A map record holds the film's number .., sizes and settings, with bins 0 kept as 128."; order 6: "The map record keeps the edges and centres"
+unfoldable pub recordOf : ℕ → ℕ → ℕ → Settings → MapRecord
+recordOf film w h s =
+    record { film = film; width = w; height = h; settings = keptOf s; columns = axisOf w (s .across); rows = axisOf h (s .down) }
+
+-- a record as draw reads it, "bins 0 read as 128 on both sides": all else as it is
+abbrev pub keptRecord : MapRecord → MapRecord
+keptRecord r =
+    record { film = r .film; width = r .width; height = r .height; settings = keptOf (r .settings); columns = r .columns; rows = r .rows }
+
+-- "A refusal returns its number alone": no settings stand beside it
+unfoldable pub noSettings : Settings
+noSettings = record { across = 0; down = 0; bins = 0; min = 0; max = 0; clip = Off }
+
+-- nor any record
+unfoldable pub noRecord : MapRecord
+noRecord = record { film = 0; width = 0; height = 0; settings = noSettings; columns = noAxis; rows = noAxis }
 
 -- "(grid across) x (grid down) x B"
 abbrev pub entriesOf : Settings → ℕ
@@ -58,15 +73,15 @@ lengthRows w h size = row 2 (not (eqb size (w * h))) ∷ []
 unfoldable pub sizeRows : ℕ → ℕ → ℕ → List Row
 sizeRows w h size = sideRows w h ++ lengthRows w h size
 
--- 3 to 6: "grid across / down is not 2 to 16", "width / height is no multiple of the grid"
+-- 3 and 4: "grid across / down is not 2 to 16"; order 6: "5 and 6 now mean a side shorter than the grid"
 unfoldable pub gridRows : ℕ → ℕ → Settings → List Row
 gridRows w h s =
     row 3 (ltb (s .across) 2)
     ∷ row 3 (ltb 16 (s .across))
     ∷ row 4 (ltb (s .down) 2)
     ∷ row 4 (ltb 16 (s .down))
-    ∷ row 5 (not (eqb (w % s .across) 0))
-    ∷ row 6 (not (eqb (h % s .down) 0))
+    ∷ row 5 (ltb w (s .across))
+    ∷ row 6 (ltb h (s .down))
     ∷ []
 
 -- 7 to 9: "Max above 4095 / Min not below Max", "bins 1 or above 4096"; 31: "bins (after 0 is read as 128) above R + 1, after 9", with R = Max - Min
@@ -109,8 +124,8 @@ pub record Tiled (w h : ℕ) (s : Settings) : Type 0 where
   pub acrossmost : s .across ≤ 16
   pub down : 2 ≤ s .down
   pub downmost : s .down ≤ 16
-  pub columns : w % s .across ≡ 0
-  pub rows : h % s .down ≡ 0
+  pub columns : s .across ≤ w
+  pub rows : s .down ≤ h
   pub max : s .max ≤ 4095
   pub min : s .min < s .max
   pub bins : 2 ≤ binsOf s

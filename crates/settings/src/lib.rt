@@ -2,7 +2,8 @@
 ghost use mathlib.Core.Path.{_≡_};
 ghost use Prim.Native.Nat.{_≤_};
 ghost use Rattle.refuse.specs.Refuse.{first};
-ghost use Rattle.settings.specs.Settings.{binsOf, keptOf, clipBad, clipOne, sameClip, sideRows, lengthRows, sizeRows, gridRows, rangeRows, clipRows, greyRows, roomRows, settingRows, sharedRows};
+ghost use Rattle.settings.specs.Settings.{binsOf, keptOf, recordOf, noRecord, Tiled, clipBad, clipOne, sameClip, sideRows, lengthRows, sizeRows, gridRows, rangeRows, clipRows, greyRows, roomRows, settingRows, sharedRows};
+use grid::Axis;
 use limit::Clip;
 use limit::Judged;
 
@@ -16,12 +17,14 @@ pub struct Settings {
     pub clip: Clip,
 }
 
-// What a film's mappings were made for: its number, sizes and settings, with bins 0 kept as 128.
+// What a film's mappings were made for: its number, sizes and settings, with bins 0 kept as 128, and its tiles' edges and centres.
 pub struct MapRecord {
     pub film: u32,
     pub width: u32,
     pub height: u32,
     pub settings: Settings,
+    pub columns: Axis,
+    pub rows: Axis,
 }
 
 // The limit, the factor asked for and the factor that the limit really stands for.
@@ -61,6 +64,47 @@ pub fn kept(s: Settings) -> Settings
         min: s.min,
         max: s.max,
         clip,
+    }
+}
+
+// The record of a film that is not refused.
+pub fn made_for(film: u32, width: u32, height: u32, s: Settings) -> MapRecord
+    requires { ⌜ Tiled width height s ⌝ }
+    ensures { λ r. ⌜ r ≡ recordOf film width height s ⌝ }
+{
+    let settings = kept(s);
+    let columns = grid::axis_for(width, s.across);
+    let rows = grid::axis_for(height, s.down);
+    MapRecord {
+        film,
+        width,
+        height,
+        settings,
+        columns,
+        rows,
+    }
+}
+
+// What stands beside a refusal's number in the place of a record.
+pub fn no_record() -> MapRecord
+    ensures { λ r. ⌜ r ≡ noRecord ⌝ }
+{
+    let settings = Settings {
+        across: 0,
+        down: 0,
+        bins: 0,
+        min: 0,
+        max: 0,
+        clip: Clip::Off,
+    };
+    let axis = grid::no_axis();
+    MapRecord {
+        film: 0,
+        width: 0,
+        height: 0,
+        settings,
+        columns: axis,
+        rows: axis,
     }
 }
 
@@ -163,10 +207,10 @@ pub fn grid_refusal(width: u32, height: u32, s: Settings) -> u32
     if 16 < s.down {
         return 4;
     }
-    if width % s.across != 0 {
+    if width < s.across {
         return 5;
     }
-    if height % s.down != 0 {
+    if height < s.down {
         return 6;
     }
     0

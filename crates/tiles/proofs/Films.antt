@@ -71,6 +71,12 @@ mappings-from w h pic s =
     tile-mapping-from (s .min) (s .max) (binsOf s) (s .clip) (greysOf pic w (tileOf w h s k))
     ∙ ap (λ n. countsMapping (s .min) (s .max) (s .clip) n (countsOf (s .min) (s .max) (binsOf s) (greysOf pic w (tileOf w h s k)))) (length-tile-greys w h pic s k))
 
+-- and go by where the tiles lie
+pub mappings-by : (w h : ℕ) (pic : List ℕ) (s : Settings) {rect : ℕ → Rect} → ((k : ℕ) → tileOf w h s k ≡ rect k)
+    → mappings w h pic s ≡ joined (s .across * s .down) (λ k. tileMapping (s .min) (s .max) (binsOf s) (s .clip) (greysOf pic w (rect k)))
+unfolding mappings tileMap
+mappings-by w h pic s same = joined-cong (s .across * s .down) (λ k l. ap (λ r. tileMapping (s .min) (s .max) (binsOf s) (s .clip) (greysOf pic w r)) (same k))
+
 -- "(grid across) x (grid down) x B entries"
 pub length-mappings : (w h : ℕ) (pic : List ℕ) (s : Settings) → length (mappings w h pic s) ≡ entriesOf s
 unfolding mappings

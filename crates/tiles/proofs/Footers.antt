@@ -1,6 +1,6 @@
 -- The footer, by the clip setting.
 -- Assumes nothing.
-use Prim.Native.Nat.{ℕ, _*_}
+use Prim.Native.Nat.{ℕ, _*_, _<_}
 use mathlib.Core.Bool.{true, false}
 use mathlib.Core.Path.{_≡_, refl, sym, ap, _∙_, subst}
 use native.Mathlib.Omega.{arith}
@@ -14,7 +14,7 @@ use Rattle.settings.specs.declared.Settings.{Settings}
 use Rattle.settings.specs.Settings.{binsOf, clipBad, clipOne, Ready}
 use Rattle.settings.specs.declared.Footer.{Footer}
 use Rattle.tiles.specs.Tiles.{pixelsIn, footerOf, footOf, FilmAsks, FooterAsks}
-use Rattle.tiles.proofs.Tiles.{tiles-some, tile-pixels-most}
+use Rattle.tiles.proofs.Tiles.{tiles-least, tile-pixels-most}
 
 module _ (clip : Clip) (n b : ℕ) (asks : FooterAsks clip n b) where
   -- clip off
@@ -55,15 +55,19 @@ pub foot-is : (w h : ℕ) (s : Settings) → footerOf (s .clip) (pixelsIn w h s 
 unfolding footOf
 foot-is w h s = refl
 
--- a film of which no setting is refused has a footer
-pub footer-asks : {w h : ℕ} {s : Settings} {b : ℕ} → FilmAsks w h s → b ≡ binsOf s → FooterAsks (s .clip) (pixelsIn w h s 0) b
-footer-asks asks e =
+-- what the footer of a tile asks, in a film of which no setting is refused
+pub tile-footer-asks : {w h : ℕ} {s : Settings} {k b : ℕ} → FilmAsks w h s → k < s .across * s .down → b ≡ binsOf s → FooterAsks (s .clip) (pixelsIn w h s k) b
+tile-footer-asks asks l e =
     record {
       good = asks .fair;
-      pixels = tile-pixels-most (asks .tiled) (tiles-some (asks .tiled));
+      pixels = tile-pixels-most (asks .tiled) l;
       least = omega (arith, asks .tiled .bins);
       most = omega (arith, asks .tiled .binsmost);
     }
+
+-- and of the first
+pub footer-asks : {w h : ℕ} {s : Settings} {b : ℕ} → FilmAsks w h s → b ≡ binsOf s → FooterAsks (s .clip) (pixelsIn w h s 0) b
+footer-asks asks e = tile-footer-asks asks (omega (arith, tiles-least (asks .tiled))) e
 
 -- where none of the rows 1 to 11 and 31 applies, no setting is refused
 pub film-asks : {w h size : ℕ} {s : Settings} {room : ℕ} → Ready w h size s room → FilmAsks w h s

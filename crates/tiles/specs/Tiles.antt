@@ -12,6 +12,7 @@ use Rattle.lists.specs.Lists.{joined, onto, over, filled, all}
 use Rattle.limit.specs.declared.Clip.{Clip}
 use Rattle.limit.specs.declared.Clip.the-variants.{Off, Factor}
 use Rattle.limit.specs.Limit.{isOne, limitOf, usedOf}
+use Rattle.grid.specs.Grid.{edgeOf, sizeOf, Fits}
 use Rattle.tally.specs.declared.Rect.{Rect}
 use Rattle.scan.specs.Scan.{within}
 use Rattle.tally.specs.Tally.{greysOf}
@@ -20,12 +21,17 @@ use Rattle.settings.specs.declared.Settings.{Settings}
 use Rattle.settings.specs.declared.Footer.{Footer}
 use Rattle.settings.specs.Settings.{binsOf, clipBad, clipOne, Tiled, Ready}
 
--- tile k of a film, "tiles row by row": "tw and th are tile width and height"
+-- tile k of a film, "tiles row by row": "Tile column i shall run from floor(i x width / grid) up to floor((i + 1) x width / grid), rows likewise"
 unfoldable pub tileRect : ℕ → ℕ → ℕ → ℕ → ℕ → Rect
 tileRect w h across down k =
-    record { left = k % across * (w / across); top = k / across * (h / down); width = w / across; height = h / down }
+    record {
+      left = edgeOf w across (k % across);
+      top = edgeOf h down (k / across);
+      width = sizeOf w across (k % across);
+      height = sizeOf h down (k / across);
+    }
 
--- its pixels, "N = tw x th"
+-- its pixels: "N and L are each tile's own"
 unfoldable pub tilePixels : ℕ → ℕ → ℕ → ℕ → ℕ → ℕ
 tilePixels w h across down k = tileRect w h across down k .width * tileRect w h across down k .height
 
@@ -62,17 +68,17 @@ footerOf (Factor f) n b =
     cond (isOne f) (record { limit = 0; asked = one; used = one })
     (record { limit = limitOf f n b; asked = f; used = usedOf (limitOf f n b) b n })
 
--- the footer of a film: its tiles have the pixels of the first
+-- "the footer shows those of tile 0, 0"
 unfoldable pub footOf : ℕ → ℕ → Settings → Footer
 footOf w h s = footerOf (s .clip) (pixelsIn w h s 0) (binsOf s)
 
 -- ---- what the functions below ask
 
--- what a tile's rectangle asks: a grid of which tile k is one
-pub record RectAsks (across down k : ℕ) : Type 0 where
-  pub columns : 0 < across
-  pub rows : 0 < down
-  pub tile : k < 256
+-- what a tile's rectangle asks: sides that are not shorter than their grids, of which tile k is one
+pub record RectAsks (w h across down k : ℕ) : Type 0 where
+  pub columns : Fits w across
+  pub rows : Fits h down
+  pub tile : k < across * down
 
 -- what the footer of a film asks: settings of which none is refused
 pub record FilmAsks (w h : ℕ) (s : Settings) : Type 0 where

@@ -9,7 +9,7 @@ use settings::Footer;
 use settings::Settings;
 use tally::Rect;
 
-// The footer of a film whose tiles have `pixels` pixels.
+// The footer of a film whose first tile has `pixels` pixels.
 pub fn footer(clip: Clip, pixels: u32, bins: u32) -> Footer
     requires { ⌜ FooterAsks clip pixels bins ⌝ }
     ensures { λ r. ⌜ r ≡ footerOf clip pixels bins ⌝ }
@@ -41,17 +41,21 @@ pub fn footer(clip: Clip, pixels: u32, bins: u32) -> Footer
 
 // The rectangle of tile k.
 pub fn tile_rect(width: u32, height: u32, across: u32, down: u32, k: usize) -> Rect
-    requires { ⌜ RectAsks across down k ⌝ }
+    requires { ⌜ RectAsks width height across down k ⌝ }
     ensures { λ r. ⌜ r ≡ tileRect width height across down k ⌝ }
 {
     let columns = across as usize;
-    let w = (width / across) as usize;
-    let h = (height / down) as usize;
+    let i = (k % columns) as u32;
+    let j = (k / columns) as u32;
+    let left = grid::edge(width, across, i) as usize;
+    let top = grid::edge(height, down, j) as usize;
+    let wide = grid::size(width, across, i) as usize;
+    let high = grid::size(height, down, j) as usize;
     Rect {
-        left: k % columns * w,
-        top: k / columns * h,
-        width: w,
-        height: h,
+        left,
+        top,
+        width: wide,
+        height: high,
     }
 }
 
@@ -64,7 +68,7 @@ pub fn tile_pixels(width: u32, height: u32, s: Settings, k: usize) -> u32
     (tile.width * tile.height) as u32
 }
 
-// The footer of a film.
+// The footer of a film: that of its first tile.
 pub fn foot(width: u32, height: u32, s: Settings) -> Footer
     requires { ⌜ FilmAsks width height s ⌝ }
     ensures { λ r. ⌜ r ≡ footOf width height s ⌝ }

@@ -1,7 +1,9 @@
 -- `byte_draw::refusal` gives the byte draw's first row that applies: 1 to 9, 31, 10, 30, 11, 15, 16 and 17; 13 and 18 never apply to bytes.
 -- Assumes nothing.
+use mathlib.Core.Path.{sym, _∙_}
 use native.Mathlib.Omega.{arith}
 use borrow.Author.Needs.{needs}
+use Rattle.profile.proofs.Profile.{byte-ready}
 use Rattle.byte_draw.proofs.Tables.{rows-shared, rows-record, rows-window}
 use Rattle.byte_draw.proofs.refusal.Statement.{statement}
 use Rattle.byte_draw.proofs.refusal.Tie as tie
@@ -13,7 +15,7 @@ returns : tie.Need-returns
 returns c = rows-shared _ _ _ _ _ _ _ _ _ (c .before .shared .ensures) (c .if1 .taken)
 
 record-refusal-requires : tie.Need-record-refusal-requires
-record-refusal-requires c κs = search needs
+record-refusal-requires c κs = byte-ready _ _ _ _ _ (sym (c .before .shared .ensures) ∙ c .if1 .left) .ready .tiled
 
 returns-2 : tie.Need-returns-2
 returns-2 c = rows-record _ _ _ _ _ _ _ _ _ (c .before .before .before .shared .ensures) (c .before .before .if1 .left) (c .before .record-refusal .ensures) (c .if2 .taken)

@@ -2,29 +2,33 @@
 -- Assumes nothing.
 use borrow.Author.Needs.{needs}
 use Rattle.prepare.proofs.Endings.{ends-one, ends-well}
-use Rattle.byte_film.proofs.Tables.{bytes-foot, bytes-tiles}
-use Rattle.byte_film.proofs.Endings.{bytes-refused, bytes-well}
+use Rattle.byte_film.proofs.Tables.{bytes-record, bytes-foot, bytes-tiles}
+use Rattle.byte_film.proofs.Endings.{bytes-not, bytes-well}
 use Rattle.byte_film.proofs.prepare_bytes.Statement.{statement}
 use Rattle.byte_film.proofs.prepare_bytes.Tie as tie
 use Rattle.byte_film.proofs.prepare_bytes.Reads as reads
 use Rattle.byte_film.proofs.prepare_bytes.Lts as lts
 use Rattle.byte_film.proofs.map_tiles.Reads as map-tiles-reads
 use Rattle.byte_film.proofs.refusal.Reads as refusal-reads
+use Rattle.prepare.proofs.not_prepared.Reads as not-prepared-reads
 use Rattle.settings.proofs.clip_one.Reads as clip-one-reads
-use Rattle.settings.proofs.kept.Reads as kept-reads
+use Rattle.settings.proofs.made_for.Reads as made-for-reads
 use Rattle.tiles.proofs.foot.Reads as foot-reads
 
 refusal-requires : tie.Need-refusal-requires
 refusal-requires c κs = search needs
 
+not-prepared-requires : tie.Need-not-prepared-requires
+not-prepared-requires c κs = search needs
+
 returns : tie.Need-returns
-returns c = bytes-refused _ _ _ _ _ _ _ (c .before .refusal .ensures) (c .if1 .taken)
+returns c = bytes-not _ _ _ _ _ _ _ (c .before .before .refusal .ensures) (c .before .if1 .taken) (c .not-prepared .ensures)
 
 foot-requires : tie.Need-foot-requires
 foot-requires c κs = bytes-foot _ _ _ _ _ _ (c .before .refusal .ensures) (c .if1 .left)
 
-kept-requires : tie.Need-kept-requires
-kept-requires c κs = search needs
+made-for-requires : tie.Need-made-for-requires
+made-for-requires c κs = bytes-record _ _ _ _ _ _ (c .before .before .refusal .ensures) (c .before .if1 .left)
 
 clip-one-requires : tie.Need-clip-one-requires
 clip-one-requires c κs = search needs
@@ -32,7 +36,7 @@ clip-one-requires c κs = search needs
 returns-2 : tie.Need-returns-2
 returns-2 c =
     bytes-well _ _ _ _ _ _ _ (c .before .before .before .before .before .refusal .ensures) (c .before .before .before .before .if1 .left)
-    (λ e. ends-one _ _ _ _ _ _ _ e (c .before .before .before .before .if1 .left) (c .before .before .before .foot .ensures) (c .before .before .kept .ensures) (c .before .clip-one .ensures) (c .if2 .taken))
+    (λ e. ends-one _ _ _ _ _ _ _ e (c .before .before .before .before .if1 .left) (c .before .before .before .foot .ensures) (c .before .before .made-for .ensures) (c .before .clip-one .ensures) (c .if2 .taken))
 
 map-tiles-requires : tie.Need-map-tiles-requires
 map-tiles-requires c κs = bytes-tiles _ _ _ _ _ _ (c .before .before .before .before .before .before .before .refusal .ensures) (c .before .before .before .before .before .before .if1 .left) (c .before .before .before .clip-one .ensures) (c .before .before .if2 .left)
@@ -46,16 +50,17 @@ same-length-2 c = search needs
 returns-3 : tie.Need-returns-3
 returns-3 c =
     bytes-well _ _ _ _ _ _ _ (c .before .before .before .before .before .before .before .before .before .before .before .before .refusal .ensures) (c .before .before .before .before .before .before .before .before .before .before .before .if1 .left)
-    (λ e. ends-well _ _ _ _ _ _ _ e (c .before .before .before .before .before .before .before .before .before .before .before .if1 .left) (c .before .before .before .before .before .before .before .before .before .before .foot .ensures) (c .before .before .before .before .before .before .before .before .before .kept .ensures) (c .before .before .before .before .before .before .before .before .clip-one .ensures) (c .before .before .before .before .before .before .before .if2 .left) (c .before .before .before .before .map-tiles .ensures))
+    (λ e. ends-well _ _ _ _ _ _ _ e (c .before .before .before .before .before .before .before .before .before .before .before .if1 .left) (c .before .before .before .before .before .before .before .before .before .before .foot .ensures) (c .before .before .before .before .before .before .before .before .before .made-for .ensures) (c .before .before .before .before .before .before .before .before .clip-one .ensures) (c .before .before .before .before .before .before .before .if2 .left) (c .before .before .before .before .map-tiles .ensures))
 
 pub prepare-bytes-spec : {M : Type 1} → statement M
 prepare-bytes-spec =
     tie.close
     (tie.spec
     refusal-requires
+    not-prepared-requires
     returns
     foot-requires
-    kept-requires
+    made-for-requires
     clip-one-requires
     returns-2
     map-tiles-requires

@@ -13,7 +13,7 @@ use Rattle.settings.proofs.bins.Reads as bins-reads
 use Rattle.tiles.proofs.tile_pixels.Reads as tile-pixels-reads
 
 tile-pixels-requires : tie.Need-tile-pixels-requires
-tile-pixels-requires c κs = (c .before .pre .film .tiled, c .before .pre .tile)
+tile-pixels-requires c κs = (c .before .pre .film .tiled, omega (arith, c .before .pre .tile))
 
 bins-requires : tie.Need-bins-requires
 bins-requires c κs = search needs

@@ -1,6 +1,7 @@
 -- `refusal` gives draw's first row that applies: 1 to 9, 31, 10 and 11, 15, 16 and 17, 13 and 18.
 -- Assumes nothing.
 use mathlib.Core.Path.{sym, _∙_}
+use Rattle.settings.proofs.Ready.{ready}
 use Rattle.draw.proofs.Tables.{look-asks, draw-shared, draw-record, draw-window, draw-pixel}
 use borrow.Author.Needs.{needs}
 use Rattle.draw.proofs.refusal.Statement.{statement}
@@ -13,7 +14,7 @@ returns : tie.Need-returns
 returns c = draw-shared _ _ _ _ _ _ _ _ _ (c .before .shared .ensures) (c .if1 .taken)
 
 record-refusal-requires : tie.Need-record-refusal-requires
-record-refusal-requires c κs = search needs
+record-refusal-requires c κs = ready _ _ _ _ _ (sym (c .before .shared .ensures) ∙ c .if1 .left) .tiled
 
 returns-2 : tie.Need-returns-2
 returns-2 c = draw-record _ _ _ _ _ _ _ _ _ (c .before .before .before .shared .ensures) (c .before .before .if1 .left) (c .before .record-refusal .ensures) (c .if2 .taken)

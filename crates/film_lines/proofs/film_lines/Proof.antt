@@ -17,7 +17,7 @@ abbrev μ-loop : tie.MeasureT-loop
 
 first-line-requires : tie.Need-first-line-requires Inv-loop μ-loop
 first-line-requires c κs =
-    let l = limit-few (c .before .before .before .before .before .args .width) (c .before .before .before .before .before .args .height) (c .before .before .before .before .before .args .maxval) (c .before .before .before .before .before .pre .few) in (
+    let l = limit-few (c .before .before .before .before .before .args .width) (c .before .before .before .before .before .args .height) (c .before .before .before .before .before .args .maxval) (c .before .before .before .before .before .pre .film .work .ready .tiled) (c .before .before .before .before .before .pre .few) in (
       omega (arith, c .before .before .before .before .before .pre .film .work .ready .tiled .widest),
       omega (arith, c .before .before .before .before .before .pre .film .work .ready .tiled .highest),
       omega (arith, c .before .before .before .before .before .pre .film .work .ready .tiled .max),
@@ -40,7 +40,6 @@ tile-excess-requires : tie.Need-tile-excess-requires Inv-loop μ-loop
 tile-excess-requires c κs =
     record {
       film = c .before .before .before .before .before .before .before .before .before .before .before .pre .film;
-      bound = c .before .before .before .before .before .before .before .before .before .before .before .pre .bound;
       tile = c .before .loop-test .taken;
       scratch = c .before .before .loop .inv .0 ∙ c .before .before .before .before .before .before .before .before .before .before .before .pre .counts;
     }
@@ -64,7 +63,7 @@ loop-less c = omega arith
 loop-again : tie.Need-loop-again Inv-loop μ-loop
 loop-again c =
     let n : length (c .before .before .tile-line .last .0) ≡ length (c .before .before .before .before .before .before .before .before .before .loop .out) = c .before .before .tile-line .kept .0 in (
-      c .before .before .before .before .before .before .tile-excess .kept .1 .1 .1 .1 .1 .1 .0 ∙ c .before .before .before .before .before .before .before .before .before .loop .inv .0,
+      c .before .before .before .before .before .before .tile-excess .kept .1 .1 .1 .1 .1 .0 ∙ c .before .before .before .before .before .before .before .before .before .loop .inv .0,
       n ∙ c .before .before .before .before .before .before .before .before .before .loop .inv .1,
       omega arith,
       going-next (c .before .before .before .before .before .before .before .before .before .loop .inv .3) (c .before .before .before .before .before .before .before .before .loop-test .taken)

@@ -17,8 +17,8 @@ slice-aggregate-prepare-2 c = search needs
 prepare-requires : tie.Need-prepare-requires
 prepare-requires c κs = search needs
 
-enum-known-foot : tie.Need-enum-known-foot
-enum-known-foot c = search needs
+enum-known-answer : tie.Need-enum-known-answer
+enum-known-answer c = search needs
 
 slice-aggregate-film-lines : tie.Need-slice-aggregate-film-lines
 slice-aggregate-film-lines c = search needs
@@ -28,7 +28,7 @@ slice-aggregate-film-lines-2 c = search needs
 
 film-lines-requires : tie.Need-film-lines-requires
 film-lines-requires c κs =
-    let made = prepared-done _ _ _ _ _ _ refl refl (c .before .before .before .before .before .before .before .before .before .before .before .settings-for .ensures) (c .before .before .before .before .foot .given .1) (c .before .before .before .before .before .before .before .before .prepare .ensures) in
+    let made = prepared-done _ _ _ _ _ _ refl refl (c .before .before .before .before .before .before .before .before .before .before .before .settings-for .ensures) (c .before .before .before .before .before .before .before .before .prepare .ensures) (c .before .before .before .before .answer .given .1) in
     record {
       film = made .film;
       few = c .before .before .before .before .before .before .before .before .before .before .before .before .before .before .pre .0;
@@ -38,12 +38,12 @@ film-lines-requires c κs =
       fitting = c .before .before .before .before .before .before .before .before .before .before .before .before .before .before .pre .1;
     }
 
-enum-known-n : tie.Need-enum-known-n
-enum-known-n c = search needs
+enum-known-answer-2 : tie.Need-enum-known-answer-2
+enum-known-answer-2 c = search needs
 
 refused-line-requires : tie.Need-refused-line-requires
 refused-line-requires c κs =
-    let refused = prepared-refused _ _ _ _ _ _ refl refl (c .before .before .before .before .before .before .before .before .before .settings-for .ensures) (c .before .before .n .given .1) (c .before .before .before .before .before .before .prepare .ensures) in
+    let refused = prepared-refused _ _ _ _ _ _ refl refl (c .before .before .before .before .before .before .before .before .before .settings-for .ensures) (c .before .before .before .before .before .before .prepare .ensures) (c .before .before .answer2 .given .1) in
     (refused .0, c .before .before .before .before .before .before .before .before .before .before .before .before .pre .1)
 
 same-length : tie.Need-same-length
@@ -51,7 +51,7 @@ same-length c = search needs
 
 returns : tie.Need-returns
 returns c =
-    let made = prepared-done _ _ _ _ _ _ refl refl (c .before .before .before .before .before .before .before .before .before .before .before .before .before .before .before .settings-for .ensures) (c .before .before .before .before .before .before .before .before .foot .given .1) (c .before .before .before .before .before .before .before .before .before .before .before .before .prepare .ensures) in
+    let made = prepared-done _ _ _ _ _ _ refl refl (c .before .before .before .before .before .before .before .before .before .before .before .before .before .before .before .settings-for .ensures) (c .before .before .before .before .before .before .before .before .before .before .before .before .prepare .ensures) (c .before .before .before .before .before .before .before .before .answer .given .1) in
     told-none (made .none) (c .before .before .before .film-lines .ensures)
 
 same-length-2 : tie.Need-same-length-2
@@ -59,7 +59,7 @@ same-length-2 c = search needs
 
 returns-2 : tie.Need-returns-2
 returns-2 c =
-    let refused = prepared-refused _ _ _ _ _ _ refl refl (c .before .before .before .before .before .before .before .before .before .before .before .before .settings-for .ensures) (c .before .before .before .before .before .n .given .1) (c .before .before .before .before .before .before .before .before .before .prepare .ensures) in
+    let refused = prepared-refused _ _ _ _ _ _ refl refl (c .before .before .before .before .before .before .before .before .before .before .before .before .settings-for .ensures) (c .before .before .before .before .before .before .before .before .before .prepare .ensures) (c .before .before .before .before .before .answer2 .given .1) in
     told-as (c .before .before .refused-line .ensures) (refused .1 _)
 
 pub list-film-spec : {M : Type 1} → statement M
@@ -70,11 +70,11 @@ list-film-spec =
     slice-aggregate-prepare
     slice-aggregate-prepare-2
     prepare-requires
-    enum-known-foot
+    enum-known-answer
     slice-aggregate-film-lines
     slice-aggregate-film-lines-2
     film-lines-requires
-    enum-known-n
+    enum-known-answer-2
     refused-line-requires
     same-length
     returns

@@ -1,4 +1,4 @@
--- `flat::put_record` meets its contract: the cells hold the record's nine numbers in their order, and its factor.
+-- `flat::put_record` meets its contract: the cells hold the record's nine numbers in their order, its factor, and its edges and centres.
 -- Assumes nothing.
 use mathlib.Core.Path.{refl}
 use borrow.Author.Needs.{needs}
@@ -8,6 +8,7 @@ use Rattle.flat.proofs.put_record.Reads as reads
 use Rattle.flat.proofs.put_record.Lts as lts
 use Rattle.flat.proofs.clip_factor.Reads as clip-factor-reads
 use Rattle.flat.proofs.clip_number.Reads as clip-number-reads
+use Rattle.flat.proofs.put_axis.Reads as put-axis-reads
 
 clip-number-requires : tie.Need-clip-number-requires
 clip-number-requires c κs = search needs
@@ -15,8 +16,21 @@ clip-number-requires c κs = search needs
 clip-factor-requires : tie.Need-clip-factor-requires
 clip-factor-requires c κs = search needs
 
+put-axis-requires : tie.Need-put-axis-requires
+put-axis-requires c κs = search needs
+
+put-axis-requires-2 : tie.Need-put-axis-requires-2
+put-axis-requires-2 c κs = search needs
+
 returns : tie.Need-returns
-returns c = (rw (c .before .before .clip-number .ensures) refl, c .clip-factor .ensures)
+returns c = (rw (c .before .before .before .before .before .before .before .before .before .before .clip-number .ensures) refl, c .before .before .before .before .before .before .before .before .clip-factor .ensures, rw (c .before .before .before .before .put-axis .ensures .0, c .before .before .before .before .put-axis .ensures .1, c .put-axis2 .ensures .0, c .put-axis2 .ensures .1) refl)
 
 pub put-record-spec : {M : Type 1} → statement M
-put-record-spec = tie.close (tie.spec clip-number-requires clip-factor-requires returns)
+put-record-spec =
+    tie.close
+    (tie.spec
+    clip-number-requires
+    clip-factor-requires
+    put-axis-requires
+    put-axis-requires-2
+    returns)

@@ -29,8 +29,8 @@ unfolding binsOf all within
 render-requires c κs = (
   record {
     maps = record { across = search needs; down = search needs; scale = record { order = search needs; most = search needs; some = search needs; few = search needs; reach = search needs }; room = search needs; greys = search needs };
-    columns = record { few = search needs; some = search needs; most = search needs; whole = search needs };
-    rows = record { few = search needs; some = search needs; most = search needs; whole = search needs };
+    columns = record { some = search needs; few = search needs; least = search needs; most = search needs };
+    rows = record { some = search needs; few = search needs; least = search needs; most = search needs };
   },
   record { across = search needs; down = search needs; size = search needs; greys = search needs },
 )

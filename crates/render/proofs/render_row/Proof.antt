@@ -3,21 +3,17 @@
 use mathlib.Core.Path.{ap, _∙_}
 use native.Mathlib.Omega.{arith}
 use Rattle.render.specs.Render.{rowOf}
-use Rattle.render.proofs.Sections.{tile-some, place-asks}
 use Rattle.render.proofs.render_row.Statement.{statement}
 use Rattle.render.proofs.render_row.Tie as tie
 
-div-locate : tie.Need-div-locate
-div-locate c = tile-some (c .before .before .before .before .pre .0)
-
 locate-requires : tie.Need-locate-requires
-locate-requires c κs = place-asks (c .before .before .before .before .pre .0) (c .before .before .before .before .pre .1)
+locate-requires c κs = (c .before .before .before .pre .0, c .before .before .before .pre .1)
 
 pairs-pay-requires : tie.Need-pairs-pay-requires
-pairs-pay-requires c κs = (c .before .before .before .before .before .pre .2 .maps .across, c .before .before .before .before .before .pre .2 .maps .scale .few)
+pairs-pay-requires c κs = (c .before .before .before .before .pre .2 .maps .across, c .before .before .before .before .pre .2 .maps .scale .few)
 
 paired-row-requires : tie.Need-paired-row-requires
-paired-row-requires c κs = (rw (c .before .before .before .before .locate .ensures) (c .before .before .before .before .before .before .before .before .before .pre .2), c .before .before .before .pairs-pay .ensures (c .before .before .if1 .taken))
+paired-row-requires c κs = (rw (c .before .before .before .before .locate .ensures) (c .before .before .before .before .before .before .before .before .pre .2), c .before .before .before .pairs-pay .ensures (c .before .before .if1 .taken))
 
 same-length : tie.Need-same-length
 same-length c = omega arith
@@ -26,22 +22,21 @@ same-length-2 : tie.Need-same-length-2
 same-length-2 c = omega arith
 
 returns : tie.Need-returns
-returns c = (c .before .before .before .before .paired-row .ensures ∙ ap (λ p. rowOf (c .before .before .before .before .before .before .before .before .before .before .before .before .before .before .args .width) (c .before .before .before .before .before .before .before .before .before .before .before .before .before .before .args .s) (c .before .before .before .before .before .before .before .before .before .before .before .before .before .before .args .map .now) (c .before .before .before .before .before .before .before .before .before .before .before .before .before .before .args .left) p (c .before .before .before .before .before .before .before .before .before .before .before .before .before .before .args .pixels .now)) (c .before .before .before .before .before .before .before .before .before .locate .ensures), omega arith)
+returns c = (c .before .before .before .before .paired-row .ensures ∙ ap (λ p. rowOf (c .before .before .before .before .before .before .before .before .before .before .before .before .before .args .width) (c .before .before .before .before .before .before .before .before .before .before .before .before .before .args .s) (c .before .before .before .before .before .before .before .before .before .before .before .before .before .args .map .now) (c .before .before .before .before .before .before .before .before .before .before .before .before .before .args .left) p (c .before .before .before .before .before .before .before .before .before .before .before .before .before .args .pixels .now)) (c .before .before .before .before .before .before .before .before .before .locate .ensures), omega arith)
 
 weighed-row-requires : tie.Need-weighed-row-requires
-weighed-row-requires c κs = rw (c .before .before .before .locate .ensures) (c .before .before .before .before .before .before .before .before .pre .2)
+weighed-row-requires c κs = rw (c .before .before .before .locate .ensures) (c .before .before .before .before .before .before .before .pre .2)
 
 same-length-3 : tie.Need-same-length-3
 same-length-3 c = omega arith
 
 returns-2 : tie.Need-returns-2
-returns-2 c = (c .before .before .weighed-row .ensures ∙ ap (λ p. rowOf (c .before .before .before .before .before .before .before .before .before .before .before .args .width) (c .before .before .before .before .before .before .before .before .before .before .before .args .s) (c .before .before .before .before .before .before .before .before .before .before .before .args .map .now) (c .before .before .before .before .before .before .before .before .before .before .before .args .left) p (c .before .before .before .before .before .before .before .before .before .before .before .args .pixels .now)) (c .before .before .before .before .before .before .locate .ensures), omega arith)
+returns-2 c = (c .before .before .weighed-row .ensures ∙ ap (λ p. rowOf (c .before .before .before .before .before .before .before .before .before .before .args .width) (c .before .before .before .before .before .before .before .before .before .before .args .s) (c .before .before .before .before .before .before .before .before .before .before .args .map .now) (c .before .before .before .before .before .before .before .before .before .before .args .left) p (c .before .before .before .before .before .before .before .before .before .before .args .pixels .now)) (c .before .before .before .before .before .before .locate .ensures), omega arith)
 
 pub render-row-spec : {M : Type 1} → statement M
 render-row-spec =
     tie.close
     (tie.spec
-    div-locate
     locate-requires
     pairs-pay-requires
     paired-row-requires

@@ -1,24 +1,21 @@
 -- `render::section_from` meets its contract: the run of the first pixel, or what is left of the row where that is less.
 -- Assumes nothing.
 use native.Mathlib.Omega.{arith}
-use Rattle.render.proofs.Sections.{tile-some, place-asks, side-most, section-is}
+use Rattle.render.proofs.Sections.{section-is}
 use Rattle.render.proofs.section_from.Statement.{statement}
 use Rattle.render.proofs.section_from.Tie as tie
 
-div-side : tie.Need-div-side
-div-side c = tile-some (c .pre .0)
-
 cast-x : tie.Need-cast-x
-cast-x c = omega (arith, side-most (c .pre .0))
+cast-x c = omega (arith, c .pre .0 .most)
 
 add-x : tie.Need-add-x
-add-x c = omega (arith, side-most (c .pre .0))
+add-x c = omega (arith, c .pre .0 .most)
 
 locate-requires : tie.Need-locate-requires
-locate-requires c κs = place-asks (c .pre .0) (omega arith)
+locate-requires c κs = (c .pre .0, omega arith)
 
 run-requires : tie.Need-run-requires
-run-requires c κs = (c .before .pre .0 .some, c .before .pre .0 .most, omega (arith, c .before .pre .0 .whole), c .before .pre .0 .few, c .locate .ensures)
+run-requires c κs = (c .before .pre .0, omega arith, c .locate .ensures)
 
 cast-run : tie.Need-cast-run
 cast-run c = omega arith
@@ -39,7 +36,6 @@ pub section-from-spec : {M : Type 1} → statement M
 section-from-spec =
     tie.close
     (tie.spec
-    div-side
     cast-x
     add-x
     locate-requires

@@ -7,7 +7,6 @@ use borrow.Rule.Slice.PartMut.{putMid}
 use native.Mathlib.Omega.{arith}
 use Rattle.lists.proofs.Fills.{filled-none, length-filled}
 use Rattle.lists.specs.Lists.{filled}
-use Rattle.render.proofs.Sections.{side-most}
 use Rattle.render.proofs.Weaving.{wove, strand-asks, strand-next, strands-end}
 use Rattle.render.proofs.weave_row.Statement.{statement}
 use Rattle.render.proofs.weave_row.Tie as tie
@@ -25,7 +24,7 @@ section-from-requires : tie.Need-section-from-requires Inv-loop μ-loop
 section-from-requires c κs = (c .before .before .before .before .pre .columns, c .before .before .before .before .pre .across, c .loop-test .taken)
 
 mul-weave-run : tie.Need-mul-weave-run Inv-loop μ-loop
-mul-weave-run c = omega (arith, c .section-from .ensures .start, c .section-from .ensures .end, c .before .before .before .before .before .pre .across, side-most (c .before .before .before .before .before .pre .columns))
+mul-weave-run c = omega (arith, c .section-from .ensures .start, c .section-from .ensures .end, c .before .before .before .before .before .pre .across, c .before .before .before .before .before .pre .columns .most)
 
 sub-weave-run : tie.Need-sub-weave-run Inv-loop μ-loop
 sub-weave-run c = omega (arith, c .section-from .ensures .start)

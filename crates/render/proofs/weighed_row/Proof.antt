@@ -9,7 +9,6 @@ use Rattle.lists.proofs.Fills.{filled-none, length-filled}
 use Rattle.lists.specs.Lists.{filled}
 use Rattle.binning.specs.Binning.{factorOf}
 use Rattle.render.proofs.Rows.{shown, part-asks, part-next, turns-end}
-use Rattle.render.proofs.Sections.{side-most}
 use Rattle.render.proofs.weighed_row.Statement.{statement}
 use Rattle.render.proofs.weighed_row.Tie as tie
 
@@ -37,7 +36,7 @@ section-from-requires : tie.Need-section-from-requires Inv-loop μ-loop
 section-from-requires c κs = (c .before .before .before .before .before .before .pre .columns, c .before .before .before .before .before .before .pre .across, c .loop-test .taken)
 
 mul-weigh-run : tie.Need-mul-weigh-run Inv-loop μ-loop
-mul-weigh-run c = omega (arith, c .section-from .ensures .start, c .section-from .ensures .end, c .before .before .before .before .before .before .before .pre .across, side-most (c .before .before .before .before .before .before .before .pre .columns))
+mul-weigh-run c = omega (arith, c .section-from .ensures .start, c .section-from .ensures .end, c .before .before .before .before .before .before .before .pre .across, c .before .before .before .before .before .before .before .pre .columns .most)
 
 sub-weigh-run : tie.Need-sub-weigh-run Inv-loop μ-loop
 sub-weigh-run c = omega (arith, c .section-from .ensures .start)

@@ -1,9 +1,10 @@
 -- `foot` gives the footer of a film.
 -- Assumes nothing.
 use mathlib.Core.Path.{_∙_, ap₂}
+use native.Mathlib.Omega.{arith}
 use Rattle.tiles.specs.Tiles.{footOf, footerOf}
-use Rattle.tiles.proofs.Tiles.{tiles-some}
-use Rattle.tiles.proofs.Footers.{footer-asks}
+use Rattle.tiles.proofs.Tiles.{tiles-least}
+use Rattle.tiles.proofs.Footers.{tile-footer-asks}
 use borrow.Author.Needs.{needs}
 use Rattle.tiles.proofs.foot.Statement.{statement}
 use Rattle.tiles.proofs.foot.Tie as tie
@@ -14,13 +15,13 @@ use Rattle.tiles.proofs.tile_pixels.Reads as tile-pixels-reads
 use Rattle.settings.proofs.bins.Reads as bins-reads
 
 tile-pixels-requires : tie.Need-tile-pixels-requires
-tile-pixels-requires c κs = (c .pre .tiled, tiles-some (c .pre .tiled))
+tile-pixels-requires c κs = (c .pre .tiled, omega (arith, tiles-least (c .pre .tiled)))
 
 bins-requires : tie.Need-bins-requires
 bins-requires c κs = search needs
 
 footer-requires : tie.Need-footer-requires
-footer-requires c κs = rw (c .before .tile-pixels .ensures) (footer-asks (c .before .before .pre) (c .bins .ensures))
+footer-requires c κs = rw (c .before .tile-pixels .ensures) (tile-footer-asks (c .before .before .pre) (omega (arith, tiles-least (c .before .before .pre .tiled))) (c .bins .ensures))
 
 returns : tie.Need-returns
 unfolding footOf

@@ -1,51 +1,71 @@
--- `tile_rect` gives the rectangle of tile k.
+-- `tile_rect` gives the rectangle of tile k: its column's edge and size across, its row's down.
 -- Assumes nothing.
 use mathlib.Core.Path.{refl}
-use Prim.Native.Nat.{_%_, _/_, _≤_}
-use lib.Dec.{lit<}
-use native.Mathlib.Nat.{div-le-self, mod-le, mul-le-mul, lt-of-le-of-lt}
 use native.Mathlib.Omega.{arith}
 use Rattle.tiles.specs.Tiles.{tileRect}
+use Rattle.tiles.proofs.Tiles.{tile-column, tile-row}
 use borrow.Author.Needs.{needs}
 use Rattle.tiles.proofs.tile_rect.Statement.{statement}
 use Rattle.tiles.proofs.tile_rect.Tie as tie
 use Rattle.tiles.proofs.tile_rect.Reads as reads
 use Rattle.tiles.proofs.tile_rect.Lts as lts
+use Rattle.grid.proofs.edge.Reads as edge-reads
+use Rattle.grid.proofs.size.Reads as size-reads
 
-div-w : tie.Need-div-w
-div-w c = search needs
+rem-i : tie.Need-rem-i
+rem-i c = search needs
 
-cast-w : tie.Need-cast-w
-cast-w c = omega (arith, div-le-self (c .args .width) (c .args .across))
+cast-i : tie.Need-cast-i
+cast-i c = omega (arith, tile-column (c .pre), c .pre .columns .few)
 
-div-h : tie.Need-div-h
-div-h c = search needs
+div-j : tie.Need-div-j
+div-j c = search needs
 
-cast-h : tie.Need-cast-h
-cast-h c = omega (arith, div-le-self (c .args .height) (c .args .down))
+cast-j : tie.Need-cast-j
+cast-j c = omega (arith, tile-row (c .pre), c .pre .rows .few)
 
-rem-t10 : tie.Need-rem-t10
-rem-t10 c = search needs
+edge-requires : tie.Need-edge-requires
+edge-requires c κs = (c .pre .columns, omega (arith, tile-column (c .pre)))
 
-mul-t11 : tie.Need-mul-t11
-mul-t11 c =
-    let a : c .args .k % c .args .across ≤ 255 = omega (arith, c .pre .tile, mod-le (c .args .k) (c .args .across)) in
-    let b : c .args .width / c .args .across ≤ 4294967295 = omega (arith, div-le-self (c .args .width) (c .args .across)) in
-    record { fits = lt-of-le-of-lt (mul-le-mul a b) (lit< tt) }
+cast-left : tie.Need-cast-left
+cast-left c = search needs
 
-div-t12 : tie.Need-div-t12
-div-t12 c = search needs
+edge-requires-2 : tie.Need-edge-requires-2
+edge-requires-2 c κs = (c .before .pre .rows, omega (arith, tile-row (c .before .pre)))
 
-mul-t13 : tie.Need-mul-t13
-mul-t13 c =
-    let a : c .args .k / c .args .across ≤ 255 = omega (arith, c .pre .tile, div-le-self (c .args .k) (c .args .across)) in
-    let b : c .args .height / c .args .down ≤ 4294967295 = omega (arith, div-le-self (c .args .height) (c .args .down)) in
-    record { fits = lt-of-le-of-lt (mul-le-mul a b) (lit< tt) }
+cast-top : tie.Need-cast-top
+cast-top c = search needs
+
+size-requires : tie.Need-size-requires
+size-requires c κs = (c .before .before .pre .columns, tile-column (c .before .before .pre))
+
+cast-wide : tie.Need-cast-wide
+cast-wide c = search needs
+
+size-requires-2 : tie.Need-size-requires-2
+size-requires-2 c κs = (c .before .before .before .pre .rows, tile-row (c .before .before .before .pre))
+
+cast-high : tie.Need-cast-high
+cast-high c = search needs
 
 returns : tie.Need-returns
 unfolding tileRect
-returns c = refl
+returns c = rw (c .before .before .before .edge .ensures, c .before .before .edge2 .ensures, c .before .size .ensures, c .size2 .ensures) refl
 
 pub tile-rect-spec : {M : Type 1} → statement M
 tile-rect-spec =
-    tie.close (tie.spec div-w cast-w div-h cast-h rem-t10 mul-t11 div-t12 mul-t13 returns)
+    tie.close
+    (tie.spec
+    rem-i
+    cast-i
+    div-j
+    cast-j
+    edge-requires
+    cast-left
+    edge-requires-2
+    cast-top
+    size-requires
+    cast-wide
+    size-requires-2
+    cast-high
+    returns)

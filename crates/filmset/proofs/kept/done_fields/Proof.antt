@@ -1,8 +1,7 @@
--- `filmset::kept::done_fields` meets its contract: under the letter P the ten follow. Assumes nothing.
-use borrow.Author.Needs.{needs}
-use mathlib.Core.Path.{_∙_}
+-- `filmset::kept::done_fields` meets its contract: under the letter P the record follows. Assumes nothing.
 use borrow.Author.Tests.{eq-eqb, ne-eqb}
 use Rattle.filmset.specs.Filmset.{doneFields}
+use borrow.Author.Needs.{needs}
 use Rattle.filmset.proofs.kept.done_fields.Statement.{statement}
 use Rattle.filmset.proofs.kept.done_fields.Tie as tie
 
@@ -18,9 +17,12 @@ used-field-requires c κs = search needs
 ten-fields-requires : tie.Need-ten-fields-requires
 ten-fields-requires c κs = search needs
 
+fields-requires : tie.Need-fields-requires
+fields-requires c κs = search needs
+
 returns : tie.Need-returns
 unfolding doneFields
-returns c = rw (eq-eqb _ _ (c .before .if1 .taken)) (cc)
+returns c = rw (eq-eqb _ _ (c .before .before .before .before .if1 .taken)) (cc)
 
 returns-2 : tie.Need-returns-2
 unfolding doneFields
@@ -34,5 +36,6 @@ done-fields-spec =
     factor-field-requires
     used-field-requires
     ten-fields-requires
+    fields-requires
     returns
     returns-2)

@@ -33,7 +33,7 @@ end-requires-2 c κs = search needs
 
 returns-3 : tie.Need-returns-3
 unfolding answerLine
-returns-3 c = rw (ne-eqb _ _ (c .before .before .before .before .before .before .before .if1 .left), eq-eqb _ _ (c .before .before .before .if2 .left)) (cc)
+returns-3 c = rw (ne-eqb _ _ (c .before .before .before .before .before .before .if1 .left), eq-eqb _ _ (c .before .before .if2 .left)) (cc)
 
 pub line-spec : {M : Type 1} → statement M
 line-spec =

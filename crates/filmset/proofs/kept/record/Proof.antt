@@ -1,7 +1,7 @@
--- `filmset::kept::record` meets its contract: the map record of the ten. Assumes nothing.
-use borrow.Author.Needs.{needs}
+-- `filmset::kept::record` meets its contract: the map record of the ten, with the axes. Assumes nothing.
 use mathlib.Core.Path.{refl}
 use Rattle.filmset.specs.Filmset.{recordOf}
+use borrow.Author.Needs.{needs}
 use Rattle.filmset.proofs.kept.record.Statement.{statement}
 use Rattle.filmset.proofs.kept.record.Tie as tie
 
@@ -10,7 +10,7 @@ settings-requires c κs = search needs
 
 returns : tie.Need-returns
 unfolding recordOf
-returns c = rw (c .settings .ensures) refl
+returns c = rw (c .before .before .settings .ensures) refl
 
 pub record-spec : {M : Type 1} → statement M
 record-spec = tie.close (tie.spec settings-requires returns)
