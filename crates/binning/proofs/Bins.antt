@@ -1,10 +1,11 @@
 -- Laws of `binOf`, the bin of a grey.
 -- Assumes nothing.
-use Prim.Native.Nat.{ℕ, _+_, _-_, _*_, _/_, _≤_, _<_}
+use Prim.Native.Nat.{ℕ, _+_, _-_, _*_, _/_, _%_, _^_, _≤_, _<_}
 use mathlib.Core.Bool.{true}
-use mathlib.Core.Path.{_≡_, ap, _∙_}
+use mathlib.Core.Path.{_≡_, ap, sym, _∙_}
 use lib.Dec.{ltb}
-use native.Mathlib.Nat.{div-lt-iff-lt-mul, div-le-of-le-mul, mul-comm, mul-le-mul, mul-le-mul-right, mul-lt-mul-of-pos-right}
+use native.Mathlib.Nat.{div-lt-iff-lt-mul, div-le-of-le-mul, mul-comm, mul-div-mul-right, mul-add-div-right, div-eq-of-lt, div-div-eq-div-mul, mul-add, mul-one, mul-le-mul, mul-le-mul-right, mul-lt-mul-of-pos-right}
+use lib.Pow.{pow-add, pow-mono}
 use native.Mathlib.Omega.{arith}
 use borrow.Author.Tests.{lt-ltb}
 use Rattle.lists.proofs.Inverses.{by-ratio, ratio-reaches, ratio-short}
@@ -62,3 +63,38 @@ few-room lo hi b v h m p few =
     let below : n / 16777216 < 256 = omega (arith, bin-by lo hi b v h m p, bin-below lo hi b v h p) in
     let pos : 0 < 16777216 = omega arith in
     div-lt-iff-lt-mul {x = n} {y = 256} pos .0 below
+
+-- where each bin has 2^s greys, the bin is what is above Min divided by that
+pub bin-even : (lo hi b v s : ℕ) → 0 < b → b * 2 ^ s ≡ hi - lo + 1 → (v - lo) / 2 ^ s ≡ binOf lo hi b v
+unfolding binOf
+bin-even lo hi b v s p e = sym (mul-div-mul-right {m = b} (v - lo) (2 ^ s) p) ∙ ap (λ d. (v - lo) * b / d) (mul-comm (2 ^ s) b ∙ e)
+
+-- ---- a factor that is one more than a power of two
+
+-- what is left of a small number times p + 1, divided by p
+times-next : (x p : ℕ) → x < p → x * (p + 1) / p ≡ x
+times-next x p l =
+    let some : 0 < p = omega arith in
+    ap (λ n. n / p) (more x p) ∙ mul-add-div-right {m = p} some x x ∙ ap (λ n. x + n) (div-eq-of-lt l) ∙ none x
+  where
+    more : (x p : ℕ) → x * (p + 1) ≡ x * p + x
+    more x p = mul-add x p 1 ∙ ap (λ n. x * p + n) (mul-one x)
+
+    none : (x : ℕ) → x + 0 ≡ x
+    none x = omega arith
+
+-- one shifted by t is that power
+pub one-shifted : (t : ℕ) → t < 25 → (1 * 2 ^ t % 4294967296 ≡ 2 ^ t) × (2 ^ t ≤ 16777216)
+one-shifted t h =
+    let most : 2 ^ t ≤ 16777216 = pow-mono {i = t} {j = 24} (omega arith) in
+    (omega (arith, most), most)
+
+-- by such a factor the bin is what is above Min divided by the greys of a bin
+pub bin-power : (x t f : ℕ) → x ≤ 4095 → 11 < t → t < 25 → 2 ^ t + 1 ≡ f → x / 2 ^ (24 - t) ≡ x * f / 16777216
+bin-power x t f small low high e =
+    let wide : 4096 ≤ 2 ^ t = pow-mono {i = 12} {j = t} low in
+    let whole : 2 ^ t * 2 ^ (24 - t) ≡ 16777216 = sym (pow-add 2 t (24 - t)) ∙ ap (λ n. 2 ^ n) (let k : t + (24 - t) ≡ 24 = omega arith in k) in
+    ap (λ n. n / 2 ^ (24 - t)) (sym (times-next x (2 ^ t) (omega (arith, wide))))
+    ∙ div-div-eq-div-mul (x * (2 ^ t + 1)) (2 ^ t) (2 ^ (24 - t))
+    ∙ ap (λ n. x * (2 ^ t + 1) / n) whole
+    ∙ ap (λ n. x * n / 16777216) e

@@ -9,12 +9,16 @@ pub struct Axis {
     pub centres: [u32; 16],
 }
 
-// The first column (or row) of tile i; the one after the last where i is the grid.
+// The first column (or row) of tile i; the one after the last where i is the grid. With the usual grid of 8 the division is a shift.
 pub fn edge(side: u32, grid: u32, i: u32) -> u32
     requires { ⌜ Fits side grid × (i ≤ grid) ⌝ }
     ensures { λ r. ⌜ r ≡ edgeOf side grid i ⌝ }
 {
-    i * side / grid
+    let across = i * side;
+    if grid == 8 {
+        return across / 8;
+    }
+    across / grid
 }
 
 // How wide (or high) tile i is.

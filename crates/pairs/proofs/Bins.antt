@@ -1,10 +1,12 @@
 -- The turns of `bins_few` and `bins_many`: bins in the places of pixels, and what callers know of them.
 -- Assumes nothing.
-use Prim.Native.Nat.{ℕ, _+_, _-_, _*_, _≤_, _<_}
+use Prim.Native.Nat.{ℕ, _+_, _-_, _*_, _^_, _≤_, _<_}
 use mathlib.Core.Bool.{true}
 use mathlib.Core.List.{List}
-use mathlib.Core.Path.{_≡_, ap, ap₂, _∙_}
+use mathlib.Core.Path.{_≡_, ap, ap₂, sym, _∙_}
 use lib.ListN.{length, getD, set}
+use lib.Pow.{pow-add}
+use native.Mathlib.Nat.{mul-assoc}
 use native.Mathlib.Omega.{arith}
 use Rattle.lists.specs.Lists.{all, filled}
 use Rattle.lists.proofs.Tabs.{length-tab, getD-tab}
@@ -56,6 +58,19 @@ module _ {s : Settings} {vs : List ℕ} {f : ℕ} (asks : BinsAsks s vs f) {px :
     pub bin-next : set px i r ≡ filled (binned s vs) vs (i + 1)
     bin-next = filled-step _ _ e l bin-is
 
+  -- what the bin asks where a shift gives it
+  pub even-asks : s .min ≤ getD px i 0
+  even-asks = bin-asks .0
+
+  -- the same of a bin that is had without the factor
+  module _ {r : ℕ} (q : r ≡ binOf (s .min) (s .max) (binsOf s) (getD px i 0)) where
+    even-is : r ≡ binned s vs i
+    even-is = q ∙ ap (binOf (s .min) (s .max) (binsOf s)) bin-read
+
+    -- one pixel more
+    pub even-next : set px i r ≡ filled (binned s vs) vs (i + 1)
+    even-next = filled-step _ _ e l even-is
+
 pub bins-end : (s : Settings) (vs : List ℕ) {px : List ℕ} {i : ℕ} → px ≡ filled (binned s vs) vs i → i ≤ length vs → length vs ≤ i → px ≡ binnedOf s vs
 unfolding binnedOf
 bins-end s vs e l k = filled-end _ _ e l k ∙ filled-whole (binned s vs) vs
@@ -77,3 +92,9 @@ module _ (s : Settings) (vs : List ℕ) {ks : List ℕ} (held : ks ≡ binnedOf 
     -- and one of the bins
     pub held-in : Scale (s .min) (s .max) (binsOf s) → all (within (s .min) (s .max)) vs ≡ true → getD ks i 0 < binsOf s
     held-in scale greys = rw held-is (bin-below (s .min) (s .max) (binsOf s) (getD vs i 0) (all-at (within (s .min) (s .max)) vs greys i 0 l) (omega (arith, scale .some)))
+
+-- ---- bins of 2^j greys each
+
+-- once more doubled
+pub doubled : (w b j : ℕ) → w ≡ b * 2 ^ j → w * 2 ≡ b * 2 ^ (j + 1)
+doubled w b j e = ap (λ x. x * 2) e ∙ mul-assoc b (2 ^ j) 2 ∙ ap (λ x. b * x) (sym (pow-add 2 j 1))

@@ -1,7 +1,7 @@
 // What the pixels of a row share: their bins in their places, the pairs of each bin in each tile column, and a run woven from them.
 ghost use mathlib.Core.Bool.{true};
 ghost use mathlib.Core.Path.{_≡_};
-ghost use Prim.Native.Nat.{_≤_};
+ghost use Prim.Native.Nat.{_+_, _-_, _*_, _^_, _≤_, _<_};
 ghost use lib.ListN.{length};
 ghost use Rattle.lists.specs.Lists.{all, filled};
 ghost use Rattle.scan.specs.Scan.{within};
@@ -37,11 +37,48 @@ fn bins_many(pixels: &mut [u16], s: Settings, bin: u32)
     }
 }
 
-// Puts each pixel's bin in its place, by the factor of the range and the bins.
+// The shift that divides by the greys of a bin, where all bins have as many and they are a power of two; else 16.
+fn even_shift(s: Settings) -> u16
+    requires { ⌜ Scale (s .min) (s .max) (binsOf s) ⌝ }
+    ensures { λ r. ⌜ (r < 13 → binsOf s * 2 ^ r ≡ s .max - s .min + 1) ⌝ }
+{
+    let greys = s.max - s.min + 1;
+    let mut wide = settings::bins(s);
+    let mut j = 0u16;
+    while wide < greys {
+        wide = wide * 2;
+        j += 1;
+    }
+    if wide == greys {
+        return j;
+    }
+    16
+}
+
+// Puts each pixel's bin in its place, where a shift gives it.
+fn bins_even(pixels: &mut [u16], s: Settings, bin: u32, shift: u16)
+    requires { ⌜ BinsAsks s (now pixels) bin × (shift < 13) × (binsOf s * 2 ^ shift ≡ s .max - s .min + 1) ⌝ }
+    ensures { λ _. ⌜ now (pixels .exit) ≡ binnedOf s (now (pixels .entry)) ⌝ }
+{
+    let bins = settings::bins(s);
+    let min = s.min as u16;
+    let mut i = 0;
+    while i < pixels.len() {
+        pixels[i] = binning::bin_even(pixels[i], min, s.max, bins, shift);
+        i += 1;
+    }
+}
+
+// Puts each pixel's bin in its place: by a shift, or by the factor of the range and the bins.
 pub fn bins_by(pixels: &mut [u16], s: Settings, bin: u32)
     requires { ⌜ BinsAsks s (now pixels) bin ⌝ }
     ensures { λ _. ⌜ now (pixels .exit) ≡ binnedOf s (now (pixels .entry)) ⌝ }
 {
+    let shift = even_shift(s);
+    if shift < 13 {
+        bins_even(pixels, s, bin, shift);
+        return;
+    }
     let bins = settings::bins(s);
     if 256 < bins {
         bins_many(pixels, s, bin);

@@ -1,7 +1,7 @@
--- `grid::edge` meets its contract: the product of two small numbers fits.
+-- `grid::edge` meets its contract: the product of two small numbers fits, and a grid of 8 is divided by as such.
 -- Assumes nothing.
-use Prim.Native.Nat.{_≤_}
-use mathlib.Core.Path.{refl}
+use Prim.Native.Nat.{_*_, _/_, _≤_}
+use mathlib.Core.Path.{refl, sym, ap}
 use native.Mathlib.Nat.{mul-le-mul}
 use native.Mathlib.Omega.{arith}
 use Rattle.grid.specs.Grid.{edgeOf}
@@ -9,15 +9,19 @@ use borrow.Author.Needs.{needs}
 use Rattle.grid.proofs.edge.Statement.{statement}
 use Rattle.grid.proofs.edge.Tie as tie
 
-mul-result : tie.Need-mul-result
-mul-result c = let l : c .args .i ≤ 16 = omega (arith, c .pre .0 .few, c .pre .1) in omega (arith, mul-le-mul l (c .pre .0 .most))
+mul-across : tie.Need-mul-across
+mul-across c = let l : c .args .i ≤ 16 = omega (arith, c .pre .0 .few, c .pre .1) in omega (arith, mul-le-mul l (c .pre .0 .most))
+
+returns : tie.Need-returns
+unfolding edgeOf
+returns c = ap (λ n. c .before .args .i * c .before .args .side / n) (sym (c .if1 .taken))
 
 div-result : tie.Need-div-result
 div-result c = search needs
 
-returns : tie.Need-returns
+returns-2 : tie.Need-returns-2
 unfolding edgeOf
-returns c = refl
+returns-2 c = refl
 
 pub edge-spec : {M : Type 1} → statement M
-edge-spec = tie.close (tie.spec mul-result div-result returns)
+edge-spec = tie.close (tie.spec mul-across returns div-result returns-2)
