@@ -50,6 +50,7 @@ void open_bench(struct bench *b, const struct subject *of)
     b->drawn = room(2 * b->pixels);
     b->map = room(2 * tz_map_entries(&b->settings));
     b->scratch = room(4 * tz_scratch_entries(&b->settings));
+    b->list = room(8 * tz_looks_entries(&b->settings));
     b->counts = room(4 * tz_counts_entries(&b->settings));
     b->mapped = room(2 * tz_map_entries(&b->settings));
     b->file = room(tz_write_bytes(of->width, of->height));
@@ -65,6 +66,7 @@ void close_bench(struct bench *b)
     free(b->drawn);
     free(b->map);
     free(b->scratch);
+    free(b->list);
     free(b->counts);
     free(b->mapped);
     free(b->file);
@@ -89,7 +91,7 @@ long call_enhance(struct bench *b)
 static long prepare_by(struct bench *b, const tz_settings *s)
 {
     return tzofnadir_prepare(FILM, b->of.width, b->of.height, b->film, b->pixels, s, b->map, tz_map_entries(s),
-                             b->scratch, tz_scratch_entries(s), &b->record, &b->footer);
+                             b->scratch, tz_scratch_entries(s), &b->record, &b->footer, b->list, tz_looks_entries(s));
 }
 
 long call_prepare(struct bench *b) { return prepare_by(b, &b->settings); }
@@ -126,7 +128,7 @@ long call_count(struct bench *b)
 static long map_by(struct bench *b, const tz_settings *s, size_t counts)
 {
     return tzofnadir_map(FILM, b->of.width, b->of.height, s, b->counts, counts, b->mapped, tz_map_entries(s), b->scratch,
-                         tz_scratch_entries(s), &b->record, &b->footer);
+                         tz_scratch_entries(s), &b->record, &b->footer, b->list, tz_looks_entries(s));
 }
 
 long call_map(struct bench *b) { return map_by(b, &b->settings, tz_counts_entries(&b->settings)); }
@@ -178,7 +180,8 @@ long call_prepare_bytes(struct bench *b)
 {
     const tz_settings *s = &b->settings;
     return tzofnadir_prepare_bytes(FILM, b->of.width, b->of.height, b->bytes, b->pixels, s, b->byte_map,
-                                   tz_map_entries(s), b->scratch, tz_scratch_entries(s), &b->record, &b->footer);
+                                   tz_map_entries(s), b->scratch, tz_scratch_entries(s), &b->record, &b->footer, b->list,
+                                   tz_looks_entries(s));
 }
 
 long call_draw_bytes(struct bench *b)

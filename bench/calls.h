@@ -28,6 +28,7 @@ struct bench {
     uint16_t *drawn;   /* what is drawn or copied */
     uint16_t *map;
     uint32_t *scratch;
+    uint64_t *list;
     uint32_t *counts; /* what counting leaves, */
     uint16_t *mapped; /* and the mappings that are made of it */
     uint8_t *bytes; /* of a film of 8 bits: the same as bytes, and what the calls on bytes want */

@@ -1,6 +1,7 @@
 """Prepare, draw and enhance: a second reading of document 01, and of document
 02's orders 1 (byte films), 2 (no more refusal 14), 3 (bins that no pixel
-reaches), 5 (a new factor without a new count) and 6 (films of any size).
+reaches), 5 (a new factor without a new count), 6 (films of any size) and 7
+(how long the leftover walk is).
 
 Plain and slow. Whole numbers and fractions.Fraction only; the one float is
 the division behind the footer's "factor used", which Python rounds correctly
@@ -10,7 +11,8 @@ A quoted sentence in a comment is document 01's own; below the headings of
 orders, and where an order is named before it, document 02's.
 
 An answer is either a whole number (the refusal) or a tuple (the results).
-Pictures, map buffers, scratch and outputs are lists that the caller lends.
+Pictures, map buffers, scratch, outputs and the lists of order 7 are lists that
+the caller lends.
 """
 
 import struct
@@ -132,7 +134,8 @@ def excess_of(counts, limit):
 
 
 def clipped(counts, limit):
-    """Steps 3 and 4: the clipped counts of a tile (a new list)."""
+    """Steps 3 and 4: the clipped counts of a tile (a new list), and order 7's
+    "number of looks that the rule in 01 takes" in step 4."""
     counts = list(counts)
     bins = len(counts)
     excess = excess_of(counts, limit)
@@ -157,6 +160,7 @@ def clipped(counts, limit):
     left = excess - taken
     # "Leftover: while r > 0, starts run from bin 0 to bin B - 1, then from 0
     # again."
+    looks = 0
     start = 0
     while left > 0:
         # "At each start with r > 0 the step is floor(B / r), at least 1,
@@ -165,6 +169,9 @@ def clipped(counts, limit):
         # "From the start upward by that step, a bin under L gains one and r
         # loses one."
         for b in range(start, bins, step):
+            # Order 7: "a look at a full bin counted too", and so whatever the
+            # bin holds; a bin that the step passes over is not looked at.
+            looks += 1
             if counts[b] < limit:
                 counts[b] += 1
                 left -= 1
@@ -174,7 +181,7 @@ def clipped(counts, limit):
         start += 1
         if start == bins:
             start = 0
-    return counts
+    return counts, looks
 
 
 def mapping_of(counts, low, high, pixels):
@@ -199,21 +206,32 @@ def tile_counts(picture, width, tile, settings):
 
 
 def tile_mapping(counts, settings, pixels):
-    """The mapping of a tile from its raw counts.  "With clip off, steps 2 to 4
-    are skipped and the raw counts are mapped." """
+    """The mapping of a tile from its raw counts, and the tile's "two entries:
+    E, and the number of looks" of order 7.  "With clip off, steps 2 to 4 are
+    skipped and the raw counts are mapped."  Order 7: "With clip off both are
+    0"."""
+    entries = [0, 0]
     if settings.clip is not None:
-        counts = clipped(counts, limit_of(settings.clip, pixels, len(counts)))
-    return mapping_of(counts, settings.min, settings.max, pixels)
+        limit = limit_of(settings.clip, pixels, len(counts))
+        # E is the raw counts': the clipped ones have nothing above L.
+        excess = excess_of(counts, limit)
+        counts, looks = clipped(counts, limit)
+        entries = [excess, looks]
+    return mapping_of(counts, settings.min, settings.max, pixels), entries
 
 
 def all_mappings(width, height, picture, settings):
     """Every tile's mapping in one list: "the mappings, tiles row by row, bins
-    upward"."""
-    result = []
+    upward"; and every tile's entries of order 7 in another, "each tile in row
+    order"."""
+    maps = []
+    entries = []
     for tile in tiles_of(width, height, settings):
         counts = tile_counts(picture, width, tile, settings)
-        result.extend(tile_mapping(counts, settings, pixels_of(tile)))
-    return result
+        mapping, pair = tile_mapping(counts, settings, pixels_of(tile))
+        maps.extend(mapping)
+        entries.extend(pair)
+    return maps, entries
 
 
 # Kept, since all pixels of a column ask for the same.
@@ -331,6 +349,14 @@ def refusal_of_scratch(settings, scratch):
     return 0
 
 
+def refusal_of_looks(settings, looks):
+    """Order 7's 32.  0 when it doesn't apply."""
+    # 32: "this list is shorter than twice the number of tiles"
+    if len(looks) < 2 * settings.across * settings.down:
+        return 32
+    return 0
+
+
 def refusal_of_pixels(settings, picture):
     """Row 13 of the table.  0 when it doesn't apply."""
     # 13: "a pixel outside Min to Max"
@@ -355,11 +381,25 @@ def refusal_1_to_11(width, height, picture, settings, map_buffer):
             or refusal_of_map(settings, map_buffer))
 
 
-def refusal_1_to_13(width, height, picture, settings, map_buffer, scratch):
-    """"Prepare and enhance: 1 to 14 upward."  Order 2: "Strike 14"; order 3
-    puts 31 behind 9.  0 when none applies."""
+def refusal_1_to_12(width, height, picture, settings, map_buffer, scratch):
+    """Rows 1 to 12 of the table, with 31 behind 9.  0 when none applies."""
     return (refusal_1_to_11(width, height, picture, settings, map_buffer)
-            or refusal_of_scratch(settings, scratch)
+            or refusal_of_scratch(settings, scratch))
+
+
+def refusal_of_prepare(width, height, picture, settings, map_buffer, scratch, looks):
+    """"Prepare and enhance: 1 to 14 upward."  Order 2: "Strike 14"; order 3
+    puts 31 behind 9, and order 7 puts 32 "straight after 12".  Like 11 to 13,
+    32 is given at factor 1.0 and with clip off too.  0 when none applies."""
+    return (refusal_1_to_12(width, height, picture, settings, map_buffer, scratch)
+            or refusal_of_looks(settings, looks)
+            or refusal_of_pixels(settings, picture))
+
+
+def refusal_of_enhance(width, height, picture, settings, map_buffer, scratch):
+    """Those of prepare without 32: order 7 gives its list to prepare and
+    mapping alone.  0 when none applies."""
+    return (refusal_1_to_12(width, height, picture, settings, map_buffer, scratch)
             or refusal_of_pixels(settings, picture))
 
 
@@ -405,23 +445,36 @@ def lay_down(maps, settings, map_buffer, scratch):
         scratch[i] = 0
 
 
-def prepare(film_number, width, height, picture, settings, map_buffer, scratch):
+def lay_looks(entries, settings, looks):
+    """Order 7: "one more lent list, in which each tile in row order has two
+    entries"; "at factor 1.0 the list keeps its contents, as do entries behind
+    the last tile." """
+    if factor_is_one(settings.clip):
+        return
+    for i, value in enumerate(entries):
+        looks[i] = value
+
+
+def prepare(film_number, width, height, picture, settings, map_buffer, scratch, looks):
     """"**prepare** (make the tile mappings of a film)".  "It returns the map
     record and a footer record".  A refusal changes nothing."""
-    refusal = refusal_1_to_13(width, height, picture, settings, map_buffer, scratch)
+    refusal = refusal_of_prepare(width, height, picture, settings, map_buffer, scratch, looks)
     if refusal:
         return refusal
-    lay_down(all_mappings(width, height, picture, settings), settings, map_buffer, scratch)
+    maps, entries = all_mappings(width, height, picture, settings)
+    lay_down(maps, settings, map_buffer, scratch)
+    lay_looks(entries, settings, looks)
     return kept_record(film_number, width, height, settings), footer_of(width, height, settings)
 
 
 def enhance(width, height, picture, settings, map_buffer, scratch):
     """"Enhance: the same buffers and footer, and the picture rendered. Factor
     1.0: nothing changes." """
-    refusal = refusal_1_to_13(width, height, picture, settings, map_buffer, scratch)
+    refusal = refusal_of_enhance(width, height, picture, settings, map_buffer, scratch)
     if refusal:
         return refusal
-    lay_down(all_mappings(width, height, picture, settings), settings, map_buffer, scratch)
+    maps, _ = all_mappings(width, height, picture, settings)
+    lay_down(maps, settings, map_buffer, scratch)
     if not factor_is_one(settings.clip):
         for y in range(height):
             for x in range(width):
@@ -539,12 +592,14 @@ def refusal_1_to_30(width, height, picture, settings):
 # program.  The calls above ask for 1 to 10 again, which don't apply any more,
 # and go on with 11.
 
-def prepare_bytes(film_number, width, height, picture, settings, map_buffer, scratch):
-    """Prepare: "byte pictures in place", "mappings kept as bytes"."""
+def prepare_bytes(film_number, width, height, picture, settings, map_buffer, scratch, looks):
+    """Prepare: "byte pictures in place", "mappings kept as bytes".  "Later rule
+    changes reach it unless they say not": order 7's list is lent here too, and
+    is no list of bytes."""
     refusal = refusal_1_to_30(width, height, picture, settings)
     if refusal:
         return refusal
-    return prepare(film_number, width, height, picture, settings, map_buffer, scratch)
+    return prepare(film_number, width, height, picture, settings, map_buffer, scratch, looks)
 
 
 def enhance_bytes(width, height, picture, settings, map_buffer, scratch):
@@ -593,15 +648,17 @@ def refusal_of_count(width, height, picture, settings, counts):
             or refusal_of_pixels(settings, picture))
 
 
-def refusal_of_mapping(width, height, settings, counts, map_buffer, scratch):
+def refusal_of_mapping(width, height, settings, counts, map_buffer, scratch, looks):
     """"mapping gives 1, 3 to 12 with 31 after 9, then 33, then 34": there is
-    no picture to refuse.  As 11 to 13 are, 33 and 34 are given at factor 1.0
-    and with clip off too.  0 when none applies."""
+    no picture to refuse.  Order 7 puts 32 "straight after 12".  As 11 to 13
+    are, 32, 33 and 34 are given at factor 1.0 and with clip off too.  0 when
+    none applies."""
     return (refusal_of_sides(width, height)
             or refusal_3_to_9(width, height, settings)
             or refusal_of_clip(settings.clip)
             or refusal_of_map(settings, map_buffer)
             or refusal_of_scratch(settings, scratch)
+            or refusal_of_looks(settings, looks)
             or refusal_of_counts(settings, counts)
             or refusal_of_sums(width, height, settings, counts))
 
@@ -619,17 +676,21 @@ def count(width, height, picture, settings, counts):
     return 0
 
 
-def map_counts(film_number, width, height, settings, counts, map_buffer, scratch):
+def map_counts(film_number, width, height, settings, counts, map_buffer, scratch, looks):
     """"mapping, which makes the mappings and footer from those counts", the
     counts "which mapping doesn't change".  "Mapping leaves map buffer and
-    scratch as prepare does, at factor 1.0 too."  Answers what prepare
-    answers."""
-    refusal = refusal_of_mapping(width, height, settings, counts, map_buffer, scratch)
+    scratch as prepare does, at factor 1.0 too."  So it does order 7's list.
+    Answers what prepare answers."""
+    refusal = refusal_of_mapping(width, height, settings, counts, map_buffer, scratch, looks)
     if refusal:
         return refusal
     bins = bin_count(settings.bins)
     maps = []
+    entries = []
     for k, tile in enumerate(tiles_of(width, height, settings)):
-        maps.extend(tile_mapping(counts[k * bins:(k + 1) * bins], settings, pixels_of(tile)))
+        mapping, pair = tile_mapping(counts[k * bins:(k + 1) * bins], settings, pixels_of(tile))
+        maps.extend(mapping)
+        entries.extend(pair)
     lay_down(maps, settings, map_buffer, scratch)
+    lay_looks(entries, settings, looks)
     return kept_record(film_number, width, height, settings), footer_of(width, height, settings)

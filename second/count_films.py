@@ -15,7 +15,7 @@ import films
 
 FILM = films.COLUMNS["F"] + ["countslen"]
 MAPPING = ("no film width height case countslen gainat gain lossat loss step across down bins min max "
-           "clip factor maplen scratchlen fillbase fillmod each turns").split()
+           "clip factor maplen scratchlen fillbase fillmod looklen each turns").split()
 
 WORD = 2 ** 32
 
@@ -33,13 +33,19 @@ def answer_line(text, no, answer):
         text.line("P", no, 0, *(films.footer_fields(answer[1]) + films.record_fields(answer[0])))
 
 
-def run_mapping(text, row, counts, maps, scratch):
+def lent(row):
+    """Map, scratch and the list of order 7 as they are lent to the first mapping or prepare."""
+    return films.map_fill(row), films.scratch_fill(row), films.looks_fill(row)
+
+
+def run_mapping(text, row, counts, maps, scratch, looks):
     """One mapping over the lent counts."""
     answer = clahe.map_counts(row["film"], row["width"], row["height"], films.settings_of(row),
-                              counts, maps, scratch)
+                              counts, maps, scratch, looks)
     answer_line(text, row["no"], answer)
-    text.digests("m", row["no"], counts, maps, scratch)
+    text.digests("m", row["no"], counts, maps, scratch, looks)
     text.small("q", row["no"], maps)
+    text.small("x", row["no"], looks)
     return answer
 
 
@@ -51,16 +57,16 @@ def run_film(text, row):
     text.digests("c", no, picture, counts)
     text.small("n", no, counts)
 
-    maps, scratch = films.map_fill(row), films.scratch_fill(row)
-    mapped = run_mapping(text, row, counts, maps, scratch)
+    by_counts = lent(row)
+    mapped = run_mapping(text, row, counts, *by_counts)
 
-    other_maps, other_scratch = films.map_fill(row), films.scratch_fill(row)
-    prepared = clahe.prepare(row["film"], width, height, picture, settings, other_maps, other_scratch)
+    by_pixels = lent(row)
+    prepared = clahe.prepare(row["film"], width, height, picture, settings, *by_pixels)
     answer_line(text, no, prepared)
-    text.digests("p", no, picture, other_maps, other_scratch)
+    text.digests("p", no, picture, *by_pixels)
     if not isinstance(mapped, int) and not isinstance(prepared, int):
-        text.line("K", no, 1 if (films.digest(maps) == films.digest(other_maps)
-                                 and films.digest(scratch) == films.digest(other_scratch)) else 0)
+        alike = all(films.digest(a) == films.digest(b) for a, b in zip(by_counts, by_pixels))
+        text.line("K", no, 1 if alike else 0)
 
 
 def run_turns(text, row, turns, case):
@@ -74,9 +80,9 @@ def run_turns(text, row, turns, case):
     if row["step"]:
         for at in range(0, len(counts), row["step"]):
             counts[at] = (counts[at] + row["each"]) % WORD
-    maps, scratch = films.map_fill(row), films.scratch_fill(row)
+    buffers = lent(row)
     for clip, factor in [(row["clip"], row["factor"])] + turns:
-        run_mapping(text, dict(row, clip=clip, factor=factor), counts, maps, scratch)
+        run_mapping(text, dict(row, clip=clip, factor=factor), counts, *buffers)
 
 
 def run():

@@ -22,7 +22,7 @@ SMALL = 64
 
 COLUMNS = {
     "F": ("no film width height kind length lo hi seed pokeat pokeval across down bins min max clip "
-          "factor maplen scratchlen fillbase fillmod").split(),
+          "factor maplen scratchlen fillbase fillmod looklen").split(),
     "D": ("no film width height case outlen left top field value "
           "pixat pixval mapat mapval").split(),
     "R": "no target count".split(),
@@ -128,6 +128,11 @@ def scratch_fill(row):
     return [1 + i * 5 % 1000 for i in range(row["scratchlen"])]
 
 
+def looks_fill(row):
+    """The list of order 7 before the first call: entries that 32 bits don't hold."""
+    return [2 ** 40 + i % 1000 for i in range(row["looklen"])]
+
+
 def output_fill(length):
     """The output before draw."""
     return [50000 + i % 1000 for i in range(length)]
@@ -231,15 +236,17 @@ def run_film(text, row, calls=WIDE):
     no, width, height = row["no"], row["width"], row["height"]
     settings = settings_of(row)
     picture, maps, scratch = calls.lent(film(row)), calls.lent(map_fill(row)), scratch_fill(row)
-    prepared = calls.prepare(row["film"], width, height, picture, settings, maps, scratch)
+    looks = looks_fill(row)
+    prepared = calls.prepare(row["film"], width, height, picture, settings, maps, scratch, looks)
     record = record_of(record_numbers(row), row)
     if isinstance(prepared, int):
         text.line("P", no, prepared)
     else:
         record = prepared[0]
         text.line("P", no, 0, *(footer_fields(prepared[1]) + record_fields(record)))
-    text.digests("p", no, picture, maps, scratch)
+    text.digests("p", no, picture, maps, scratch, looks)
     text.small("m", no, maps)
+    text.small("x", no, looks)
 
     output = calls.lent(output_fill(row["length"]))
     drawn = calls.draw(row["film"], width, height, picture, settings, record,
@@ -268,7 +275,7 @@ def run_draw(text, row, films, calls=WIDE):
     first = WIDE if row["field"] == WIDE_RECORD else calls
     picture, maps, scratch = first.lent(film(case)), first.lent(map_fill(case)), scratch_fill(case)
     prepared = first.prepare(case["film"], case["width"], case["height"], picture, settings,
-                             maps, scratch)
+                             maps, scratch, looks_fill(case))
     picture, maps = calls.lent(picture), calls.lent(maps)
     numbers = record_numbers(case)
     if row["field"] < RECORD_FIELDS:

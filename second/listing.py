@@ -1,5 +1,5 @@
 """The listing program of document 01, "Numbers to check by hand", for films of
-any size as document 02's order 6 has them.
+any size as document 02's order 6 has them, and with the looks of its order 7.
 
 As a function, bytes -> bytes; as a program, standard input -> standard output.
 """
@@ -33,7 +33,8 @@ def refused(number):
 def listing(data):
     """The listing of the PGM bytes: "First line: width, height, grid across,
     grid down, bins, Min, Max, L. Then a line per tile: row, column, E, the
-    mapping." """
+    mapping."  Order 7, of the number of looks: "The listing gets it as a new
+    field after E." """
     # "a longer input is 22 before all else"
     if len(data) > MOST_BYTES:
         return refused(22)
@@ -54,17 +55,16 @@ def listing(data):
         return refused(answer)
     settings = clahe.Settings(GRID, GRID, BINS, 0, maxval, FACTOR_TWO)
     maps = [0] * (GRID * GRID * BINS)
-    answer = clahe.prepare(0, width, height, picture, settings, maps, [0] * BINS)
+    looks = [0] * (2 * GRID * GRID)
+    answer = clahe.prepare(0, width, height, picture, settings, maps, [0] * BINS, looks)
     if isinstance(answer, int):
         return refused(answer)
     # Order 6: "the footer shows those of tile 0, 0", and so does the first
-    # line; each tile's E stands above its own L.
+    # line; each tile's E, which prepare's list has before its looks, stands
+    # above its own L.
     text = line([width, height, GRID, GRID, BINS, 0, maxval, answer[1].limit])
-    for k, tile in enumerate(clahe.tiles_of(width, height, settings)):
-        counts = clahe.tile_counts(picture, width, tile, settings)
-        limit = clahe.limit_of(FACTOR_TWO, clahe.pixels_of(tile), BINS)
-        text += line([k // GRID, k % GRID, clahe.excess_of(counts, limit)]
-                     + maps[k * BINS:(k + 1) * BINS])
+    for k in range(GRID * GRID):
+        text += line([k // GRID, k % GRID] + looks[2 * k:2 * k + 2] + maps[k * BINS:(k + 1) * BINS])
     return text.encode("ascii")
 
 

@@ -1,6 +1,7 @@
 """The worked numbers of document 01, "Numbers to check by hand", one by one,
 as document 02's orders 2 and 3 change them, the profile of its order 1, the
-counting and mapping of its order 5, and the films of any size of its order 6.
+counting and mapping of its order 5, the films of any size of its order 6, and
+the looks of its order 7.
 
 Run: python3 second/test_worked.py   (prints the number of checks)
 """
@@ -35,7 +36,7 @@ def prepared(width, height, across, down, bins, low, high, clip, grey=0, film=7)
     b = clahe.bin_count(bins)
     return clahe.prepare(film, width, height, [grey] * (width * height),
                          clahe.Settings(across, down, bins, low, high, clip),
-                         [9999] * (across * down * b + 3), [8888] * (b + 3))
+                         [9999] * (across * down * b + 3), [8888] * (b + 3), [7777] * (2 * across * down + 3))
 
 
 def limits():
@@ -69,25 +70,196 @@ def limits():
 
 def clips():
     """"B 4, L 6, counts 16,0,0,0: result 6,4,3,3; for range 0..15 the mapping
-    is 5,9,12,15." and the further rows of counts."""
-    same(clahe.clipped([16, 0, 0, 0], 6), [6, 4, 3, 3])
+    is 5,9,12,15." and the further rows of counts; with each the looks of
+    order 7."""
+    same(clahe.clipped([16, 0, 0, 0], 6), ([6, 4, 3, 3], 5))
     same(clahe.mapping_of([6, 4, 3, 3], 0, 15, 16), [5, 9, 12, 15])
-    same(clahe.clipped([9, 5, 1, 1], 6), [6, 6, 2, 2])
-    same(clahe.clipped([11, 5, 0, 0], 6), [6, 6, 3, 1])
-    same(clahe.clipped([19, 6, 0, 0], 7), [7, 7, 6, 5])
-    same(sum(clahe.clipped([19, 6, 0, 0], 7)), 25)
-    same(clahe.clipped([16, 0, 0, 0], 4), [4, 4, 4, 4])
+    same(clahe.clipped([9, 5, 1, 1], 6), ([6, 6, 2, 2], 4))
+    same(clahe.clipped([11, 5, 0, 0], 6), ([6, 6, 3, 1], 4))
+    same(clahe.clipped([19, 6, 0, 0], 7), ([7, 7, 6, 5], 8))
+    same(sum(clahe.clipped([19, 6, 0, 0], 7)[0]), 25)
+    same(clahe.clipped([16, 0, 0, 0], 4), ([4, 4, 4, 4], 4))
     # Order 2: L 5 where N is 17 and B is 4, which L 4 could not hold.
-    same(clahe.clipped([17, 0, 0, 0], 5), [5, 4, 4, 4])
+    same(clahe.clipped([17, 0, 0, 0], 5)[0], [5, 4, 4, 4])
     # The same 16,0,0,0 at L 6 through prepare: a flat film with tiles of 4 by
-    # 4, factor 1.5.
+    # 4, factor 1.5.  E is 10.
     maps = [77] * 18
     scratch = [88] * 6
+    looks = [99] * 10
     answer = clahe.prepare(5, 8, 8, [0] * 64, clahe.Settings(2, 2, 4, 0, 15, f32(1.5)),
-                           maps, scratch)
+                           maps, scratch, looks)
     same(answer[1].limit, 6)
     same(maps, [5, 9, 12, 15] * 4 + [77, 77])
     same(scratch, [0, 0, 0, 0, 88, 88])
+    same(looks, [10, 5] * 4 + [99, 99])
+
+
+def every_counts(bins, total):
+    """All counts of so many bins that add up to the total."""
+    if bins == 1:
+        yield [total]
+        return
+    for first in range(total + 1):
+        for rest in every_counts(bins - 1, total - first):
+            yield [first] + rest
+
+
+def leftover(counts, limit):
+    """r, "What is left of E": no bin takes more of the even share than it has
+    room for."""
+    excess = sum(count - limit for count in counts if count > limit)
+    share = excess // len(counts)
+    return excess - sum(min(share, limit - count) for count in counts if count <= limit)
+
+
+def looked_at(counts, limit):
+    """The bins that rule 4 of document 01 looks at, one by one, in the words of
+    the rule: a list of (bin, whether it gained one) in the order of the
+    walk."""
+    left, bins = leftover(counts, limit), len(counts)
+    share = sum(count - limit for count in counts if count > limit) // bins
+    room = [limit - min(limit, count + share) for count in counts]
+    seen = []
+    start = 0
+    while left > 0:
+        step = bins // left if left <= bins else 1
+        b = start
+        while b < bins and left > 0:
+            gains = room[b] > 0
+            seen.append((b, gains))
+            if gains:
+                room[b] -= 1
+                left -= 1
+            b += step
+        start = (start + 1) % bins
+    return seen
+
+
+def sound(counts, limit):
+    """Whether the looks of these counts are those of the rule, and within the
+    bound of order 7."""
+    bins, left, seen = len(counts), leftover(counts, limit), looked_at(counts, limit)
+    result, looks = clahe.clipped(counts, limit)
+    return (looks == len(seen)
+            and left == sum(gains for _, gains in seen)
+            and looks <= left * bins * (bins + 1) // 2
+            and (looks == 0) == (left == 0) == (clahe.excess_of(counts, limit) == 0)
+            and sum(result) == sum(counts) and max(result) <= limit)
+
+
+def walks():
+    """Order 7: "the number of looks that the rule in 01 takes, a look at a full
+    bin counted too"; "With r units left at the start of the walk and B bins it
+    is 0 when r is 0 and never more than r x B x (B + 1) / 2." """
+    # The walks of the worked numbers, bin by bin.
+    full, gain = False, True
+    same(looked_at([16, 0, 0, 0], 6), [(0, full), (1, gain), (2, gain), (3, gain), (1, gain)])
+    same(looked_at([9, 5, 1, 1], 6), [(0, full), (1, gain), (2, gain), (3, gain)])
+    same(looked_at([11, 5, 0, 0], 6), [(0, full), (2, gain), (1, full), (2, gain)])
+    same(looked_at([19, 6, 0, 0], 7), [(0, full), (1, full), (2, gain), (3, gain), (1, full), (2, gain), (3, gain),
+                                       (2, gain)])
+    same(looked_at([16, 0, 0, 0], 4), [(0, full), (1, gain), (2, gain), (3, gain)])
+    # Nothing above L, and so no walk: also where every bin is full.
+    for even in ([4, 4, 4, 4], [0, 0, 0, 0], [4, 0, 3, 4], [1, 1]):
+        same(clahe.clipped(even, 4), (even, 0))
+    # r 1: the step is B, and every start looks at one bin; what the steps
+    # pass over is not looked at.
+    same(clahe.clipped([5] + [0] * 99, 4), ([4, 1] + [0] * 98, 2))
+    same(clahe.clipped([4] * 99 + [5, 0], 4), ([4] * 100 + [1], 101))
+    # r 2 of 8 bins: the first start steps to bin 4, where the walk breaks off
+    # in the middle.
+    same(looked_at([0, 0, 0, 0, 0, 0, 0, 6], 4), [(0, gain), (4, gain)])
+    same(clahe.clipped([0, 0, 0, 0, 0, 0, 0, 6], 4), ([1, 0, 0, 0, 1, 0, 0, 4], 2))
+    # Two bins: the starts go round by 2, 1, 2, 1 looks; with r 1 the step is
+    # 2, and a start at bin 0 looks at that alone.
+    same(clahe.clipped([24, 0], 12), ([12, 12], 9))
+    same(looked_at([24, 0], 12), [(0, full), (1, gain), (1, gain)] * 3)
+    same(clahe.clipped([12, 0], 6), ([6, 6], 5))
+    same(looked_at([12, 0], 6), [(0, full), (1, gain), (1, gain), (0, full), (1, gain)])
+    # Of a few bins all counts that the limit can hold.  r is 0 only where E
+    # is: a bin above L takes nothing of the even share.
+    for bins, highest in ((2, 9), (3, 6), (4, 4), (5, 3)):
+        for limit in range(1, highest + 1):
+            same(all(sound(counts, limit) for total in range(bins * limit + 1)
+                     for counts in every_counts(bins, total)), True)
+
+
+def listed():
+    """Order 7: what the list holds after prepare and mapping, and the refusal
+    32, "this list is shorter than twice the number of tiles, straight after
+    12"."""
+    settings = clahe.Settings(2, 2, 4, 0, 15, f32(2.0))
+    counts = [4, 0, 0, 0, 1, 1, 1, 1, 0, 0, 0, 4, 2, 0, 0, 2]
+
+    def after(clip, length, call="prepare", **changed):
+        """The answer's number and the list, lent with so many entries.  A
+        refusal leaves all that was lent."""
+        looks, asked = list(range(100, 100 + length)), settings._replace(clip=clip)
+        maps, scratch = [9] * changed.get("room", 16), [8] * changed.get("scratch", 4)
+        before = list(maps), list(scratch), list(looks)
+        picture = changed.get("picture", WORKED_FILM)
+        if call == "prepare":
+            answer = clahe.prepare(5, 4, 4, picture, asked, maps, scratch, looks)
+        else:
+            answer = clahe.map_counts(5, 4, 4, asked, changed.get("counts", counts), maps, scratch, looks)
+        if isinstance(answer, int):
+            same((maps, scratch, looks), before)
+            return answer, looks
+        return 0, looks
+
+    for call in ("prepare", "mapping"):
+        # "each tile in row order has two entries: E, and the number of looks";
+        # "entries behind the last tile" keep their contents.
+        same(after(f32(2.0), 8, call), (0, [2, 3, 0, 0, 2, 2, 0, 0]))
+        same(after(f32(2.0), 11, call), (0, [2, 3, 0, 0, 2, 2, 0, 0, 108, 109, 110]))
+        # All four bins end full at L 1, and E is 3, 0, 3 and 2.
+        same(after(0x3F800001, 9, call), (0, [3, 4, 0, 0, 3, 3, 2, 3, 108]))
+        # "With clip off both are 0; at factor 1.0 the list keeps its contents".
+        same(after(None, 9, call), (0, [0] * 8 + [108]))
+        same(after(f32(1.0), 9, call), (0, list(range(100, 109))))
+        for clip in (f32(2.0), None, f32(1.0)):
+            for short in (7, 4, 1, 0):
+                same(after(clip, short, call)[0], 32)
+            # Behind 11 and 12.
+            same(after(clip, 7, call, room=15, scratch=3)[0], 11)
+            same(after(clip, 7, call, room=15)[0], 11)
+            same(after(clip, 7, call, scratch=3)[0], 12)
+        same(after(0x7FC00000, 7, call)[0], 10)
+    for clip in (f32(2.0), None, f32(1.0)):
+        # Before 13, and before 33 and 34.
+        same(after(clip, 7, picture=[16] * 16)[0], 32)
+        same(after(clip, 8, picture=[16] * 16)[0], 13)
+        same(after(clip, 7, "mapping", counts=counts[:15])[0], 32)
+        same(after(clip, 8, "mapping", counts=counts[:15])[0], 33)
+        same(after(clip, 7, "mapping", counts=[5] + counts[1:])[0], 32)
+        same(after(clip, 8, "mapping", counts=[5] + counts[1:])[0], 34)
+    # Twice across times down, not a sum of the two, up to the largest grid.
+    for across, down in ((3, 4), (16, 2), (16, 16)):
+        asked = clahe.Settings(across, down, 2, 0, 15, f32(2.0))
+        for length in (2 * across * down - 1, 2 * across * down):
+            answer = clahe.prepare(5, 16, 16, [3] * 256, asked, [0] * 512, [0] * 2, [0] * length)
+            same(answer == 32, length < 2 * across * down)
+    # Order 6: "N and L are each tile's own", and so is E: N 1, 2, 2 and 4 at L
+    # 1, 1, 1 and 3; by the L of tile 0, 0 the last would have 3.
+    looks = [9] * 8
+    clahe.prepare(4, 3, 3, [0] * 9, clahe.Settings(2, 2, 2, 0, 15, f32(1.5)), [0] * 8, [0] * 2, looks)
+    same(looks, [0, 0, 1, 2, 1, 2, 1, 2])
+    # Order 2: E stands above L 5, rounded up; above 4 it would be 13.
+    clahe.prepare(4, 34, 2, [0] * 68, clahe.Settings(2, 2, 4, 0, 15, f32(1.125)), [0] * 16, [0] * 4, looks)
+    same(looks, [12, 4] * 4)
+    # The byte profile: 30 before 11, 12 and 32, behind which nothing else
+    # stands there, since every byte lies in 0 to 255.
+    looks = [5] * 130
+    picture = bytearray(i * 37 % 256 for i in range(24 * 16))
+    wide = [5] * 130
+    made = clahe.prepare(3, 24, 16, list(picture), profile(), [0] * 4096, [0] * 64, wide)
+    same(clahe.prepare_bytes(3, 24, 16, picture, profile(), bytearray(4096), [0] * 64, looks), made)
+    same(looks, wide)
+    for length, room, scratch, changed, wanted in (
+            (127, 4096, 64, {}, 32), (127, 4096, 63, {}, 12), (127, 4095, 64, {}, 11), (127, 4096, 64, {"max": 254}, 30),
+            (127, 4096, 64, {"clip": f32(1.0)}, 32), (127, 4096, 64, {"clip": None}, 32), (128, 4096, 63, {}, 12)):
+        same(clahe.prepare_bytes(3, 24, 16, picture, profile(**changed), bytearray(room), [0] * scratch, [5] * length),
+             wanted)
 
 
 def bins():
@@ -173,22 +345,22 @@ def footers():
 WORKED_FILM = [0, 0, 0, 4, 0, 0, 8, 12, 15, 15, 0, 0, 15, 15, 15, 15]
 WORKED_FILE = b"P5\n4 4\n15\n" + bytes(WORKED_FILM)
 WORKED_TEXT = (b"4\t4\t2\t2\t4\t0\t15\t2\n"
-               b"0\t0\t2\t7\t11\t15\t15\n"
-               b"0\t1\t0\t3\t7\t11\t15\n"
-               b"1\t0\t2\t3\t3\t7\t15\n"
-               b"1\t1\t0\t7\t7\t7\t15\n")
+               b"0\t0\t2\t3\t7\t11\t15\t15\n"
+               b"0\t1\t0\t0\t3\t7\t11\t15\n"
+               b"1\t0\t2\t2\t3\t3\t7\t15\n"
+               b"1\t1\t0\t0\t7\t7\t7\t15\n")
 
 
 def listings():
-    """The listing example, its rendered pixel ("The rendered pixel x 2, y 2
-    is 5.") and the listing's refusals."""
+    """The listing example with order 7's looks behind E, its rendered pixel
+    ("The rendered pixel x 2, y 2 is 5.") and the listing's refusals."""
     same(listing.listing(WORKED_FILE), WORKED_TEXT)
     settings = clahe.Settings(2, 2, 4, 0, 15, f32(2.0))
     picture = list(WORKED_FILM)
     maps = [0] * 16
     same(clahe.enhance(4, 4, picture, settings, maps, [1] * 4).limit, 2)
     same(picture[2 * 4 + 2], 5)
-    record, _ = clahe.prepare(1, 4, 4, WORKED_FILM, settings, maps, [1] * 4)
+    record, _ = clahe.prepare(1, 4, 4, WORKED_FILM, settings, maps, [1] * 4, [1] * 8)
     output = [0]
     same(clahe.draw(1, 4, 4, WORKED_FILM, settings, record, (2, 2, 1, 1), maps, output), 0)
     same(output, [5])
@@ -220,10 +392,10 @@ def listings():
     # the first line has that of tile 0, 0.
     same(listing.listing(b"P5\n5 3\n15\n" + bytes([0, 0, 4, 4, 4, 0, 8, 8, 8, 8, 0, 0, 15, 8, 8])),
          b"5\t3\t2\t2\t4\t0\t15\t1\n"
-         b"0\t0\t1\t7\t15\t15\t15\n"
-         b"0\t1\t2\t5\t10\t15\t15\n"
-         b"1\t0\t1\t7\t11\t15\t15\n"
-         b"1\t1\t2\t2\t5\t12\t15\n")
+         b"0\t0\t1\t2\t7\t15\t15\t15\n"
+         b"0\t1\t2\t2\t5\t10\t15\t15\n"
+         b"1\t0\t1\t2\t7\t11\t15\t15\n"
+         b"1\t1\t2\t3\t2\t5\t12\t15\n")
 
 
 def files():
@@ -252,7 +424,7 @@ def byte_films():
     wide = list(picture)
 
     def answer(settings, room=16384):
-        return clahe.prepare_bytes(3, 24, 16, picture, settings, bytearray(room), [1] * 256)
+        return clahe.prepare_bytes(3, 24, 16, picture, settings, bytearray(room), [1] * 256, [1] * 128)
 
     for inside in (0, 64, 128, 256):
         same(isinstance(answer(profile(bins=inside)), tuple), True)
@@ -274,9 +446,10 @@ def byte_films():
     same(answer(profile(), 4095), 11)
     for clip in (None, f32(1.0), f32(3.0)):
         settings, maps, bytes_maps = profile(clip=clip), [9] * 4100, bytearray([9] * 4100)
-        made = clahe.prepare(3, 24, 16, wide, settings, maps, [1] * 64)
-        same(clahe.prepare_bytes(3, 24, 16, picture, settings, bytes_maps, [1] * 64), made)
-        same(list(bytes_maps), maps)
+        looks, bytes_looks = [9] * 130, [9] * 130
+        made = clahe.prepare(3, 24, 16, wide, settings, maps, [1] * 64, looks)
+        same(clahe.prepare_bytes(3, 24, 16, picture, settings, bytes_maps, [1] * 64, bytes_looks), made)
+        same((list(bytes_maps), bytes_looks), (maps, looks))
         output, bytes_output, window = [5] * 12, bytearray(12), (2, 3, 4, 3)
         same(clahe.draw(3, 24, 16, wide, settings, made[0], window, maps, output), 0)
         same(clahe.draw_bytes(3, 24, 16, picture, settings, made[0], window, bytes_maps, bytes_output), 0)
@@ -297,12 +470,12 @@ def counts():
     # the mappings' order"; the clip is not asked.
     same(clahe.count(4, 4, WORKED_FILM, settings, lent), 0)
     same(lent, [4, 0, 0, 0, 1, 1, 1, 1, 0, 0, 0, 4, 2, 0, 0, 2, 7, 7])
-    kept, maps, scratch = list(lent), [9] * 19, [8] * 6
-    for clip in (f32(2.0), f32(1.0), None, 0x3F800001, f32(1024.0), f32(2.0)):
-        asked, own_maps, own_scratch = settings._replace(clip=clip), list(maps), list(scratch)
-        same(clahe.map_counts(5, 4, 4, asked, lent, maps, scratch),
-             clahe.prepare(5, 4, 4, WORKED_FILM, asked, own_maps, own_scratch))
-        same((lent, maps, scratch), (kept, own_maps, own_scratch))
+    kept, maps, scratch, looks = list(lent), [9] * 19, [8] * 6, [7] * 10
+    for clip in (f32(2.0), f32(1.0), None, 0x3F800001, f32(1.0), f32(1024.0), f32(2.0)):
+        asked, own_maps, own_scratch, own_looks = settings._replace(clip=clip), list(maps), list(scratch), list(looks)
+        same(clahe.map_counts(5, 4, 4, asked, lent, maps, scratch, looks),
+             clahe.prepare(5, 4, 4, WORKED_FILM, asked, own_maps, own_scratch, own_looks))
+        same((lent, maps, scratch, looks), (kept, own_maps, own_scratch, own_looks))
     # Counting: 1 to 9, 31, 33, 13, and never 10.
     same(clahe.count(4, 0, WORKED_FILM, settings, []), 1)
     same(clahe.count(4, 4, WORKED_FILM[1:], settings, []), 2)
@@ -310,30 +483,31 @@ def counts():
     same(clahe.count(4, 4, [16] * 16, settings, lent[:15]), 33)
     same(clahe.count(4, 4, [16] * 16, settings, lent), 13)
     same(clahe.count(4, 4, WORKED_FILM, settings._replace(bins=0, max=255), [0] * 511), 33)
-    # Mapping: 1, 3 to 9, 31, 10, 11, 12, 33, 34, at factor 1.0 and off too.
+    # Mapping: 1, 3 to 9, 31, 10, 11, 12, 32, 33, 34, at factor 1.0 and off too.
     wrong = [5] + lent[1:]
-    same(clahe.map_counts(5, 4, 0, settings, [], [], []), 1)
-    same(clahe.map_counts(5, 4, 1, settings, [], [], []), 6)
-    same(clahe.map_counts(5, 4, 4, settings._replace(bins=17), [], [], []), 31)
-    same(clahe.map_counts(5, 4, 4, settings, [], [], []), 10)
+    same(clahe.map_counts(5, 4, 0, settings, [], [], [], []), 1)
+    same(clahe.map_counts(5, 4, 1, settings, [], [], [], []), 6)
+    same(clahe.map_counts(5, 4, 4, settings._replace(bins=17), [], [], [], []), 31)
+    same(clahe.map_counts(5, 4, 4, settings, [], [], [], []), 10)
     for clip in (f32(2.0), f32(1.0), None):
         asked = settings._replace(clip=clip)
-        same(clahe.map_counts(5, 4, 4, asked, [], [9] * 15, []), 11)
-        same(clahe.map_counts(5, 4, 4, asked, [], maps, [8] * 3), 12)
-        same(clahe.map_counts(5, 4, 4, asked, wrong[:15], maps, scratch), 33)
-        same(clahe.map_counts(5, 4, 4, asked, wrong, maps, scratch), 34)
+        same(clahe.map_counts(5, 4, 4, asked, [], [9] * 15, [], []), 11)
+        same(clahe.map_counts(5, 4, 4, asked, [], maps, [8] * 3, []), 12)
+        same(clahe.map_counts(5, 4, 4, asked, [], maps, scratch, []), 32)
+        same(clahe.map_counts(5, 4, 4, asked, wrong[:15], maps, scratch, looks), 33)
+        same(clahe.map_counts(5, 4, 4, asked, wrong, maps, scratch, looks), 34)
         # A count moved between two tiles keeps the total of all tiles; 2^32
         # more keeps a tile's total in 32 bits.
-        same(clahe.map_counts(5, 4, 4, asked, [3, 0, 0, 0, 2] + lent[5:], maps, scratch), 34)
-        same(clahe.map_counts(5, 4, 4, asked, [4, 2 ** 32 - 1, 1] + lent[3:], maps, scratch), 34)
-        same(isinstance(clahe.map_counts(5, 4, 4, asked, [3, 1] + lent[2:], maps, scratch), tuple), True)
-    same((lent, maps[16:], scratch), (kept, [9] * 3, [0] * 4 + [8] * 2))
+        same(clahe.map_counts(5, 4, 4, asked, [3, 0, 0, 0, 2] + lent[5:], maps, scratch, looks), 34)
+        same(clahe.map_counts(5, 4, 4, asked, [4, 2 ** 32 - 1, 1] + lent[3:], maps, scratch, looks), 34)
+        same(isinstance(clahe.map_counts(5, 4, 4, asked, [3, 1] + lent[2:], maps, scratch, looks), tuple), True)
+    same((lent, maps[16:], scratch, looks[8:]), (kept, [9] * 3, [0] * 4 + [8] * 2, [7] * 2))
     # Bins 0 where the other has 128.
     lent = [0] * 512
     same(clahe.count(4, 4, WORKED_FILM, clahe.Settings(2, 2, 0, 0, 255, None), lent), 0)
     asked = clahe.Settings(2, 2, 128, 0, 255, f32(2.0))
-    same(clahe.map_counts(5, 4, 4, asked, lent, [0] * 512, [0] * 128),
-         clahe.prepare(5, 4, 4, WORKED_FILM, asked, [0] * 512, [0] * 128))
+    same(clahe.map_counts(5, 4, 4, asked, lent, [0] * 512, [0] * 128, [0] * 8),
+         clahe.prepare(5, 4, 4, WORKED_FILM, asked, [0] * 512, [0] * 128, [0] * 8))
 
 
 def axes():
@@ -380,7 +554,7 @@ def sizes():
     picture, flat = [0] * 9, clahe.Settings(2, 2, 2, 0, 15, f32(1.5))
     same([clahe.pixels_of(tile) for tile in clahe.tiles_of(3, 3, flat)], [1, 2, 2, 4])
     maps = [99] * 8
-    record, footer = clahe.prepare(4, 3, 3, picture, flat, maps, [9] * 2)
+    record, footer = clahe.prepare(4, 3, 3, picture, flat, maps, [9] * 2, [9] * 8)
     same(maps, [15, 15, 7, 15, 7, 15, 11, 15])
     same(footer, clahe.Footer(1, f32(1.5), struct.unpack(">Q", struct.pack(">d", 2.0))[0]))
     axis = clahe.Axis([0, 1, 3] + [0] * 14, [0, 2] + [0] * 14)
@@ -408,14 +582,15 @@ def sizes():
     # 34 by each tile's own N: 4 and 6 beside each other, not above.
     asked = clahe.Settings(2, 2, 2, 0, 15, f32(2.0))
     for width, height, wanted in ((5, 4, 0), (4, 5, 34), (4, 4, 34), (6, 4, 34)):
-        answer = clahe.map_counts(1, width, height, asked, [4, 0, 1, 5, 2, 2, 6, 0], [0] * 8, [0] * 2)
+        answer = clahe.map_counts(1, width, height, asked, [4, 0, 1, 5, 2, 2, 6, 0], [0] * 8, [0] * 2, [0] * 8)
         same(0 if isinstance(answer, tuple) else answer, wanted)
     # The byte profile, whose grid is 8 by 8.
     for width, height, wanted in ((8, 8, 0), (9, 15, 0), (100, 37, 0), (7, 8, 5), (8, 7, 6), (7, 7, 5)):
-        answer = clahe.prepare_bytes(3, width, height, bytearray(width * height), profile(), bytearray(4096), [0] * 64)
+        answer = clahe.prepare_bytes(3, width, height, bytearray(width * height), profile(), bytearray(4096), [0] * 64,
+                                     [0] * 128)
         same(0 if isinstance(answer, tuple) else answer, wanted)
-    same(clahe.prepare_bytes(3, 7, 8, bytearray(56), profile(max=254), bytearray(4096), [0] * 64), 5)
-    same(clahe.prepare_bytes(3, 9, 8, bytearray(72), profile(across=9), bytearray(4608), [0] * 64), 30)
+    same(clahe.prepare_bytes(3, 7, 8, bytearray(56), profile(max=254), bytearray(4096), [0] * 64, [0] * 128), 5)
+    same(clahe.prepare_bytes(3, 9, 8, bytearray(72), profile(across=9), bytearray(4608), [0] * 64, [0] * 144), 30)
 
 
 def fitted_place(x, tile, count):
@@ -453,7 +628,7 @@ def fitted():
                 tile = [picture[y * width + x] for y in range(row * tall, row * tall + tall)
                         for x in range(column * wide, column * wide + wide)]
                 counts = [sum(clahe.bin_of(grey, 0, 99, b) == k for grey in tile) for k in range(b)]
-                maps += clahe.tile_mapping(counts, settings, tall * wide)
+                maps += clahe.tile_mapping(counts, settings, tall * wide)[0]
         drawn = []
         for i, grey in enumerate(picture):
             across, down = fitted_place(i % width, wide, settings.across), fitted_place(i // width, tall, settings.down)
@@ -484,6 +659,8 @@ def larges():
 if __name__ == "__main__":
     limits()
     clips()
+    walks()
+    listed()
     bins()
     unreached()
     blends()

@@ -147,7 +147,8 @@ static int begin(struct run *run)
     else
         run->map = calloc(entries, sizeof *run->map);
     run->scratch = calloc(tz_scratch_entries(s) + 1, sizeof *run->scratch);
-    return (run->map == NULL && run->byte_map == NULL) || run->scratch == NULL ? no_memory() : 0;
+    run->looks = calloc(tz_looks_entries(s) + 1, sizeof *run->looks);
+    return (run->map == NULL && run->byte_map == NULL) || run->scratch == NULL || run->looks == NULL ? no_memory() : 0;
 }
 
 /* The writer takes greys of 16 bits. */
@@ -213,6 +214,19 @@ static int write_film(struct run *run, const uint16_t *picture, const tz_sizes *
     return code;
 }
 
+/* The film's mappings, its record and footer, and of each tile its excess and looks. */
+static uint32_t prepare(struct run *run, tz_record *record)
+{
+    const tz_settings *s = &run->settings;
+    if (run->film != NULL)
+        return tzofnadir_prepare_bytes(FILM, run->sizes.width, run->sizes.height, run->film, run->pixels, s,
+                                       run->byte_map, tz_map_entries(s), run->scratch, tz_scratch_entries(s), record,
+                                       &run->footer, run->looks, tz_looks_entries(s));
+    return tzofnadir_prepare(FILM, run->sizes.width, run->sizes.height, run->picture, run->pixels, s, run->map,
+                             tz_map_entries(s), run->scratch, tz_scratch_entries(s), record, &run->footer, run->looks,
+                             tz_looks_entries(s));
+}
+
 static uint32_t enhance_bytes(struct run *run)
 {
     const tz_settings *s = &run->settings;
@@ -233,39 +247,32 @@ static uint32_t enhance_greys(struct run *run)
 
 static int enhance(struct run *run)
 {
+    tz_record record;
     int code = begin(run);
     if (code != 0)
         return code;
-    uint32_t refusal = run->film != NULL ? enhance_bytes(run) : enhance_greys(run);
+    /* enhance is lent no list: what a record says of the tiles is prepare's, of the film as it is */
+    uint32_t refusal = run->task.record != NULL ? prepare(run, &record) : TZ_DONE;
+    if (refusal == TZ_DONE)
+        refusal = run->film != NULL ? enhance_bytes(run) : enhance_greys(run);
     return refusal == TZ_DONE ? write_film(run, run->picture, &run->sizes) : refuse(refusal, run);
 }
 
-static uint32_t draw_bytes(struct run *run, size_t area)
+static uint32_t draw_bytes(struct run *run, const tz_record *record, size_t area)
 {
-    tz_record record;
     const tz_settings *s = &run->settings;
-    uint32_t refusal = tzofnadir_prepare_bytes(FILM, run->sizes.width, run->sizes.height, run->film, run->pixels, s,
-                                               run->byte_map, tz_map_entries(s), run->scratch, tz_scratch_entries(s),
-                                               &record, &run->footer);
-    if (refusal == TZ_DONE)
-        refusal = tzofnadir_draw_bytes(FILM, run->sizes.width, run->sizes.height, run->film, run->pixels, s, &record,
-                                       &run->job->window, run->byte_map, tz_map_entries(s), run->byte_drawn, area);
+    uint32_t refusal = tzofnadir_draw_bytes(FILM, run->sizes.width, run->sizes.height, run->film, run->pixels, s, record,
+                                            &run->job->window, run->byte_map, tz_map_entries(s), run->byte_drawn, area);
     if (refusal == TZ_DONE)
         widen(run->byte_drawn, area, run->drawn);
     return refusal;
 }
 
-static uint32_t draw_greys(struct run *run, size_t area)
+static uint32_t draw_greys(struct run *run, const tz_record *record, size_t area)
 {
-    tz_record record;
     const tz_settings *s = &run->settings;
-    uint32_t refusal = tzofnadir_prepare(FILM, run->sizes.width, run->sizes.height, run->picture, run->pixels, s,
-                                         run->map, tz_map_entries(s), run->scratch, tz_scratch_entries(s), &record,
-                                         &run->footer);
-    if (refusal == TZ_DONE)
-        refusal = tzofnadir_draw(FILM, run->sizes.width, run->sizes.height, run->picture, run->pixels, s, &record,
-                                 &run->job->window, run->map, tz_map_entries(s), run->drawn, area);
-    return refusal;
+    return tzofnadir_draw(FILM, run->sizes.width, run->sizes.height, run->picture, run->pixels, s, record,
+                          &run->job->window, run->map, tz_map_entries(s), run->drawn, area);
 }
 
 static int window(struct run *run)
@@ -283,7 +290,10 @@ static int window(struct run *run)
         run->byte_drawn = calloc(area + 1, sizeof *run->byte_drawn);
     if (run->drawn == NULL || (run->film != NULL && run->byte_drawn == NULL))
         return no_memory();
-    uint32_t refusal = run->film != NULL ? draw_bytes(run, area) : draw_greys(run, area);
+    tz_record record;
+    uint32_t refusal = prepare(run, &record);
+    if (refusal == TZ_DONE)
+        refusal = run->film != NULL ? draw_bytes(run, &record, area) : draw_greys(run, &record, area);
     return refusal == TZ_DONE ? write_film(run, run->drawn, &sizes) : refuse(refusal, run);
 }
 
@@ -341,6 +351,7 @@ static void let_go(struct run *run)
     free(run->map);
     free(run->byte_map);
     free(run->scratch);
+    free(run->looks);
     free(run->drawn);
     free(run->byte_drawn);
     free(run->file);

@@ -27,6 +27,7 @@ struct run {
     uint16_t *map;
     uint8_t *byte_map;
     uint32_t *scratch;
+    uint64_t *looks; /* of each tile, its excess and the looks of its leftover walk */
     uint16_t *drawn; /* the window's pixels */
     uint8_t *byte_drawn;
     uint8_t *file; /* the output */

@@ -7,8 +7,8 @@
 
 #include "sha256.h"
 
-/* All of a record but the two names is shorter than this. */
-#define MOST_WITHOUT_NAMES 2048
+/* All of a record but the two names is shorter than this: of at most 256 tiles two numbers of at most 15 digits each. */
+#define MOST_WITHOUT_NAMES 16384
 
 /* Text that grows in room that is known to be enough. */
 struct text {
@@ -102,6 +102,17 @@ static void add_window(struct text *t, const struct run *run)
         add(t, "  \"window\": null,\n");
 }
 
+/* One of the two numbers of each tile, tiles row by row. */
+static void add_tiles(struct text *t, const struct run *run, const char *what, size_t which, const char *end)
+{
+    /* at factor 1.0 nothing is clipped, and nothing is listed */
+    size_t entries = run->settings.clip && run->settings.factor == 1.0f ? 0 : tz_looks_entries(&run->settings);
+    add(t, "    \"%s\": [", what);
+    for (size_t i = which; i < entries; i += 2)
+        add(t, "%s%llu", i == which ? "" : ", ", (unsigned long long)run->looks[i]);
+    add(t, "]%s\n", end);
+}
+
 char *record_text(const struct run *run, const tz_sizes *sizes, const uint8_t *file, size_t count)
 {
     char digest[SHA256_TEXT];
@@ -117,7 +128,10 @@ char *record_text(const struct run *run, const tz_sizes *sizes, const uint8_t *f
     add_file(&t, "output", run->task.out, digest, count, sizes);
     add_settings(&t, run);
     add_window(&t, run);
-    add(&t, "  \"limit\": %u,\n  \"factor_asked\": %.9g,\n  \"factor_used\": %.17g\n}\n", (unsigned)run->footer.limit,
-        (double)run->footer.asked, run->footer.used);
+    add(&t, "  \"limit\": %u,\n  \"factor_asked\": %.9g,\n  \"factor_used\": %.17g,\n  \"tiles\": {\n",
+        (unsigned)run->footer.limit, (double)run->footer.asked, run->footer.used);
+    add_tiles(&t, run, "excess", 0, ",");
+    add_tiles(&t, run, "looks", 1, "");
+    add(&t, "  }\n}\n");
     return t.at;
 }

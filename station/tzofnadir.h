@@ -32,7 +32,7 @@ extern "C" {
 #endif
 
 /* The edition of this header and of the library, as in the file VERSION. */
-#define TZ_VERSION "2.6.0"
+#define TZ_VERSION "3.7.0"
 
 /* The functions with bodies are compiled into what includes this header. station/structs.c, which is a part of the library,
    says otherwise, and so they have names in it as well. */
@@ -85,6 +85,7 @@ enum tz_refusal {
     TZ_TARGET_SHORT = 27,    /* the caller's target too short */
     TZ_PROFILE = 30,         /* a film of bytes: grid not 8 by 8, range not 0 to 255, or bins not 64, 128 or 256 */
     TZ_BINS_UNREACHED = 31,  /* bins, 0 read as 128, above Max - Min + 1 */
+    TZ_LOOKS_SHORT = 32,     /* list of excesses and looks shorter than 2 x (grid across) x (grid down) */
     TZ_COUNTS_SHORT = 33,    /* counts buffer shorter than (grid across) x (grid down) x B */
     TZ_COUNTS_SUM = 34       /* a tile's counts do not add up to its pixels */
 };
@@ -125,7 +126,7 @@ TZ_FUNCTION const char *tz_refusal_text(uint32_t refusal)
         "There is no refusal of this number.",
         "The settings are outside the byte profile: grid 8 by 8, range 0 to 255, bins 64, 128 or 256.",
         "There are more bins (0 stands for 128) than greys in the range: ask for fewer, on the command line by --bins.",
-        "There is no refusal of this number.",
+        "The list of excesses and looks is shorter than twice the grid across times the grid down.",
         "The counts buffer is shorter than the grid across times the grid down times the bins.",
         "The counts of a tile do not add up to that tile's pixels.",
     };
@@ -192,7 +193,7 @@ uint32_t tz_prepare(uint32_t film, uint32_t width, uint32_t height,
                     uint16_t *map, size_t map_len, uint32_t *scratch, size_t scratch_len,
                     uint32_t *record, float *record_factor, uint32_t *limit, float *asked, double *used,
                     uint32_t column_edges[17], uint32_t column_centres[16],
-                    uint32_t row_edges[17], uint32_t row_centres[16]);
+                    uint32_t row_edges[17], uint32_t row_centres[16], uint64_t *looks, size_t looks_len);
 
 uint32_t tz_enhance(uint32_t width, uint32_t height, uint16_t *picture, size_t picture_len,
                     uint32_t across, uint32_t down, uint32_t bins, uint32_t min, uint32_t max,
@@ -220,7 +221,7 @@ uint32_t tz_map(uint32_t film, uint32_t width, uint32_t height,
                 uint16_t *map, size_t map_len, uint32_t *scratch, size_t scratch_len,
                 uint32_t *record, float *record_factor, uint32_t *limit, float *asked, double *used,
                 uint32_t column_edges[17], uint32_t column_centres[16],
-                uint32_t row_edges[17], uint32_t row_centres[16]);
+                uint32_t row_edges[17], uint32_t row_centres[16], uint64_t *looks, size_t looks_len);
 
 uint32_t tz_prepare_bytes(uint32_t film, uint32_t width, uint32_t height,
                           const uint8_t *picture, size_t picture_len,
@@ -229,7 +230,7 @@ uint32_t tz_prepare_bytes(uint32_t film, uint32_t width, uint32_t height,
                           uint8_t *map, size_t map_len, uint32_t *scratch, size_t scratch_len,
                           uint32_t *record, float *record_factor, uint32_t *limit, float *asked, double *used,
                           uint32_t column_edges[17], uint32_t column_centres[16],
-                          uint32_t row_edges[17], uint32_t row_centres[16]);
+                          uint32_t row_edges[17], uint32_t row_centres[16], uint64_t *looks, size_t looks_len);
 
 uint32_t tz_enhance_bytes(uint32_t width, uint32_t height, uint8_t *picture, size_t picture_len,
                           uint32_t across, uint32_t down, uint32_t bins, uint32_t min, uint32_t max,
@@ -289,6 +290,14 @@ TZ_FUNCTION size_t tz_counts_entries(const tz_settings *s)
     return tz_map_entries(s);
 }
 
+/* Entries of the list of excesses and looks: two for each tile. Never above 512, for the same reason. */
+TZ_FUNCTION size_t tz_looks_entries(const tz_settings *s)
+{
+    size_t across = s->across < TZ_MOST_GRID ? s->across : TZ_MOST_GRID;
+    size_t down = s->down < TZ_MOST_GRID ? s->down : TZ_MOST_GRID;
+    return 2 * across * down;
+}
+
 /* Bytes that hold the written film. Never above those of a film of 4096 by 4096, whatever the sides are: what is larger is
    refused anyway. */
 TZ_FUNCTION size_t tz_write_bytes(uint32_t width, uint32_t height)
@@ -330,18 +339,21 @@ TZ_FUNCTION tz_footer tz_footer_of(uint32_t limit, float asked, double used)
  *
  * Afterwards the first (across x down x bins) entries of `map` are the mappings, tiles row by row, bins upward;
  * the first `bins` entries of `scratch` are 0; all other entries keep their contents. `record` names the film,
- * its size, its settings and its tiles' edges and centres, and `footer` says what clipping did. At factor 1.0 map and
- * scratch stay as they were. Give each film that is open at the same time a number of its own.
+ * its size, its settings and its tiles' edges and centres, and `footer` says what clipping did. The first
+ * (2 x across x down) entries of `looks` are, for each tile, tiles row by row, its excess over its limit and the number of
+ * bins that the leftover walk of the rule looks at, a look at a full bin counted too; with clip off both are 0. At factor
+ * 1.0 map, scratch and list stay as they were. Give each film that is open at the same time a number of its own.
  *
  * A film may have any width from the grid across up and any height from the grid down up (else 5 and 6), to 4096 (1).
  *
- * Sizes: picture_len is width x height; map_len at least tz_map_entries, scratch_len at least tz_scratch_entries.
- * Refusals, the first that applies: 1 to 9 upward, 31, then 10 to 13.
+ * Sizes: picture_len is width x height; map_len at least tz_map_entries, scratch_len at least tz_scratch_entries,
+ * looks_len at least tz_looks_entries.
+ * Refusals, the first that applies: 1 to 9 upward, 31, then 10 to 12, 32, 13.
  */
 TZ_FUNCTION uint32_t tzofnadir_prepare(uint32_t film, uint32_t width, uint32_t height,
                                        const uint16_t *picture, size_t picture_len, const tz_settings *s,
                                        uint16_t *map, size_t map_len, uint32_t *scratch, size_t scratch_len,
-                                       tz_record *record, tz_footer *footer)
+                                       tz_record *record, tz_footer *footer, uint64_t *looks, size_t looks_len)
 {
     uint32_t r[9] = {0}, limit = 0;
     tz_axis columns = {{0}, {0}}, rows = {{0}, {0}};
@@ -349,7 +361,8 @@ TZ_FUNCTION uint32_t tzofnadir_prepare(uint32_t film, uint32_t width, uint32_t h
     double used = 0;
     uint32_t refusal = tz_prepare(film, width, height, picture, picture_len, s->across, s->down, s->bins, s->min,
                                   s->max, s->clip, s->factor, map, map_len, scratch, scratch_len, r, &factor,
-                                  &limit, &asked, &used, columns.edges, columns.centres, rows.edges, rows.centres);
+                                  &limit, &asked, &used, columns.edges, columns.centres, rows.edges, rows.centres,
+                                  looks, looks_len);
     if (refusal == TZ_DONE) {
         *record = tz_record_of(r, factor, &columns, &rows);
         *footer = tz_footer_of(limit, asked, used);
@@ -361,7 +374,7 @@ TZ_FUNCTION uint32_t tzofnadir_prepare(uint32_t film, uint32_t width, uint32_t h
  * Enhance: renders the whole film in place. Map, scratch and footer as prepare leaves them. At factor 1.0
  * nothing changes.
  *
- * Sizes and refusals as for prepare.
+ * Sizes and refusals as for prepare, but for the list: none is lent, and 32 is never given.
  */
 TZ_FUNCTION uint32_t tzofnadir_enhance(uint32_t width, uint32_t height, uint16_t *picture, size_t picture_len,
                                        const tz_settings *s, uint16_t *map, size_t map_len,
@@ -422,20 +435,21 @@ TZ_FUNCTION uint32_t tzofnadir_count(uint32_t width, uint32_t height, const uint
 /*
  * Map: the second half of prepare. It makes the mappings, the record and the footer from counts, and looks at no pixel,
  * so that a new factor asks no new count. With the counts that count left for this film, with the same sizes, grid,
- * bins and range, it leaves in map, scratch, record and footer what prepare leaves, at factor 1.0 too; the counts stay,
- * for the next factor.
+ * bins and range, it leaves in map, scratch, list, record and footer what prepare leaves, at factor 1.0 too; the counts
+ * stay, for the next factor.
  *
  * The counts are taken as lent, whoever wrote them. Counts of another film that add up cannot be told apart: mapped under
  * this film's number they give the other film's mappings, and draw takes them. Keep a film's counts beside its number.
  *
  * Sizes: counts_len at least tz_counts_entries, map_len at least tz_map_entries, scratch_len at least
- * tz_scratch_entries.
- * Refusals, the first that applies: 1, 3 to 9 upward, 31, 10, 11, 12, 33, 34. At factor 1.0 and with clip off 33 and 34
- * are given too.
+ * tz_scratch_entries, looks_len at least tz_looks_entries.
+ * Refusals, the first that applies: 1, 3 to 9 upward, 31, 10, 11, 12, 32, 33, 34. At factor 1.0 and with clip off 32, 33
+ * and 34 are given too.
  */
 TZ_FUNCTION uint32_t tzofnadir_map(uint32_t film, uint32_t width, uint32_t height, const tz_settings *s,
                                    const uint32_t *counts, size_t counts_len, uint16_t *map, size_t map_len,
-                                   uint32_t *scratch, size_t scratch_len, tz_record *record, tz_footer *footer)
+                                   uint32_t *scratch, size_t scratch_len, tz_record *record, tz_footer *footer,
+                                   uint64_t *looks, size_t looks_len)
 {
     uint32_t r[9] = {0}, limit = 0;
     tz_axis columns = {{0}, {0}}, rows = {{0}, {0}};
@@ -443,7 +457,7 @@ TZ_FUNCTION uint32_t tzofnadir_map(uint32_t film, uint32_t width, uint32_t heigh
     double used = 0;
     uint32_t refusal = tz_map(film, width, height, s->across, s->down, s->bins, s->min, s->max, s->clip, s->factor,
                               counts, counts_len, map, map_len, scratch, scratch_len, r, &factor, &limit, &asked,
-                              &used, columns.edges, columns.centres, rows.edges, rows.centres);
+                              &used, columns.edges, columns.centres, rows.edges, rows.centres, looks, looks_len);
     if (refusal == TZ_DONE) {
         *record = tz_record_of(r, factor, &columns, &rows);
         *footer = tz_footer_of(limit, asked, used);
@@ -458,12 +472,12 @@ TZ_FUNCTION uint32_t tzofnadir_map(uint32_t film, uint32_t width, uint32_t heigh
  * mappings in bytes here and in 16 bits there. A call takes up to 80 KiB of stack: rows and mappings are widened there.
  *
  * Sizes as for the wide calls; an entry of the map buffer is a byte.
- * Refusals, the first that applies: 1 to 9 upward, 31, 10, 30, 11, 12. A byte lies in 0 to 255, so 13 is never given.
+ * Refusals, the first that applies: 1 to 9 upward, 31, 10, 30, 11, 12, and of prepare 32. A byte lies in 0 to 255, so 13 is never given.
  */
 TZ_FUNCTION uint32_t tzofnadir_prepare_bytes(uint32_t film, uint32_t width, uint32_t height,
                                              const uint8_t *picture, size_t picture_len, const tz_settings *s,
                                              uint8_t *map, size_t map_len, uint32_t *scratch, size_t scratch_len,
-                                             tz_record *record, tz_footer *footer)
+                                             tz_record *record, tz_footer *footer, uint64_t *looks, size_t looks_len)
 {
     uint32_t r[9] = {0}, limit = 0;
     tz_axis columns = {{0}, {0}}, rows = {{0}, {0}};
@@ -472,7 +486,7 @@ TZ_FUNCTION uint32_t tzofnadir_prepare_bytes(uint32_t film, uint32_t width, uint
     uint32_t refusal = tz_prepare_bytes(film, width, height, picture, picture_len, s->across, s->down, s->bins,
                                         s->min, s->max, s->clip, s->factor, map, map_len, scratch, scratch_len, r,
                                         &factor, &limit, &asked, &used, columns.edges, columns.centres, rows.edges,
-                                        rows.centres);
+                                        rows.centres, looks, looks_len);
     if (refusal == TZ_DONE) {
         *record = tz_record_of(r, factor, &columns, &rows);
         *footer = tz_footer_of(limit, asked, used);

@@ -13,8 +13,9 @@ const MEMORY_PAGE = 65536;
 
 // Where the answers of the calls stand, behind the address of the cells.
 const CELL = {record: 0, factor: 36, limit: 40, asked: 44, used: 48, count: 56, part: 64, sizes: 80, digest: 96,
-  columnEdges: 176, columnCentres: 244, rowEdges: 308, rowCentres: 376};
-const CELL_BYTES = 440;
+  columnEdges: 176, columnCentres: 244, rowEdges: 308, rowCentres: 376, looks: 440};
+const MOST_LOOKS = 2 * MOST_GRID * MOST_GRID; // what map lists of each tile: its excess, and the looks of its leftover walk
+const CELL_BYTES = CELL.looks + 8 * MOST_LOOKS;
 
 // How many edges and centres a record has, in the order in which the calls take them.
 const AXES = {columnEdges: MOST_GRID + 1, columnCentres: MOST_GRID, rowEdges: MOST_GRID + 1, rowCentres: MOST_GRID};
@@ -131,7 +132,7 @@ function filmCalls(exports, room, cells) {
     map(film, s, counts = MOST_ENTRIES, maps = MOST_ENTRIES) {
       const refusal = exports.tz_map(film.number, ...sizeOf(film), ...settingsOf(s), film.counts, BigInt(counts),
         film.map, BigInt(maps), film.scratch, BigInt(MOST_BINS), cells + CELL.record, cells + CELL.factor,
-        cells + CELL.limit, cells + CELL.asked, cells + CELL.used, ...axes) >>> 0;
+        cells + CELL.limit, cells + CELL.asked, cells + CELL.used, ...axes, cells + CELL.looks, BigInt(MOST_LOOKS)) >>> 0;
       const view = room.view(cells, CELL_BYTES);
       return {
         refusal,
@@ -139,6 +140,8 @@ function filmCalls(exports, room, cells) {
           axes: Object.fromEntries(Object.keys(AXES).map(name => [name, axis(name).slice()]))},
         footer: {limit: view.getUint32(CELL.limit, true), asked: view.getFloat32(CELL.asked, true),
           used: view.getFloat64(CELL.used, true)},
+        // of each tile, tiles row by row, two numbers: no more than 2^45, so that JavaScript's numbers hold them
+        looks: Array.from({length: 2 * s.across * s.down}, (_, i) => Number(view.getBigUint64(CELL.looks + 8 * i, true))),
       };
     },
     // The settings are those wanted, the record the one that map left: the library compares them (15).

@@ -101,6 +101,7 @@ function settle(film, s) {
   film.mappedFor = all;
   film.record = answer.record;
   film.footer = answer.footer;
+  film.looks = answer.looks;
   return {};
 }
 
@@ -176,6 +177,8 @@ function probe(film, s, at) {
     counts: room.u32(film.counts + 4 * first, bins).slice(),
     mapping: unmapped ? null : room.u16(film.map + 2 * first, bins).slice(),
     limit: limitOf(film, s, tile, bins), min: s.min, max: s.max,
+    // at factor 1.0 nothing is listed either
+    excess: unmapped ? null : film.looks[2 * tile.index], looks: unmapped ? null : film.looks[2 * tile.index + 1],
   };
 }
 
@@ -202,5 +205,5 @@ function saveRecord(film, s, version, outName) {
   const file = renderedFile(film, s);
   if (file.refusal) return file;
   const output = {name: outName, digest: film.library.digest(file.at, file.count), bytes: file.count};
-  return {text: recordText(version, film, output, s, film.footer)};
+  return {text: recordText(version, film, output, s, film)};
 }

@@ -356,6 +356,12 @@ function footerNote(footer, settings, film) {
   return notes.join('; ');
 }
 
+// What clipping took of the tile: what stood above its limit, and how many bins the walk that hands the rest out looks at.
+function tileNote(probe) {
+  if (!probe) return '';
+  return probe.mapping ? `E ${probe.excess}, looks ${probe.looks}` : 'factor 1.0: nothing is mapped';
+}
+
 function fillReading(probe) {
   state.tile = probe ? probe.tile : null;
   for (const [id, key] of [['at-column', 'x'], ['at-row', 'y'], ['at-scanned', 'scanned'], ['at-rendered', 'rendered']]) {
@@ -365,7 +371,7 @@ function fillReading(probe) {
   setText('at-tile', tile ? `${tile.across + 1} across, ${tile.down + 1} down` : '–');
   setText('at-rectangle', tile ? `columns ${tile.left} to ${tile.left + tile.width - 1}, ` +
     `rows ${tile.top} to ${tile.top + tile.height - 1}` : '');
-  setText('tile-note', probe && !probe.mapping ? 'factor 1.0: nothing is mapped' : '');
+  setText('tile-note', tileNote(probe));
   drawTilePlot(probe);
   placeMarks();
 }

@@ -70,11 +70,20 @@ function settingsText(s) {
     `    "max": ${s.max},\n    "clip": ${s.clip ? 'true' : 'false'},\n    "factor": ${factor},\n    "by_bytes": false\n  },\n`;
 }
 
-function recordText(version, film, output, s, footer) {
+// One of the two numbers of each tile, tiles row by row; at factor 1.0 nothing is listed.
+function tilesText(what, which, s, looks) {
+  const listed = s.clip && Math.fround(s.factor) === 1 ? [] : looks.filter((_, i) => i % 2 === which);
+  return `    "${what}": [${listed.join(', ')}]`;
+}
+
+// made: what map made of the film with these settings, its footer and its list of looks
+function recordText(version, film, output, s, made) {
+  const footer = made.footer;
   return `{\n  "program": "tzofnadir",\n  "version": "${version}",\n  "command": "enhance",\n` +
     fileText('input', film.name, film.digest, film.bytes, film) +
     fileText('output', output.name, output.digest, output.bytes, film) +
     settingsText(s) +
     `  "window": null,\n  "limit": ${footer.limit},\n  "factor_asked": ${printG(footer.asked, 9)},\n` +
-    `  "factor_used": ${printG(footer.used, 17)}\n}\n`;
+    `  "factor_used": ${printG(footer.used, 17)},\n  "tiles": {\n` +
+    `${tilesText('excess', 0, s, made.looks)},\n${tilesText('looks', 1, s, made.looks)}\n  }\n}\n`;
 }

@@ -34,7 +34,7 @@ if [ -z "$missing" ]; then ok=yes; else ok=no; fi
 report "$ok" 'the man page has each option of help' "missing: ${missing:-nothing}"
 
 # ---- the library that is delivered, by the toolchain alone, under its emulator where this is no x86-64
-{ echo "$version"; printf '4\t4\t2\t2\t4\t0\t15\t2\n0\t0\t2\t7\t11\t15\t15\n0\t1\t0\t3\t7\t11\t15\n1\t0\t2\t3\t3\t7\t15\n1\t1\t0\t7\t7\t7\t15\n'; } >wanted
+{ echo "$version"; printf '4\t4\t2\t2\t4\t0\t15\t2\n0\t0\t2\t3\t7\t11\t15\t15\n0\t1\t0\t0\t3\t7\t11\t15\n1\t0\t2\t2\t3\t3\t7\t15\n1\t1\t0\t0\t7\t7\t7\t15\n'; } >wanted
 tools=$("$top/toolchain/kit")/toolchain
 "$top/toolchain/compile" x86_64 "$top/station/faults/loaded.c" loaded.o >wrote 2>said && "$top/toolchain/link" x86_64 loaded loaded.o >>wrote 2>>said
 if [ -x "$tools/bin/qemu-x86_64" ]; then

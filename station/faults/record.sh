@@ -14,6 +14,29 @@ saw="$(field version "$record")$(field across "$record")$(field bins "$record")$
 if [ "$saw" = "$(cat "$top/VERSION") 8 1024 0 4095 3 9 3 3 512 512 4095 4095 " ]; then ok=yes; else ok=no; fi
 report "$ok" 'a record: version, settings as used, limit and factors' "$saw"
 
+# What a record lists of the tiles: of the film of document 01's listing, E and looks are those of the listing.
+printf 'P5\n4 4\n15\n\0\0\0\4\0\0\10\14\17\17\0\0\17\17\17\17' >listed.pgm
+rm -f "$out" "$record"
+"$tz" enhance listed.pgm "$out" --grid 2x2 --bins 4 --clip 2 --record "$record" 2>said
+"$tz" listing listed.pgm >rows 2>said
+saw="$(grep -o '"excess": .*' "$record") $(grep -o '"looks": .*' "$record")"
+want="\"excess\": [$(tail -n +2 rows | cut -f 3 | paste -sd, | sed 's/,/, /g')], \"looks\": [$(tail -n +2 rows | cut -f 4 | paste -sd, | sed 's/,/, /g')]"
+if [ "$saw" = "$want" ] && [ "$saw" = '"excess": [2, 0, 2, 0], "looks": [3, 0, 2, 0]' ]; then ok=yes; else ok=no; fi
+report "$ok" "a record: each tile's E and looks are the listing's" "$saw"
+for words in '--clip 1.0' '--clip off' '--bytes --clip 2'; do
+    rm -f "$out" "$record"
+    # shellcheck disable=SC2086
+    case $words in
+    --bytes*) "$tz" enhance shallow.pgm "$out" $words --record "$record" 2>said ;;
+    *) "$tz" enhance listed.pgm "$out" --grid 2x2 --bins 4 $words --record "$record" 2>said ;;
+    esac
+    case "$words,$(grep -o '"looks": .*' "$record" | cut -c 1-24)" in
+    '--clip 1.0,"looks": []' | '--clip off,"looks": [0, 0, 0, 0]' | '--bytes --clip 2,"looks": ['[0-9]*) ok=yes ;;
+    *) ok=no ;;
+    esac
+    report "$ok" "a record: looks with $words" "$(grep -o '"looks": .*' "$record" | cut -c 1-40)"
+done
+
 # The digest over each way in which a text can end in its last block of 64 bytes.
 bad=''
 for length in 1 2 3 9 10 11 55 56 57 63 64 65 119 120; do

@@ -13,6 +13,7 @@ export class Library {
     this.map = this.lend(MOST_ENTRIES, 2);
     this.counts = this.lend(MOST_ENTRIES, 4);
     this.scratch = this.lend(MOST_BINS, 4);
+    this.list = this.lend(2 * 16 * 16, 8);
     this.numbers = this.lend(9, 4);
     this.axes = AXES.map(count => this.lend(count, 4));
     this.answers = this.lend(8, 8);
@@ -64,17 +65,25 @@ export class Library {
     return { limit: view.getUint32(4, true), asked: view.getFloat32(8, true), used: view.getFloat64(16, true) };
   }
 
+  /** Of each tile, tiles row by row, its excess and its looks, as prepare or map left them. */
+  listed(s) {
+    const view = this.view(this.list);
+    return Array.from({ length: 2 * s.across * s.down }, (_, i) => Number(view.getBigUint64(8 * i, true)));
+  }
+
   /** tz_prepare or, by '_bytes', tz_prepare_bytes. */
   prepare(film, number, s, kind = '') {
     return this.x[`tz_prepare${kind}`](number, film.width, film.height, ...slice(film.picture), ...ranged(s), s.clip, s.factor,
-      ...slice(this.map), ...slice(this.scratch), ...this.recordPlaces(), ...this.footerPlaces(), ...this.axesPlaces());
+      ...slice(this.map), ...slice(this.scratch), ...this.recordPlaces(), ...this.footerPlaces(), ...this.axesPlaces(),
+      ...slice(this.list));
   }
   count(film, s) {
     return this.x.tz_count(film.width, film.height, ...slice(film.picture), ...ranged(s), ...slice(this.counts));
   }
   mapped(film, number, s) {
     return this.x.tz_map(number, film.width, film.height, ...ranged(s), s.clip, s.factor, ...slice(this.counts),
-      ...slice(this.map), ...slice(this.scratch), ...this.recordPlaces(), ...this.footerPlaces(), ...this.axesPlaces());
+      ...slice(this.map), ...slice(this.scratch), ...this.recordPlaces(), ...this.footerPlaces(), ...this.axesPlaces(),
+      ...slice(this.list));
   }
   enhance(film, picture, s, kind = '') {
     return this.x[`tz_enhance${kind}`](film.width, film.height, ...slice(picture), ...ranged(s), s.clip, s.factor,

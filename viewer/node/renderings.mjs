@@ -33,6 +33,14 @@ function same(library, film, picture, wanted) {
   return `${file.length} bytes, L ${footer.limit}, factor used ${footer.used}`;
 }
 
+/** The list that prepare or map left has to be the one in the command line's record. */
+function sameLooks(library, s, { record }) {
+  const { excess, looks } = record.tiles, left = library.listed(s);
+  const wanted = excess.flatMap((e, tile) => [e, looks[tile]]);
+  if (s.factor !== 1 && JSON.stringify(left) !== JSON.stringify(wanted)) throw new Error('another excess or other looks than in the record');
+  if (s.factor === 1 && wanted.length > 0) throw new Error('the record lists tiles at factor 1.0');
+}
+
 /** All windows of `wide` by `high` or what is left of them, drawn and put together. */
 function drawnInParts(library, film, s, wide, high) {
   const whole = library.lend(film.width * film.height, 2), out = library.lend(wide * high, 2);
@@ -64,12 +72,14 @@ function ways(library, film, s, wanted, trial, what) {
   const whole = { left: 0, top: 0, width: film.width, height: film.height }, out = library.lend(film.picture.length, 2);
   trial(`${what}: prepare, draw`, () => {
     done(library.prepare(film, NUMBER, s));
+    sameLooks(library, s, wanted);
     done(library.draw(film, NUMBER, s, whole, out));
     return same(library, film, out, wanted);
   });
   trial(`${what}: count, map, draw in windows`, () => {
     done(library.count(film, s));
     done(library.mapped(film, NUMBER, s));
+    sameLooks(library, s, wanted);
     return same(library, film, drawnInParts(library, film, s, 101, 67), wanted);
   });
   trial(`${what}: enhance`, () => {
@@ -97,6 +107,7 @@ function byteWays(library, film, s, wanted, trial, what) {
   trial(`${what} by bytes: prepare, draw`, () => {
     const out = library.lend(bytes.picture.length, 1);
     done(library.prepare(bytes, NUMBER, s, '_bytes'));
+    sameLooks(library, s, wanted);
     done(library.draw(bytes, NUMBER, s, whole, out, '_bytes'));
     return same(library, film, widened(library, out), wanted);
   });

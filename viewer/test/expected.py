@@ -43,12 +43,13 @@ class Film:
         raise AssertionError("column %d, row %d lies in no tile" % (x, y))
 
     def plot(self, x, y, asked):
-        """What the plot of a pixel's tile has to hold: its pixels, counts and limit, and the mapping."""
+        """What the plot of a pixel's tile has to hold: its pixels, counts and limit, the mapping, and its excess and looks."""
         number, tile = self.tile_at(x, y, asked)
         part = slice(number * asked.bins, (number + 1) * asked.bins)
         pixels = clahe.pixels_of(tile)
         return {"pixels": pixels, "counts": self.counts(asked)[part],
-                "limit": clahe.limit_of(asked.clip, pixels, asked.bins), "mapping": self.mappings(asked)[0][part]}
+                "limit": clahe.limit_of(asked.clip, pixels, asked.bins), "mapping": self.mappings(asked)[0][part],
+                "excess": self.mappings(asked)[2][2 * number], "looks": self.mappings(asked)[2][2 * number + 1]}
 
     def counts(self, asked):
         """Each tile's counts."""
@@ -58,13 +59,14 @@ class Film:
         return counts
 
     def mappings(self, asked):
-        """The mappings, and the footer."""
+        """The mappings, the footer, and of each tile its excess and looks."""
         key = "maps", asked
         if key not in self.kept:
             maps, scratch = [0] * clahe.entries_of(asked), [0] * clahe.bin_count(asked.bins)
-            answer = clahe.prepare(0, self.width, self.height, self.greys, asked, maps, scratch)
+            listed = [0] * (2 * asked.across * asked.down)
+            answer = clahe.prepare(0, self.width, self.height, self.greys, asked, maps, scratch, listed)
             assert not isinstance(answer, int), answer
-            self.kept[key] = maps, answer[1]
+            self.kept[key] = maps, answer[1], listed
         return self.kept[key]
 
     def grey_at(self, x, y, asked):

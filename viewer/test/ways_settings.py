@@ -8,7 +8,7 @@ from selenium.webdriver.common.keys import Keys
 HOOK_PLOT = """
 const draw = window.drawTilePlot;
 window.drawTilePlot = probe => { window.plotted = probe && {pixels: probe.tile.pixels, counts: [...probe.counts],
-  limit: probe.limit, mapping: probe.mapping && [...probe.mapping]}; return draw(probe); };
+  limit: probe.limit, mapping: probe.mapping && [...probe.mapping], excess: probe.excess, looks: probe.looks}; return draw(probe); };
 """
 
 
@@ -271,8 +271,8 @@ def read_one(person, film, asked, zoom, edge, i):
 
 
 def tile_plot(person, films):
-    """What the plot is given: the pixels, the counts, the limit and the mapping of the tile under the pointer, each tile's own
-    where they differ."""
+    """What the plot is given: the pixels, the counts, the limit, the mapping, E and the looks of the tile under the pointer, each
+    tile's own where they differ; and what is written beside it."""
     person.script(HOOK_PLOT)
     for film, changes in ((films.sample, ({}, {"across": "4", "bins": "64", "factor": "1.2"})), (films.odd, ({}, {"bins": "16"}))):
         person.choose(person.show(film))
@@ -294,7 +294,9 @@ def plot_three(person, film):
         person.mouse("mouseMoved", left + edge[0] + x, top + edge[1] + y)
         person.until("a reading", lambda: (person.text("at-column"), person.text("at-row")) == (str(x), str(y)), 5)
         person.settled()
-        same("the plot of the tile at %d, %d" % (x, y), person.script("return window.plotted"), film.plot(x, y, asked))
+        plot = film.plot(x, y, asked)
+        same("the plot of the tile at %d, %d" % (x, y), person.script("return window.plotted"), plot)
+        same("beside it", person.text("tile-note"), "E %d, looks %d" % (plot["excess"], plot["looks"]))
 
 
 WAYS = [grid, bins, grey_range, factor, newest_wins, display, refused_settings, no_numbers, pointer, tile_plot]

@@ -24,19 +24,19 @@ use Rattle.abi.proofs.Runs.{TzPrepareCall, TzPrepares, tz-prepare-given
 
 -- ---- tz_prepare
 
--- any two outcomes are equal: its number, map buffer and scratch, and the cells: the record's nine numbers, factor and four arrays, and the footer's three
+-- any two outcomes are equal: its number, map buffer, scratch and list, and the cells: the record's nine numbers, factor and four arrays, and the footer's three
 pub tz-prepare-determined : {c k : TzPrepareCall} → TzPrepares c → TzPrepares k → tz-prepare-given c ≡ tz-prepare-given k
-    → (c .number ≡ k .number) × (c .map′ ≡ k .map′) × (c .scratch′ ≡ k .scratch′) × (c .cells′ ≡ k .cells′)
+    → (c .number ≡ k .number) × (c .map′ ≡ k .map′) × (c .scratch′ ≡ k .scratch′) × (c .list′ ≡ k .list′) × (c .cells′ ≡ k .cells′)
 tz-prepare-determined x y same =
-    let e = tz-prepare-ends x ∙ ap (λ g. flatPrepared (prepareOf (g .0) (g .1) (g .2) (g .3) (g .4) (g .5) (g .6)) (g .7)) same ∙ sym (tz-prepare-ends y) in
-    (ap (λ (z : FlatPrepared). z .number) e, ap (λ (z : FlatPrepared). z .map) e, ap (λ (z : FlatPrepared). z .scratch) e, ap (λ (z : FlatPrepared). z .cells) e)
+    let e = tz-prepare-ends x ∙ ap (λ g. flatPrepared (prepareOf (g .0) (g .1) (g .2) (g .3) (g .4) (g .5) (g .6) (g .7)) (g .8)) same ∙ sym (tz-prepare-ends y) in
+    (ap (λ (z : FlatPrepared). z .number) e, ap (λ (z : FlatPrepared). z .map) e, ap (λ (z : FlatPrepared). z .scratch) e, ap (λ (z : FlatPrepared). z .list) e, ap (λ (z : FlatPrepared). z .cells) e)
 
 -- a refusal keeps lent memory
-pub tz-prepare-refusal-keeps : {c : TzPrepareCall} → TzPrepares c → 0 < c .number → (c .map′ ≡ c .map) × (c .scratch′ ≡ c .scratch) × (c .cells′ ≡ c .cells)
+pub tz-prepare-refusal-keeps : {c : TzPrepareCall} → TzPrepares c → 0 < c .number → (c .map′ ≡ c .map) × (c .scratch′ ≡ c .scratch) × (c .list′ ≡ c .list) × (c .cells′ ≡ c .cells)
 unfolding flatPrepared preparedSays preparedOf
 tz-prepare-refusal-keeps {c} ran l =
-    let e = returned-kept (prepare-table _ _ _ _ _ _ _) (λ e. flatPrepared e (c .cells)) (λ (z : FlatPrepared). z .number) refl (λ k. refl) (tz-prepare-ends ran) l in
-    (ap (λ (z : FlatPrepared). z .map) e, ap (λ (z : FlatPrepared). z .scratch) e, ap (λ (z : FlatPrepared). z .cells) e)
+    let e = returned-kept (prepare-table _ _ _ _ _ _ _ _) (λ e. flatPrepared e (c .cells)) (λ (z : FlatPrepared). z .number) refl (λ k. refl) (tz-prepare-ends ran) l in
+    (ap (λ (z : FlatPrepared). z .map) e, ap (λ (z : FlatPrepared). z .scratch) e, ap (λ (z : FlatPrepared). z .list) e, ap (λ (z : FlatPrepared). z .cells) e)
 
 -- ---- tz_enhance
 

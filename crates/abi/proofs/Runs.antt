@@ -35,27 +35,29 @@ pub record TzPrepareCall : Type 0 where
   pub settings : Settings
   pub map : List ℕ
   pub scratch : List ℕ
+  pub list : List ℕ
   pub cells : Cells
   pub number : ℕ
   pub map′ : List ℕ
   pub scratch′ : List ℕ
+  pub list′ : List ℕ
   pub cells′ : Cells
 
 abbrev pub tz-prepare-values : Run prepare.ps prepare.r prepare-reads.Post → TzPrepareCall
 tz-prepare-values run =
-    let (film, (width, (height, (pixels, (across, (down, (bins, (min, (max, (clip, (asked-factor, (map, (scratch, (numbers, (factor, (limit, (asked, (used, (column-edges, (column-centres, (row-edges, (row-centres, end)))))))))))))))))))))) = run .handed in
-    let (_, (_, (_, (_, (_, (_, (_, (_, (_, (_, (_, (map′, (scratch′, (numbers′, (factor′, (limit′, (asked′, (used′, (column-edges′, (column-centres′, (row-edges′, (row-centres′, end′)))))))))))))))))))))) = run .left in
-    record { film = film; width = width; height = height; pixels = now pixels; settings = settingsFrom across down bins min max clip asked-factor; map = now map; scratch = now scratch; cells = celled (now numbers) (now factor) (axed (now column-edges) (now column-centres) (now row-edges) (now row-centres)) (footed (now limit) (now asked) (now used)); number = run .answer; map′ = now map′; scratch′ = now scratch′; cells′ = celled (now numbers′) (now factor′) (axed (now column-edges′) (now column-centres′) (now row-edges′) (now row-centres′)) (footed (now limit′) (now asked′) (now used′)) }
+    let (film, (width, (height, (pixels, (across, (down, (bins, (min, (max, (clip, (asked-factor, (map, (scratch, (numbers, (factor, (limit, (asked, (used, (column-edges, (column-centres, (row-edges, (row-centres, (list, end))))))))))))))))))))))) = run .handed in
+    let (_, (_, (_, (_, (_, (_, (_, (_, (_, (_, (_, (map′, (scratch′, (numbers′, (factor′, (limit′, (asked′, (used′, (column-edges′, (column-centres′, (row-edges′, (row-centres′, (list′, end′))))))))))))))))))))))) = run .left in
+    record { film = film; width = width; height = height; pixels = now pixels; settings = settingsFrom across down bins min max clip asked-factor; map = now map; scratch = now scratch; list = now list; cells = celled (now numbers) (now factor) (axed (now column-edges) (now column-centres) (now row-edges) (now row-centres)) (footed (now limit) (now asked) (now used)); number = run .answer; map′ = now map′; scratch′ = now scratch′; list′ = now list′; cells′ = celled (now numbers′) (now factor′) (axed (now column-edges′) (now column-centres′) (now row-edges′) (now row-centres′)) (footed (now limit′) (now asked′) (now used′)) }
 
 -- what it is handed
-abbrev pub tz-prepare-given : TzPrepareCall → ℕ × ℕ × ℕ × List ℕ × Settings × List ℕ × List ℕ × Cells
-tz-prepare-given c = (c .film, c .width, c .height, c .pixels, c .settings, c .map, c .scratch, c .cells)
+abbrev pub tz-prepare-given : TzPrepareCall → ℕ × ℕ × ℕ × List ℕ × Settings × List ℕ × List ℕ × List ℕ × Cells
+tz-prepare-given c = (c .film, c .width, c .height, c .pixels, c .settings, c .map, c .scratch, c .list, c .cells)
 
 -- tz_prepare ran with these values
 abbrev pub TzPrepares : TzPrepareCall → Type 0
 TzPrepares = Ran tz-prepare-values
 
-pub tz-prepare-ends : {c : TzPrepareCall} → TzPrepares c → preparedAs (c .number) (c .map′) (c .scratch′) (c .cells′) ≡ flatPrepared (prepareOf (c .film) (c .width) (c .height) (c .pixels) (c .settings) (c .map) (c .scratch)) (c .cells)
+pub tz-prepare-ends : {c : TzPrepareCall} → TzPrepares c → preparedAs (c .number) (c .map′) (c .scratch′) (c .list′) (c .cells′) ≡ flatPrepared (prepareOf (c .film) (c .width) (c .height) (c .pixels) (c .settings) (c .map) (c .scratch) (c .list)) (c .cells)
 tz-prepare-ends ran = rw (ran .named) (ran .run .allowed)
 
 -- ---- tz_enhance

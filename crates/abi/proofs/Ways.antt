@@ -46,24 +46,24 @@ module _ {p : TzPrepareCall} (ran : TzPrepares p) (prepared : p .number ≡ 0) w
 
   -- what the call beneath gives
   abbrev ended : Ended
-  ended = prepareOf (p .film) (p .width) (p .height) (p .pixels) (p .settings) (p .map) (p .scratch)
+  ended = prepareOf (p .film) (p .width) (p .height) (p .pixels) (p .settings) (p .map) (p .scratch) (p .list)
 
-  none : first (prepareRows (p .width) (p .height) (p .pixels) (p .settings) (length (p .map)) (length (p .scratch))) ≡ 0
+  none : first (prepareRows (p .width) (p .height) (p .pixels) (p .settings) (length (p .map)) (length (p .scratch)) (length (p .list))) ≡ 0
   unfolding flatPrepared preparedSays preparedOf
   none =
-      sym (returned-number (prepare-table _ _ _ _ _ _ _) (λ e. flatPrepared e (p .cells)) (λ (z : FlatPrepared). z .number) refl (λ k. refl))
+      sym (returned-number (prepare-table _ _ _ _ _ _ _ _) (λ e. flatPrepared e (p .cells)) (λ (z : FlatPrepared). z .number) refl (λ k. refl))
       ∙ sym (ap (λ (z : FlatPrepared). z .number) (tz-prepare-ends ran))
       ∙ prepared
 
   done : preparedSays (ended .answer) ≡ accepted (made, footOf (p .width) (p .height) (p .settings))
-  done = table-says (prepare-table _ _ _ _ _ _ _) ∙ ap (λ n. says n (made, footOf (p .width) (p .height) (p .settings))) none
+  done = table-says (prepare-table _ _ _ _ _ _ _ _) ∙ ap (λ n. says n (made, footOf (p .width) (p .height) (p .settings))) none
 
   -- so the cells hold the film's record, and the map buffer what it gives
-  left : preparedAs (p .number) (p .map′) (p .scratch′) (p .cells′)
-      ≡ preparedAs 0 (ended .map) (ended .scratch)
+  left : preparedAs (p .number) (p .map′) (p .scratch′) (p .list′) (p .cells′)
+      ≡ preparedAs 0 (ended .map) (ended .scratch) (ended .list)
       (celled (recordNumbers made) (clipFactor (made .settings .clip)) (axesAfter made) (footAfter (footOf (p .width) (p .height) (p .settings))))
   unfolding flatPrepared
-  left = tz-prepare-ends ran ∙ ap (λ x. preparedAs (returned x) (ended .map) (ended .scratch) (cellsAfter x (p .cells))) done
+  left = tz-prepare-ends ran ∙ ap (λ x. preparedAs (returned x) (ended .map) (ended .scratch) (ended .list) (cellsAfter x (p .cells))) done
 
   left-map : p .map′ ≡ ended .map
   left-map = ap (λ (z : FlatPrepared). z .map) left
@@ -92,7 +92,7 @@ module _ {p : TzPrepareCall} {d : TzDrawCall} (handed : TzHandedToDraw p d) wher
   unfolding flatDrawn
   tz-drawn-done =
       ap (λ (z : FlatDrawn). z .number) (tz-draw-ends (handed .draws) ∙ ap flatDrawn shows)
-      ∙ ap returned (draw-agrees (p .film) (p .width) (p .height) (p .pixels) (p .settings) (p .map) (p .scratch) (done (handed .prepares) (handed .prepared)) (d .settings) (d .map) (d .window) (d .out) rest)
+      ∙ ap returned (draw-agrees (p .film) (p .width) (p .height) (p .pixels) (p .settings) (p .map) (p .scratch) (p .list) (done (handed .prepares) (handed .prepared)) (d .settings) (d .map) (d .window) (d .out) rest)
 
   out : d .out′ ≡ drawOf (p .film) (p .width) (p .height) (p .pixels) (d .settings) (recordOf (p .film) (p .width) (p .height) (p .settings)) (d .window) (d .map) (d .out) .out
   unfolding flatDrawn
@@ -103,14 +103,14 @@ module _ {p : TzPrepareCall} {d : TzDrawCall} (handed : TzHandedToDraw p d) wher
       → getD (d .out′) (j * d .window .width + i) 0 ≡ ruleGrey (p .width) (p .height) (p .pixels) (p .settings) (d .window .left + i) (d .window .top + j)
   tz-drawn-by-rule one j i l k =
       ap (λ ys. getD ys (j * d .window .width + i) 0) out
-      ∙ own-window (p .film) (p .width) (p .height) (p .pixels) (p .settings) (p .map) (p .scratch) (done (handed .prepares) (handed .prepared)) (d .settings) (d .map) (d .window) (d .out) rest one j i l k
+      ∙ own-window (p .film) (p .width) (p .height) (p .pixels) (p .settings) (p .map) (p .scratch) (p .list) (done (handed .prepares) (handed .prepared)) (d .settings) (d .map) (d .window) (d .out) rest one j i l k
 
   -- at the factor 1.0 the film's own pixels
   pub tz-drawn-as-film : clipOne (p .settings .clip) ≡ true → (j i : ℕ) → j < d .window .height → i < d .window .width
       → getD (d .out′) (j * d .window .width + i) 0 ≡ getD (p .pixels) ((d .window .top + j) * p .width + (d .window .left + i)) 0
   tz-drawn-as-film one j i l k =
       ap (λ ys. getD ys (j * d .window .width + i) 0) out
-      ∙ drawn-is-film (p .film) (p .width) (p .height) (p .pixels) (p .settings) (p .map) (p .scratch) (done (handed .prepares) (handed .prepared)) (d .settings) (d .map) (d .window) (d .out) rest one j i l k
+      ∙ drawn-is-film (p .film) (p .width) (p .height) (p .pixels) (p .settings) (p .map) (p .scratch) (p .list) (done (handed .prepares) (handed .prepared)) (d .settings) (d .map) (d .window) (d .out) rest one j i l k
 
 -- "A window drawn with the record of a film of another number is refused.": handed the numbers that tz_prepare left and another film's number, whatever else
 pub tz-other-film-refused : {p : TzPrepareCall} {d : TzDrawCall} → TzPrepares p → p .number ≡ 0 → TzDraws d → d .numbers ≡ p .cells′ .numbers → d .film ≢ p .film

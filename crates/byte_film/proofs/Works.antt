@@ -48,9 +48,9 @@ laid-bytes asks {m} {t} {k} laid l =
     rw (laid-length (wide-tiles asks) laid (omega arith), laid .size) record { tiles = asks; tile = l }
 
 -- what rendering from the mappings asks
-pub asks-from : {w h : ℕ} {pic : List ℕ} {s : Settings} {m t n u : List ℕ} → ByteTilesAsk w h pic s (length m) (length t) → TilesDone w h pic s m n t u
-    → FromAsks w h s n (whole w h) pic
-asks-from {w} {h} {pic} {s} {m} {t} {n} asks done =
+pub asks-from : {w h : ℕ} {pic : List ℕ} {s : Settings} {m m′ t t′ n n′ : List ℕ} → ByteTilesAsk w h pic s (length m) (length t)
+    → TilesDone w h pic s m m′ t t′ n n′ → FromAsks w h s m′ (whole w h) pic
+asks-from asks done =
     let (mapped, shown) = asks-render (wide-tiles asks) done in
     record {
       mapped = mapped;

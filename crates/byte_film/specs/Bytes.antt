@@ -1,7 +1,7 @@
 -- Order 1, byte films: what prepare and enhance on bytes answer and leave. A byte is its number, so these are the wide calls' own outcomes behind the byte
--- calls' table. w and h are the film's width and height, pic its bytes, m the map buffer and t the scratch as lent.
+-- calls' table. w and h are the film's width and height, pic its bytes, m the map buffer, t the scratch and n the list as lent.
 -- Assumes nothing.
-use Prim.Native.Nat.{ℕ, _*_, _<_}
+use Prim.Native.Nat.{ℕ, _*_, _≤_, _<_}
 use mathlib.Core.Bool.{false}
 use mathlib.Core.List.{List, _++_}
 use mathlib.Core.Path.{_≡_}
@@ -11,23 +11,27 @@ use Rattle.refuse.specs.Refuse.{Row, first, unless}
 use Rattle.settings.specs.declared.Settings.{Settings}
 use Rattle.settings.specs.Settings.{binsOf, clipOne}
 use Rattle.prepare.specs.declared.Enhanced.the-variants as Enhanced
-use Rattle.tiles.specs.Tiles.{tileMap, mappings, Work}
-use Rattle.prepare.specs.Prepare.{preparedNot, workRows, Ended, ending, preparedOf, Over, overing, enhancedOf}
+use Rattle.tiles.specs.Tiles.{tileMap, mappings, spentEntries, Work}
+use Rattle.prepare.specs.Prepare.{preparedNot, workRows, listedRows, Ended, ending, preparedOf, Over, overing, enhancedOf}
 use Rattle.profile.specs.Profile.{byteRows, Profile}
 
 -- "1 to 10 as they stand, then 30 .., then 11 and on as in the wide call"; 31 stands behind 9
-unfoldable pub bytePrepareRows : ℕ → ℕ → List ℕ → Settings → ℕ → ℕ → List Row
-bytePrepareRows w h pic s room scratch = byteRows w h (length pic) s room ++ workRows pic s scratch
+unfoldable pub byteEnhanceRows : ℕ → ℕ → List ℕ → Settings → ℕ → ℕ → List Row
+byteEnhanceRows w h pic s room scratch = byteRows w h (length pic) s room ++ workRows pic s scratch
+
+-- and prepare, with 32 behind 12
+unfoldable pub bytePrepareRows : ℕ → ℕ → List ℕ → Settings → ℕ → ℕ → ℕ → List Row
+bytePrepareRows w h pic s room scratch list = byteRows w h (length pic) s room ++ listedRows pic s scratch list
 
 -- prepare on bytes: a refusal keeps all memory; else what prepare does
-unfoldable pub bytePrepareOf : ℕ → ℕ → ℕ → List ℕ → Settings → List ℕ → List ℕ → Ended
-bytePrepareOf film w h pic s m t =
-    unless (first (bytePrepareRows w h pic s (length m) (length t))) (λ n. ending (preparedNot n) m t) (preparedOf film w h pic s m t)
+unfoldable pub bytePrepareOf : ℕ → ℕ → ℕ → List ℕ → Settings → List ℕ → List ℕ → List ℕ → Ended
+bytePrepareOf film w h pic s m t n =
+    unless (first (bytePrepareRows w h pic s (length m) (length t) (length n))) (λ k. ending (preparedNot k) m t n) (preparedOf film w h pic s m t n)
 
 -- enhance on bytes, "in place": a refusal keeps all memory; else what enhance does
 unfoldable pub byteEnhanceOf : ℕ → ℕ → List ℕ → Settings → List ℕ → List ℕ → Over
 byteEnhanceOf w h pic s m t =
-    unless (first (bytePrepareRows w h pic s (length m) (length t))) (λ n. overing (Enhanced.Refused n) pic m t) (enhancedOf w h pic s m t)
+    unless (first (byteEnhanceRows w h pic s (length m) (length t))) (λ n. overing (Enhanced.Refused n) pic m t) (enhancedOf w h pic s m t)
 
 -- ---- what the functions below ask
 
@@ -36,12 +40,17 @@ pub record ByteWork (w h : ℕ) (pic : List ℕ) (s : Settings) (room scratch : 
   pub work : Work w h pic s room scratch
   pub profile : Profile s
 
--- what `map_tiles` asks: that, and a factor that is not 1.0
+-- what `map_tile` knows of the film: that, and a factor that is not 1.0
 pub record ByteTilesAsk (w h : ℕ) (pic : List ℕ) (s : Settings) (room scratch : ℕ) : Type 0 where
   pub film : ByteWork w h pic s room scratch
   pub changes : clipOne (s .clip) ≡ false
 
--- what `map_tile` asks: that, of one of the tiles
+-- what `map_tiles` asks: that, and a list with two entries for each tile
+pub record ByteListAsks (w h : ℕ) (pic : List ℕ) (s : Settings) (room scratch list : ℕ) : Type 0 where
+  pub film : ByteTilesAsk w h pic s room scratch
+  pub pairs : spentEntries s ≤ list
+
+-- what `map_tile` asks: that of the film, of one of its tiles
 pub record ByteTileAsks (w h : ℕ) (pic : List ℕ) (s : Settings) (k room scratch : ℕ) : Type 0 where
   pub tiles : ByteTilesAsk w h pic s room scratch
   pub tile : k < s .across * s .down

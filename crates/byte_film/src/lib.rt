@@ -4,7 +4,8 @@ ghost use lib.ListN.{length};
 ghost use Rattle.refuse.specs.Refuse.{first};
 ghost use Rattle.tiles.specs.Tiles.{TileDone, TilesDone};
 ghost use Rattle.prepare.specs.Prepare.{ending, overing};
-ghost use Rattle.byte_film.specs.Bytes.{bytePrepareRows, bytePrepareOf, byteEnhanceOf, ByteTilesAsk, ByteTileAsks};
+ghost use Rattle.byte_film.specs.Bytes.{bytePrepareRows, bytePrepareOf, byteEnhanceOf, ByteListAsks, ByteTileAsks};
+use clip::Spent;
 use prepare::Enhanced;
 use prepare::Made;
 use prepare::Prepared;
@@ -12,8 +13,16 @@ use settings::Settings;
 use settings::Window;
 
 // The first refusal that applies, else 0. A byte lies in 0 to 255, so 13 is never given and not looked for.
-fn refusal(width: u32, height: u32, picture: &[u8], s: Settings, room: usize, scratch: usize) -> u32
-    ensures { λ r. ⌜ r ≡ first (bytePrepareRows width height (now (picture .entry)) s room scratch) ⌝ }
+fn refusal(
+    width: u32,
+    height: u32,
+    picture: &[u8],
+    s: Settings,
+    room: usize,
+    scratch: usize,
+    list: usize,
+) -> u32
+    ensures { λ r. ⌜ r ≡ first (bytePrepareRows width height (now (picture .entry)) s room scratch list) ⌝ }
 {
     let shared = profile::shared(width, height, picture.len(), s, room);
     if shared != 0 {
@@ -22,10 +31,13 @@ fn refusal(width: u32, height: u32, picture: &[u8], s: Settings, room: usize, sc
     if scratch < (settings::bins(s) as usize) {
         return 12;
     }
+    if list < (2 * (s.across * s.down) as usize) {
+        return 32;
+    }
     0
 }
 
-// Makes the mapping of tile k, in its place in the map buffer.
+// Makes the mapping of tile k, in its place in the map buffer. The answer is what clipping took.
 fn map_tile(
     picture: &[u8],
     width: u32,
@@ -34,9 +46,9 @@ fn map_tile(
     k: usize,
     map: &mut [u8],
     scratch: &mut [u32],
-)
+) -> Spent
     requires { ⌜ ByteTileAsks width height (now picture) s k (length (now map)) (length (now scratch)) ⌝ }
-    ensures { λ _. ⌜ TileDone width height (now (picture .entry)) s k (now (map .entry)) (now (map .exit)) (now (scratch .entry)) (now (scratch .exit)) ⌝ }
+    ensures { λ r. ⌜ TileDone width height (now (picture .entry)) s k (now (map .entry)) (now (map .exit)) (now (scratch .entry)) (now (scratch .exit)) r ⌝ }
 {
     let rect = tiles::tile_rect(width, height, s.across, s.down, k);
     let clip = s.clip;
@@ -54,10 +66,10 @@ fn map_tile(
         clip,
         scratch,
         &mut map[a..e],
-    );
+    )
 }
 
-// Makes the mappings of all tiles; the scratch is left zero.
+// Makes the mappings of all tiles, and lays down what clipping each took; the scratch is left zero.
 fn map_tiles(
     picture: &[u8],
     width: u32,
@@ -65,14 +77,16 @@ fn map_tiles(
     s: Settings,
     map: &mut [u8],
     scratch: &mut [u32],
+    list: &mut [u64],
 )
-    requires { ⌜ ByteTilesAsk width height (now picture) s (length (now map)) (length (now scratch)) ⌝ }
-    ensures { λ _. ⌜ TilesDone width height (now (picture .entry)) s (now (map .entry)) (now (map .exit)) (now (scratch .entry)) (now (scratch .exit)) ⌝ }
+    requires { ⌜ ByteListAsks width height (now picture) s (length (now map)) (length (now scratch)) (length (now list)) ⌝ }
+    ensures { λ _. ⌜ TilesDone width height (now (picture .entry)) s (now (map .entry)) (now (map .exit)) (now (scratch .entry)) (now (scratch .exit)) (now (list .entry)) (now (list .exit)) ⌝ }
 {
     let tiles = (s.across * s.down) as usize;
     let mut k = 0;
     while k < tiles {
-        map_tile(picture, width, height, s, k, map, scratch);
+        let spent = map_tile(picture, width, height, s, k, map, scratch);
+        tiles::put_spent(list, k, spent);
         k += 1;
     }
     let each = settings::bins(s) as usize;
@@ -88,10 +102,19 @@ pub fn prepare_bytes(
     s: Settings,
     map: &mut [u8],
     scratch: &mut [u32],
+    list: &mut [u64],
 ) -> Prepared
-    ensures { λ r. ⌜ ending r (now (map .exit)) (now (scratch .exit)) ≡ bytePrepareOf film width height (now (picture .entry)) s (now (map .entry)) (now (scratch .entry)) ⌝ }
+    ensures { λ r. ⌜ ending r (now (map .exit)) (now (scratch .exit)) (now (list .exit)) ≡ bytePrepareOf film width height (now (picture .entry)) s (now (map .entry)) (now (scratch .entry)) (now (list .entry)) ⌝ }
 {
-    let refused = refusal(width, height, picture, s, map.len(), scratch.len());
+    let refused = refusal(
+        width,
+        height,
+        picture,
+        s,
+        map.len(),
+        scratch.len(),
+        list.len(),
+    );
     if refused != 0 {
         return prepare::not_prepared(refused);
     }
@@ -105,7 +128,7 @@ pub fn prepare_bytes(
             kept,
         };
     }
-    map_tiles(picture, width, height, s, map, scratch);
+    map_tiles(picture, width, height, s, map, scratch, list);
     Prepared {
         answer: Made::Done(foot),
         kept,
@@ -123,7 +146,17 @@ pub fn enhance_bytes(
 ) -> Enhanced
     ensures { λ r. ⌜ overing r (now (picture .exit)) (now (map .exit)) (now (scratch .exit)) ≡ byteEnhanceOf width height (now (picture .entry)) s (now (map .entry)) (now (scratch .entry)) ⌝ }
 {
-    let refused = refusal(width, height, &picture[..], s, map.len(), scratch.len());
+    // no list is lent, and none is too short: this one has two entries for each of 8 x 8 tiles
+    let mut list = [0u64; 128];
+    let refused = refusal(
+        width,
+        height,
+        &picture[..],
+        s,
+        map.len(),
+        scratch.len(),
+        128,
+    );
     if refused != 0 {
         return Enhanced::Refused(refused);
     }
@@ -133,7 +166,7 @@ pub fn enhance_bytes(
     if unchanged {
         return Enhanced::Done(foot);
     }
-    map_tiles(&picture[..], width, height, s, map, scratch);
+    map_tiles(&picture[..], width, height, s, map, scratch, &mut list);
     let whole = Window {
         left: 0,
         top: 0,

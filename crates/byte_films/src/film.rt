@@ -3,6 +3,7 @@ use crate::bytes;
 use draw::Drawn;
 use filmset::column;
 use filmset::digest;
+use filmset::film::Left;
 use filmset::film::NOWHERE;
 use filmset::film::OUTPUT_BASE;
 use filmset::film::Shot;
@@ -10,8 +11,10 @@ use filmset::film::drawn_number;
 use filmset::film::handed;
 use filmset::film::is_film;
 use filmset::film::joined;
+use filmset::film::listed;
 use filmset::film::own;
 use filmset::film::same;
+use filmset::film::unlisted;
 use filmset::film::window;
 use filmset::kept;
 use filmset::kept::Kept;
@@ -24,6 +27,7 @@ use filmset::whole::word;
 use prepare::Enhanced;
 use prepare::Prepared;
 use settings::Settings;
+use text::Text;
 
 // The number in a draw's column of the field where the wide call prepares the film.
 const BY_WIDE: u64 = 11;
@@ -36,7 +40,14 @@ pub struct Made {
 }
 
 // Calls prepare, and prints its answer under the letter.
-fn prepared(letter: u8, row: Row, picture: &[u8], map: &mut [u8], scratch: &mut [u32]) -> Kept {
+fn prepared(
+    letter: u8,
+    row: Row,
+    picture: &[u8],
+    map: &mut [u8],
+    scratch: &mut [u32],
+    list: &mut [u64],
+) -> Kept {
     let t = kept::made(row);
     let s: Settings = kept::settings(t);
     let answer: Prepared = byte_film::prepare_bytes(
@@ -47,8 +58,24 @@ fn prepared(letter: u8, row: Row, picture: &[u8], map: &mut [u8], scratch: &mut 
         s,
         map,
         scratch,
+        list,
     );
     kept::of_prepared(letter, at(row, column::NO), t, answer)
+}
+
+// Makes the list and calls prepare, and prints its answer under the letter.
+fn prepared_listed(
+    letter: u8,
+    row: Row,
+    picture: &[u8],
+    map: &mut [u8],
+    scratch: &mut [u32],
+) -> Left {
+    let mut list = made::list();
+    let n = fitting(at(row, column::LIST_ROOM), 600);
+    let l = &mut list[0..n];
+    let kept = prepared(letter, row, picture, map, scratch, l);
+    listed(at(row, column::NO), kept, &l[..])
 }
 
 // Calls enhance, and prints its answer.
@@ -60,27 +87,38 @@ fn enhanced(row: Row, picture: &mut [u8], map: &mut [u8], scratch: &mut [u32]) -
 }
 
 // Calls enhance under the letter E, else prepare.
-fn call(letter: u8, row: Row, picture: &mut [u8], map: &mut [u8], scratch: &mut [u32]) -> Kept {
+fn call(letter: u8, row: Row, picture: &mut [u8], map: &mut [u8], scratch: &mut [u32]) -> Left {
     if letter == b'E' {
-        return enhanced(row, picture, map, scratch);
+        return unlisted(enhanced(row, picture, map, scratch));
     }
-    prepared(letter, row, &picture[..], map, scratch)
+    prepared_listed(letter, row, &picture[..], map, scratch)
 }
 
-// The digests of picture, map and scratch behind a call, and what it wrote; nothing under the letter 0. Answers the picture's.
-fn called_lines(letter: u8, no: u64, picture: &[u8], map: &[u8], scratch: &[u32]) -> u64 {
+// The digests of picture, map and scratch behind a call, behind prepare also that of its list, and what it wrote; nothing under the
+// letter 0. Answers the picture's.
+fn called_lines(
+    letter: u8,
+    no: u64,
+    list: u64,
+    line: Text,
+    picture: &[u8],
+    map: &[u8],
+    scratch: &[u32],
+) -> u64 {
     let digest = digest::bytes(picture);
     if letter == 0 {
         return digest;
     }
     let b = digest::bytes(map);
     let c = digest::words(scratch);
-    text::print(text::three(letter % 128 + 32, no, digest, b, c));
     if letter == b'E' {
+        text::print(text::three(b'e', no, digest, b, c));
         text::print(text::small_bytes(b'i', no, picture));
         return digest;
     }
+    text::print(text::four(b'p', no, digest, b, c, list));
     text::print(text::small_bytes(b'm', no, map));
+    text::print(line);
     digest
 }
 
@@ -93,8 +131,18 @@ fn called(letter: u8, row: Row, picture: &mut [u8]) -> Made {
     let mut scratch = made::scratch();
     let k = fitting(at(row, column::SCRATCH_ROOM), 4200);
     let s = &mut scratch[0..k];
-    let kept = call(letter, row, picture, m, s);
-    let digest = called_lines(letter, at(row, column::NO), &picture[..], &m[..], &s[..]);
+    let left = call(letter, row, picture, m, s);
+    let line = left.line;
+    let digest = called_lines(
+        letter,
+        at(row, column::NO),
+        left.list,
+        line,
+        &picture[..],
+        &m[..],
+        &s[..],
+    );
+    let kept = left.kept;
     Made { kept, digest, map }
 }
 

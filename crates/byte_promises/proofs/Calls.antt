@@ -38,13 +38,13 @@ use Rattle.byte_promises.proofs.Outcomes.{draw-bytes-says}
 
 module _ {p : PrepareCall} {r : MapRecord} {foot : Footer} (ran : PreparesBytes p) (prepared : preparedSays (p .answer) ≡ accepted (r, foot)) where
   -- it ended as prepare does
-  pub prepare-bytes-as-wide : ending (p .answer) (p .map′) (p .scratch′) ≡ prepareOf (p .film) (p .width) (p .height) (p .pixels) (p .settings) (p .map) (p .scratch)
+  pub prepare-bytes-as-wide : ending (p .answer) (p .map′) (p .scratch′) (p .list′) ≡ prepareOf (p .film) (p .width) (p .height) (p .pixels) (p .settings) (p .map) (p .scratch) (p .list)
   prepare-bytes-as-wide =
       prepare-bytes-ends ran
-      ∙ prepare-bytes-wide (p .film) (p .width) (p .height) (p .pixels) (p .settings) (p .map) (p .scratch)
+      ∙ prepare-bytes-wide (p .film) (p .width) (p .height) (p .pixels) (p .settings) (p .map) (p .scratch) (p .list)
       (sym (ap (λ (z : Ended). preparedSays (z .answer)) (prepare-bytes-ends ran)) ∙ prepared)
 
-  pub prepare-bytes-done : preparedSays (prepareOf (p .film) (p .width) (p .height) (p .pixels) (p .settings) (p .map) (p .scratch) .answer) ≡ accepted (r, foot)
+  pub prepare-bytes-done : preparedSays (prepareOf (p .film) (p .width) (p .height) (p .pixels) (p .settings) (p .map) (p .scratch) (p .list) .answer) ≡ accepted (r, foot)
   prepare-bytes-done = sym (ap (λ (z : Ended). preparedSays (z .answer)) prepare-bytes-as-wide) ∙ prepared
 
   -- each tile's own mapping lies in the map buffer
@@ -52,28 +52,28 @@ module _ {p : PrepareCall} {r : MapRecord} {foot : Footer} (ran : PreparesBytes 
       → getD (p .map′) (k * binsOf (p .settings) + b) 0
       ≡ mappedOf (p .settings .min) (p .settings .max) (pixelsIn (p .width) (p .height) (p .settings) k) (clippedCounts (p .width) (p .height) (p .pixels) (p .settings) k) b
   prepared-bytes-by-rule one k b l q =
-      ap (λ (z : Ended). getD (z .map) (k * binsOf (p .settings) + b) 0) prepare-bytes-as-wide ∙ own-mapping _ _ _ _ _ _ _ prepare-bytes-done one k b l q
+      ap (λ (z : Ended). getD (z .map) (k * binsOf (p .settings) + b) 0) prepare-bytes-as-wide ∙ own-mapping _ _ _ _ _ _ _ _ prepare-bytes-done one k b l q
 
   -- the record's own settings can be handed on for those that were asked
   pub record-bytes-settings : keptOf (r .settings) ≡ keptOf (p .settings)
-  record-bytes-settings = left-settings _ _ _ _ _ _ _ prepare-bytes-done
+  record-bytes-settings = left-settings _ _ _ _ _ _ _ _ prepare-bytes-done
 
   -- demand 3: what the footer shows, by the clip setting
   pub prepared-bytes-footer : FooterShows (p .settings .clip) (pixelsIn (p .width) (p .height) (p .settings) 0) (binsOf (p .settings)) foot
-  prepared-bytes-footer = footer-shows _ _ _ _ _ (p .map) (p .scratch) prepare-bytes-done
+  prepared-bytes-footer = footer-shows _ _ _ _ _ (p .map) (p .scratch) (p .list) prepare-bytes-done
 
   -- and every tile, "with each tile's own N and L"
   pub prepared-bytes-tiles-sound : {f : Float} → ClippingOn (p .settings .clip) f → FilmSound (p .width) (p .height) (p .pixels) (p .settings) f (p .map′)
-  prepared-bytes-tiles-sound on = rw (ap (λ (z : Ended). z .map) prepare-bytes-as-wide) (tiles-sound _ _ _ _ _ (p .map) (p .scratch) prepare-bytes-done on)
+  prepared-bytes-tiles-sound on = rw (ap (λ (z : Ended). z .map) prepare-bytes-as-wide) (tiles-sound _ _ _ _ _ (p .map) (p .scratch) (p .list) prepare-bytes-done on)
 
   -- whose own limit holds it
   pub prepared-bytes-limit-fits : {f : Float} → ClippingOn (p .settings .clip) f → (k : ℕ)
       → LimitFits f (pixelsIn (p .width) (p .height) (p .settings) k) (binsOf (p .settings)) (limitIn (p .width) (p .height) (p .settings) f k)
-  prepared-bytes-limit-fits {f} on k = limit-fits (prepare-work _ _ _ _ _ (p .map) (p .scratch) prepare-bytes-done) f k
+  prepared-bytes-limit-fits {f} on k = limit-fits (prepare-work _ _ _ _ _ (p .map) (p .scratch) (p .list) prepare-bytes-done) f k
 
   -- order 3: "every bin has at least one grey"
   pub prepared-bytes-bins-reached : BinsReached (p .settings)
-  prepared-bytes-bins-reached = tiled-reached (prepare-work _ _ _ _ _ (p .map) (p .scratch) prepare-bytes-done .ready .tiled)
+  prepared-bytes-bins-reached = tiled-reached (prepare-work _ _ _ _ _ (p .map) (p .scratch) (p .list) prepare-bytes-done .ready .tiled)
 
 -- ---- enhance on bytes
 
@@ -173,7 +173,7 @@ pub record EnhancesBytesFilm (p : PrepareCall) (foot : Footer) (e : EnhanceCall)
   pub scratch : binsOf (p .settings) ≤ length (e .scratch)
 
 module _ {p : PrepareCall} {foot : Footer} {d : DrawCall} (from : DrawnFromBytes p foot d) where
-  made : preparedSays (prepareOf (p .film) (p .width) (p .height) (p .pixels) (p .settings) (p .map) (p .scratch) .answer) ≡ accepted (d .kept, foot)
+  made : preparedSays (prepareOf (p .film) (p .width) (p .height) (p .pixels) (p .settings) (p .map) (p .scratch) (p .list) .answer) ≡ accepted (d .kept, foot)
   made = prepare-bytes-done (from .prepares) (from .prepared)
 
   shows : showing (d .answer) (d .out′) ≡ drawOf (d .film) (d .width) (d .height) (p .pixels) (d .settings) (d .kept) (d .window) (d .map) (d .out)
@@ -187,13 +187,13 @@ module _ {p : PrepareCall} {foot : Footer} {d : DrawCall} (from : DrawnFromBytes
   accepts = sym (ap (λ (z : Shows). drawnSays (z .answer)) shows) ∙ from .drawn
 
   entries : clipOne (p .settings .clip) ≡ false
-      → take (entriesOf (p .settings)) (d .map) ≡ take (entriesOf (p .settings)) (prepareOf (p .film) (p .width) (p .height) (p .pixels) (p .settings) (p .map) (p .scratch) .map)
+      → take (entriesOf (p .settings)) (d .map) ≡ take (entriesOf (p .settings)) (prepareOf (p .film) (p .width) (p .height) (p .pixels) (p .settings) (p .map) (p .scratch) (p .list) .map)
   entries one = from .mappings one ∙ ap (λ (z : Ended). take (entriesOf (p .settings)) (z .map)) (prepare-bytes-as-wide (from .prepares) (from .prepared))
 
   -- the window lies inside the film
   pub drawn-bytes-inside : (d .window .left + d .window .width ≤ p .width) × (d .window .top + d .window .height ≤ p .height)
   drawn-bytes-inside =
-      let handed = accepted-handed (p .film) (p .width) (p .height) (p .pixels) (p .settings) _ _ made _ _ _ _ _ (d .window) _ accepts entries in
+      let handed = accepted-handed (p .film) (p .width) (p .height) (p .pixels) (p .settings) _ _ _ made _ _ _ _ _ (d .window) _ accepts entries in
       (handed .across, handed .down)
 
   -- demand 2: each drawn pixel is the rule's
@@ -201,14 +201,14 @@ module _ {p : PrepareCall} {foot : Footer} {d : DrawCall} (from : DrawnFromBytes
       → drawnGrey d i j ≡ ruleGrey (p .width) (p .height) (p .pixels) (p .settings) (d .window .left + i) (d .window .top + j)
   drawn-bytes-by-rule one j i l k =
       ap (λ (z : Shows). getD (z .out) (j * d .window .width + i) 0) shows
-      ∙ accepted-by-rule (p .film) (p .width) (p .height) (p .pixels) (p .settings) _ _ made _ _ _ _ _ (d .window) _ accepts entries one j i l k
+      ∙ accepted-by-rule (p .film) (p .width) (p .height) (p .pixels) (p .settings) _ _ _ made _ _ _ _ _ (d .window) _ accepts entries one j i l k
 
   -- at the factor 1.0 the film's own pixels
   pub drawn-bytes-as-film : clipOne (p .settings .clip) ≡ true → (j i : ℕ) → j < d .window .height → i < d .window .width
       → drawnGrey d i j ≡ getD (p .pixels) ((d .window .top + j) * p .width + (d .window .left + i)) 0
   drawn-bytes-as-film one j i l k =
       ap (λ (z : Shows). getD (z .out) (j * d .window .width + i) 0) shows
-      ∙ accepted-as-film (p .film) (p .width) (p .height) (p .pixels) (p .settings) _ _ made _ _ _ _ _ (d .window) _ accepts entries one j i l k
+      ∙ accepted-as-film (p .film) (p .width) (p .height) (p .pixels) (p .settings) _ _ _ made _ _ _ _ _ (d .window) _ accepts entries one j i l k
 
   -- and the one in the byte picture that enhance leaves
   pub drawn-bytes-as-enhanced : {e : EnhanceCall} → EnhancesBytesFilm p foot e → (j i : ℕ) → j < d .window .height → i < d .window .width
@@ -219,5 +219,5 @@ module _ {p : PrepareCall} {foot : Footer} {d : DrawCall} (from : DrawnFromBytes
       ∙ rw (too .width, too .height, too .pixels)
       (sym (enhance-kept _ _ _ (e .settings) _ _) ∙ ap (λ s. enhanceOf (p .width) (p .height) (p .pixels) s (e .map) (e .scratch)) (too .like) ∙ enhance-kept _ _ _ (p .settings) _ _) in
       ap (λ (z : Shows). getD (z .out) (j * d .window .width + i) 0) shows
-      ∙ accepted-as-enhanced (p .film) _ _ _ _ _ _ made _ _ _ _ _ (d .window) _ accepts entries (e .map) (e .scratch) (too .map) (too .scratch) j i l k
+      ∙ accepted-as-enhanced (p .film) _ _ _ _ _ _ _ made _ _ _ _ _ (d .window) _ accepts entries (e .map) (e .scratch) (too .map) (too .scratch) j i l k
       ∙ sym (ap (λ (z : Over). getD (z .picture) ((d .window .top + j) * p .width + (d .window .left + i)) 0) leaves)

@@ -22,34 +22,34 @@ use Rattle.draw.specs.Draw.{pixelRows, drawRows, drawnPixels, drawnSays, Shows,
 use Rattle.draw.proofs.Tables.{draw-rows}
 use Rattle.profile.specs.Profile.{profileRows, byteRows}
 use Rattle.profile.proofs.Profile.{byte-numbered, byte-ready, byte-inside, profile-none}
-use Rattle.byte_film.specs.Bytes.{bytePrepareRows, bytePrepareOf, byteEnhanceOf}
-use Rattle.byte_film.proofs.Tables.{bytes-profile}
+use Rattle.byte_film.specs.Bytes.{bytePrepareRows, byteEnhanceRows, bytePrepareOf, byteEnhanceOf}
+use Rattle.byte_film.proofs.Tables.{bytes-profile, enhance-profile}
 use Rattle.byte_film.proofs.Endings.{prepare-inside, enhance-inside}
 use Rattle.byte_draw.specs.Bytes.{byteDrawRows, byteDrawOf}
 use Rattle.promises.proofs.Accepted.{ByTable, table-accepted, table-done}
 
 -- ---- prepare and enhance
 
-module _ (film w h : ℕ) (pic : List ℕ) (s : Settings) (m t : List ℕ) where
+module _ (film w h : ℕ) (pic : List ℕ) (s : Settings) (m t n : List ℕ) where
   -- prepare on bytes goes by its own rows
-  pub prepare-bytes-table : ByTable (λ (x : Ended). preparedSays (x .answer)) (first (bytePrepareRows w h pic s (length m) (length t)))
-      (recordOf film w h s, footOf w h s) (preparedOf film w h pic s m t) (λ k. ending (preparedNot k) m t) (bytePrepareOf film w h pic s m t)
+  pub prepare-bytes-table : ByTable (λ (x : Ended). preparedSays (x .answer)) (first (bytePrepareRows w h pic s (length m) (length t) (length n)))
+      (recordOf film w h s, footOf w h s) (preparedOf film w h pic s m t n) (λ k. ending (preparedNot k) m t n) (bytePrepareOf film w h pic s m t n)
   unfolding bytePrepareOf preparedOf preparedSays
   prepare-bytes-table =
       record {
-        when-none = λ z. ap (λ k. unless k (λ n. ending (preparedNot n) m t) (preparedOf film w h pic s m t)) z;
-        when-some = λ z. sym (unless-refused _ (λ n. ending (preparedNot n) m t) (preparedOf film w h pic s m t) z);
+        when-none = λ z. ap (λ i. unless i (λ k. ending (preparedNot k) m t n) (preparedOf film w h pic s m t n)) z;
+        when-some = λ z. sym (unless-refused _ (λ k. ending (preparedNot k) m t n) (preparedOf film w h pic s m t n) z);
         says-done = refl;
         says-lent = λ k. refl;
       }
 
   -- a film that it accepts is inside the profile, and it ends as prepare does
-  pub prepare-bytes-wide : {v : MapRecord × Footer} → preparedSays (bytePrepareOf film w h pic s m t .answer) ≡ accepted v → bytePrepareOf film w h pic s m t ≡ prepareOf film w h pic s m t
-  prepare-bytes-wide e = prepare-inside film w h pic s m t (profile-none s (bytes-profile w h pic s (length m) (length t) (table-accepted prepare-bytes-table e .0)))
+  pub prepare-bytes-wide : {v : MapRecord × Footer} → preparedSays (bytePrepareOf film w h pic s m t n .answer) ≡ accepted v → bytePrepareOf film w h pic s m t n ≡ prepareOf film w h pic s m t n
+  prepare-bytes-wide e = prepare-inside film w h pic s m t n (profile-none s (bytes-profile w h pic s (length m) (length t) (length n) (table-accepted prepare-bytes-table e .0)))
 
 module _ (w h : ℕ) (pic : List ℕ) (s : Settings) (m t : List ℕ) where
-  -- it goes by the same rows
-  pub enhance-bytes-table : ByTable (λ (x : Over). enhancedSays (x .answer)) (first (bytePrepareRows w h pic s (length m) (length t)))
+  -- enhance on bytes goes by the same rows but 32
+  pub enhance-bytes-table : ByTable (λ (x : Over). enhancedSays (x .answer)) (first (byteEnhanceRows w h pic s (length m) (length t)))
       (footOf w h s) (enhancedOf w h pic s m t) (λ k. overing (Enhanced.Refused k) pic m t) (byteEnhanceOf w h pic s m t)
   unfolding byteEnhanceOf enhancedOf enhancedSays
   enhance-bytes-table =
@@ -61,7 +61,7 @@ module _ (w h : ℕ) (pic : List ℕ) (s : Settings) (m t : List ℕ) where
       }
 
   pub enhance-bytes-wide : {v : Footer} → enhancedSays (byteEnhanceOf w h pic s m t .answer) ≡ accepted v → byteEnhanceOf w h pic s m t ≡ enhanceOf w h pic s m t
-  enhance-bytes-wide e = enhance-inside w h pic s m t (profile-none s (bytes-profile w h pic s (length m) (length t) (table-accepted enhance-bytes-table e .0)))
+  enhance-bytes-wide e = enhance-inside w h pic s m t (profile-none s (enhance-profile w h pic s (length m) (length t) (table-accepted enhance-bytes-table e .0)))
 
 -- ---- draw
 

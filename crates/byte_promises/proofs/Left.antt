@@ -19,8 +19,8 @@ use Rattle.tally.specs.Tally.{greysOf}
 use Rattle.render.specs.Render.{renderOf, rectOf, whole}
 use Rattle.render.proofs.Laws.{render-within}
 use Rattle.tiles.specs.Tiles.{mappings, Work, TilesAsk}
-use Rattle.prepare.specs.Prepare.{prepareRows, Ended, ending, preparedOf, prepareOf, Over, enhancedOf, enhanceOf}
-use Rattle.prepare.proofs.Table.{work}
+use Rattle.prepare.specs.Prepare.{prepareRows, enhanceRows, Ended, ending, preparedOf, prepareOf, Over, enhancedOf, enhanceOf}
+use Rattle.prepare.proofs.Table.{work, over-work}
 use Rattle.tiles.proofs.Films.{mappings-within}
 use Rattle.prepare.proofs.Renders.{whole-shown, laid-mapped, laid-render}
 use Rattle.draw.specs.Draw.{drawRows, Shows, drawOf, DrawReady}
@@ -53,24 +53,24 @@ module _ (w h : ℕ) (pic : List ℕ) (s : Settings) (m t : List ℕ) (most : s 
   picture-bytes known true e = bytes
   picture-bytes known false e = rendered-bytes record { work = known; changes = e }
 
-  -- the map buffer that prepare leaves
-  pub prepare-leaves-bytes : (film : ℕ) → all isByte (prepareOf film w h pic s m t .map) ≡ true
+  -- the map buffer that prepare leaves, whatever list it is lent
+  pub prepare-leaves-bytes : (film : ℕ) (n : List ℕ) → all isByte (prepareOf film w h pic s m t n .map) ≡ true
   unfolding preparedOf
-  prepare-leaves-bytes film = go (first (prepareRows w h pic s (length m) (length t))) refl
+  prepare-leaves-bytes film n = go (first (prepareRows w h pic s (length m) (length t) (length n))) refl
     where
-      go : (n : ℕ) → first (prepareRows w h pic s (length m) (length t)) ≡ n → all isByte (prepareOf film w h pic s m t .map) ≡ true
-      go zero z = ap (λ (x : Ended). all isByte (x .map)) (prepare-table film w h pic s m t .when-none z) ∙ map-bytes (work w h pic s (length m) (length t) z) (clipOne (s .clip)) refl
-      go (suc n) z = ap (λ (x : Ended). all isByte (x .map)) (prepare-table film w h pic s m t .when-some (λ q. omega (arith, z, q))) ∙ entries
+      go : (k : ℕ) → first (prepareRows w h pic s (length m) (length t) (length n)) ≡ k → all isByte (prepareOf film w h pic s m t n .map) ≡ true
+      go zero z = ap (λ (x : Ended). all isByte (x .map)) (prepare-table film w h pic s m t n .when-none z) ∙ map-bytes (work w h pic s (length m) (length t) (length n) z) (clipOne (s .clip)) refl
+      go (suc k) z = ap (λ (x : Ended). all isByte (x .map)) (prepare-table film w h pic s m t n .when-some (λ q. omega (arith, z, q))) ∙ entries
 
   -- the picture and the map buffer that enhance leaves
   pub enhance-leaves-bytes : (all isByte (enhanceOf w h pic s m t .picture) ≡ true) × (all isByte (enhanceOf w h pic s m t .map) ≡ true)
   unfolding enhancedOf
-  enhance-leaves-bytes = go (first (prepareRows w h pic s (length m) (length t))) refl
+  enhance-leaves-bytes = go (first (enhanceRows w h pic s (length m) (length t))) refl
     where
-      go : (n : ℕ) → first (prepareRows w h pic s (length m) (length t)) ≡ n → (all isByte (enhanceOf w h pic s m t .picture) ≡ true) × (all isByte (enhanceOf w h pic s m t .map) ≡ true)
+      go : (n : ℕ) → first (enhanceRows w h pic s (length m) (length t)) ≡ n → (all isByte (enhanceOf w h pic s m t .picture) ≡ true) × (all isByte (enhanceOf w h pic s m t .map) ≡ true)
       go zero z =
           let e = enhance-table w h pic s m t .when-none z in
-          let known = work w h pic s (length m) (length t) z in (
+          let known = over-work w h pic s (length m) (length t) z in (
             ap (λ (x : Over). all isByte (x .picture)) e ∙ picture-bytes known (clipOne (s .clip)) refl,
             ap (λ (x : Over). all isByte (x .map)) e ∙ map-bytes known (clipOne (s .clip)) refl,
           )

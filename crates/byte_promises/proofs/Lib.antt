@@ -5,3 +5,4 @@ pub mod Outcomes
 pub mod Wide
 pub mod Calls
 pub mod Fitted
+pub mod Looks

@@ -1,5 +1,5 @@
 -- The byte calls, demand 1 and how tight their promises are: what each answer says, that a refusal keeps all lent memory, that two runs of the same end the same, that 13, 14
--- and 18 are never given, and that outside the profile there is 30 or an earlier number. Of every run by the contracts (Runs); a name with ′ is lent memory at the end.
+-- and 18 are never given, nor 32 by enhance, and that outside the profile there is 30 or an earlier number. Of every run by the contracts (Runs); a name with ′ is lent memory at the end.
 -- Assumes nothing.
 use Prim.Native.Nat.{ℕ, zero, suc}
 use mathlib.Core.Bool.{true, cond}
@@ -16,8 +16,9 @@ use Rattle.draw.specs.Draw.{drawnSays, Shows}
 use Rattle.narrow.specs.Narrow.{isByte}
 use Rattle.profile.specs.Profile.{profileRows}
 use Rattle.profile.proofs.Greys.{byte-at}
-use Rattle.byte_film.specs.Bytes.{bytePrepareRows, bytePrepareOf, byteEnhanceOf}
-use Rattle.byte_film.proofs.Parts.{bytes-never-13, bytes-never-14, bytes-outside}
+use Rattle.byte_film.specs.Bytes.{bytePrepareRows, byteEnhanceRows, bytePrepareOf, byteEnhanceOf}
+use Rattle.byte_film.proofs.Tables.{rows-enough}
+use Rattle.byte_film.proofs.Parts.{bytes-never-13, bytes-never-14, bytes-outside, enhance-never-32}
 use Rattle.byte_draw.specs.Bytes.{byteDrawRows, byteDrawOf}
 use Rattle.byte_draw.proofs.Parts.{draw-never-13-18, draw-outside}
 use Rattle.promises.proofs.Accepted.{says-refused, refused-says, table-says, table-kept}
@@ -30,14 +31,14 @@ use Rattle.byte_promises.proofs.Runs.{PreparesBytes, prepare-bytes-ends
 -- prepare on bytes: the number of the first row that applies, "1 to 10 as they stand, then 30 .., then 11 and on as in the wide call", or the wide call's record and footer
 pub prepare-bytes-says : {p : PrepareCall} → PreparesBytes p
     → preparedSays (p .answer)
-    ≡ says (first (bytePrepareRows (p .width) (p .height) (p .pixels) (p .settings) (length (p .map)) (length (p .scratch))))
+    ≡ says (first (bytePrepareRows (p .width) (p .height) (p .pixels) (p .settings) (length (p .map)) (length (p .scratch)) (length (p .list))))
     (recordOf (p .film) (p .width) (p .height) (p .settings), footOf (p .width) (p .height) (p .settings))
-prepare-bytes-says ran = ap (λ (y : Ended). preparedSays (y .answer)) (prepare-bytes-ends ran) ∙ table-says (prepare-bytes-table _ _ _ _ _ _ _)
+prepare-bytes-says ran = ap (λ (y : Ended). preparedSays (y .answer)) (prepare-bytes-ends ran) ∙ table-says (prepare-bytes-table _ _ _ _ _ _ _ _)
 
--- enhance on bytes: that of the same rows, or the same footer
+-- enhance on bytes: that of the same rows but 32, or the same footer
 pub enhance-bytes-says : {e : EnhanceCall} → EnhancesBytes e
     → enhancedSays (e .answer)
-    ≡ says (first (bytePrepareRows (e .width) (e .height) (e .pixels) (e .settings) (length (e .map)) (length (e .scratch)))) (footOf (e .width) (e .height) (e .settings))
+    ≡ says (first (byteEnhanceRows (e .width) (e .height) (e .pixels) (e .settings) (length (e .map)) (length (e .scratch)))) (footOf (e .width) (e .height) (e .settings))
 enhance-bytes-says ran = ap (λ (y : Over). enhancedSays (y .answer)) (enhance-bytes-ends ran) ∙ table-says (enhance-bytes-table _ _ _ _ _ _)
 
 -- draw on bytes: that of its own rows
@@ -47,11 +48,12 @@ draw-bytes-says ran = ap (λ (y : Shows). drawnSays (y .answer)) (draw-bytes-end
 
 -- ---- a refusal keeps all lent memory
 
-pub prepare-bytes-refusal-keeps : {p : PrepareCall} (n : ℕ) → PreparesBytes p → preparedSays (p .answer) ≡ refused n → (p .map′ ≡ p .map) × (p .scratch′ ≡ p .scratch)
+pub prepare-bytes-refusal-keeps : {p : PrepareCall} (n : ℕ) → PreparesBytes p → preparedSays (p .answer) ≡ refused n
+    → (p .map′ ≡ p .map) × (p .scratch′ ≡ p .scratch) × (p .list′ ≡ p .list)
 prepare-bytes-refusal-keeps n ran q =
     let x = prepare-bytes-ends ran in
-    let e = x ∙ table-kept (prepare-bytes-table _ _ _ _ _ _ _) (sym (ap (λ (y : Ended). preparedSays (y .answer)) x) ∙ q) in
-    (ap (λ (y : Ended). y .map) e, ap (λ (y : Ended). y .scratch) e)
+    let e = x ∙ table-kept (prepare-bytes-table _ _ _ _ _ _ _ _) (sym (ap (λ (y : Ended). preparedSays (y .answer)) x) ∙ q) in
+    (ap (λ (y : Ended). y .map) e, ap (λ (y : Ended). y .scratch) e, ap (λ (y : Ended). y .list) e)
 
 pub enhance-bytes-refusal-keeps : {e : EnhanceCall} (n : ℕ) → EnhancesBytes e → enhancedSays (e .answer) ≡ refused n
     → (e .pixels′ ≡ e .pixels) × (e .map′ ≡ e .map) × (e .scratch′ ≡ e .scratch)
@@ -68,10 +70,10 @@ draw-bytes-refusal-keeps n ran q =
 -- ---- one outcome only
 
 pub prepare-bytes-determined : {p q : PrepareCall} → PreparesBytes p → PreparesBytes q → prepare-given p ≡ prepare-given q
-    → (p .answer ≡ q .answer) × (p .map′ ≡ q .map′) × (p .scratch′ ≡ q .scratch′)
+    → (p .answer ≡ q .answer) × (p .map′ ≡ q .map′) × (p .scratch′ ≡ q .scratch′) × (p .list′ ≡ q .list′)
 prepare-bytes-determined x y same =
-    let e = prepare-bytes-ends x ∙ ap (λ g. bytePrepareOf (g .0) (g .1) (g .2) (g .3) (g .4) (g .5) (g .6)) same ∙ sym (prepare-bytes-ends y) in
-    (ap (λ (z : Ended). z .answer) e, ap (λ (z : Ended). z .map) e, ap (λ (z : Ended). z .scratch) e)
+    let e = prepare-bytes-ends x ∙ ap (λ g. bytePrepareOf (g .0) (g .1) (g .2) (g .3) (g .4) (g .5) (g .6) (g .7)) same ∙ sym (prepare-bytes-ends y) in
+    (ap (λ (z : Ended). z .answer) e, ap (λ (z : Ended). z .map) e, ap (λ (z : Ended). z .scratch) e, ap (λ (z : Ended). z .list) e)
 
 pub enhance-bytes-determined : {e f : EnhanceCall} → EnhancesBytes e → EnhancesBytes f → enhance-given e ≡ enhance-given f
     → (e .answer ≡ f .answer) × (e .pixels′ ≡ f .pixels′) × (e .map′ ≡ f .map′) × (e .scratch′ ≡ f .scratch′)
@@ -88,20 +90,27 @@ draw-bytes-determined x y same =
 
 pub prepare-bytes-never-13 : {p : PrepareCall} → PreparesBytes p → all isByte (p .pixels) ≡ true → preparedSays (p .answer) ≢ refused 13
 prepare-bytes-never-13 {p} ran bytes q =
-    bytes-never-13 (p .width) (p .height) (p .pixels) (p .settings) (length (p .map)) (length (p .scratch)) bytes (says-refused _ _ (sym (prepare-bytes-says ran) ∙ q))
+    bytes-never-13 (p .width) (p .height) (p .pixels) (p .settings) (length (p .map)) (length (p .scratch)) (length (p .list)) bytes (says-refused _ _ (sym (prepare-bytes-says ran) ∙ q))
 
 pub enhance-bytes-never-13 : {e : EnhanceCall} → EnhancesBytes e → all isByte (e .pixels) ≡ true → enhancedSays (e .answer) ≢ refused 13
 enhance-bytes-never-13 {e} ran bytes q =
-    bytes-never-13 (e .width) (e .height) (e .pixels) (e .settings) (length (e .map)) (length (e .scratch)) bytes (says-refused _ _ (sym (enhance-bytes-says ran) ∙ q))
+    bytes-never-13 (e .width) (e .height) (e .pixels) (e .settings) (length (e .map)) (length (e .scratch)) 128 bytes
+    (rows-enough (e .width) (e .height) (e .pixels) (e .settings) (length (e .map)) (length (e .scratch)) ∙ says-refused _ _ (sym (enhance-bytes-says ran) ∙ q))
 
 -- nor is 14: "a clip refusal never occurs"
 pub prepare-bytes-never-14 : {p : PrepareCall} → PreparesBytes p → preparedSays (p .answer) ≢ refused 14
 prepare-bytes-never-14 {p} ran q =
-    bytes-never-14 (p .width) (p .height) (p .pixels) (p .settings) (length (p .map)) (length (p .scratch)) (says-refused _ _ (sym (prepare-bytes-says ran) ∙ q))
+    bytes-never-14 (p .width) (p .height) (p .pixels) (p .settings) (length (p .map)) (length (p .scratch)) (length (p .list)) (says-refused _ _ (sym (prepare-bytes-says ran) ∙ q))
 
 pub enhance-bytes-never-14 : {e : EnhanceCall} → EnhancesBytes e → enhancedSays (e .answer) ≢ refused 14
 enhance-bytes-never-14 {e} ran q =
-    bytes-never-14 (e .width) (e .height) (e .pixels) (e .settings) (length (e .map)) (length (e .scratch)) (says-refused _ _ (sym (enhance-bytes-says ran) ∙ q))
+    bytes-never-14 (e .width) (e .height) (e .pixels) (e .settings) (length (e .map)) (length (e .scratch)) 128
+    (rows-enough (e .width) (e .height) (e .pixels) (e .settings) (length (e .map)) (length (e .scratch)) ∙ says-refused _ _ (sym (enhance-bytes-says ran) ∙ q))
+
+-- nor is 32 by enhance, which is lent no list
+pub enhance-bytes-never-32 : {e : EnhanceCall} → EnhancesBytes e → enhancedSays (e .answer) ≢ refused 32
+enhance-bytes-never-32 {e} ran q =
+    enhance-never-32 (e .width) (e .height) (e .pixels) (e .settings) (length (e .map)) (length (e .scratch)) (says-refused _ _ (sym (enhance-bytes-says ran) ∙ q))
 
 pub draw-bytes-never-13-18 : {d : DrawCall} → DrawsBytes d → all isByte (d .pixels) ≡ true → all isByte (d .map) ≡ true
     → (drawnSays (d .answer) ≢ refused 13) × (drawnSays (d .answer) ≢ refused 18)
@@ -116,14 +125,14 @@ pub prepare-bytes-thirty : {p : PrepareCall} → PreparesBytes p → first (prof
 prepare-bytes-thirty {p} ran outside fair =
     prepare-bytes-says ran
     ∙ refused-says _ _ {k = 29}
-    (bytes-outside (p .width) (p .height) (p .pixels) (p .settings) (length (p .map)) (length (p .scratch)) outside ∙ ap (λ n. cond (eqb n 0) 30 n) fair)
+    (bytes-outside (p .width) (p .height) (p .pixels) (p .settings) (length (p .map)) (length (p .scratch)) (length (p .list)) outside ∙ ap (λ n. cond (eqb n 0) 30 n) fair)
 
 pub enhance-bytes-thirty : {e : EnhanceCall} → EnhancesBytes e → first (profileRows (e .settings)) ≢ 0 → first (settingRows (e .width) (e .height) (length (e .pixels)) (e .settings)) ≡ 0
     → enhancedSays (e .answer) ≡ refused 30
 enhance-bytes-thirty {e} ran outside fair =
     enhance-bytes-says ran
     ∙ refused-says _ _ {k = 29}
-    (bytes-outside (e .width) (e .height) (e .pixels) (e .settings) (length (e .map)) (length (e .scratch)) outside ∙ ap (λ n. cond (eqb n 0) 30 n) fair)
+    (sym (rows-enough (e .width) (e .height) (e .pixels) (e .settings) (length (e .map)) (length (e .scratch))) ∙ bytes-outside (e .width) (e .height) (e .pixels) (e .settings) (length (e .map)) (length (e .scratch)) 128 outside ∙ ap (λ n. cond (eqb n 0) 30 n) fair)
 
 pub draw-bytes-thirty : {d : DrawCall} → DrawsBytes d → first (profileRows (d .settings)) ≢ 0 → first (settingRows (d .width) (d .height) (length (d .pixels)) (d .settings)) ≡ 0
     → drawnSays (d .answer) ≡ refused 30

@@ -27,16 +27,16 @@ use Rattle.promises.proofs.Runs.{PrepareCall, EnhanceCall, DrawCall}
 
 abbrev pub prepare-bytes-values : Run prepare-bytes.ps prepare-bytes.r prepare-bytes-reads.Post → PrepareCall
 prepare-bytes-values run =
-    let (film, (width, (height, (pixels, (settings, (map, (scratch, end))))))) = run .handed in
-    let (_, (_, (_, (_, (_, (map′, (scratch′, end′))))))) = run .left in
-    record { film = film; width = width; height = height; pixels = now pixels; settings = settings; map = now map; scratch = now scratch; answer = run .answer; map′ = now map′; scratch′ = now scratch′ }
+    let (film, (width, (height, (pixels, (settings, (map, (scratch, (list, end)))))))) = run .handed in
+    let (_, (_, (_, (_, (_, (map′, (scratch′, (list′, end′)))))))) = run .left in
+    record { film = film; width = width; height = height; pixels = now pixels; settings = settings; map = now map; scratch = now scratch; list = now list; answer = run .answer; map′ = now map′; scratch′ = now scratch′; list′ = now list′ }
 
 -- prepare on bytes ran with these values
 abbrev pub PreparesBytes : PrepareCall → Type 0
 PreparesBytes = Ran prepare-bytes-values
 
 pub prepare-bytes-ends : {p : PrepareCall} → PreparesBytes p
-    → ending (p .answer) (p .map′) (p .scratch′) ≡ bytePrepareOf (p .film) (p .width) (p .height) (p .pixels) (p .settings) (p .map) (p .scratch)
+    → ending (p .answer) (p .map′) (p .scratch′) (p .list′) ≡ bytePrepareOf (p .film) (p .width) (p .height) (p .pixels) (p .settings) (p .map) (p .scratch) (p .list)
 prepare-bytes-ends ran = rw (ran .named) (ran .run .allowed)
 
 abbrev pub enhance-bytes-values : Run enhance-bytes.ps enhance-bytes.r enhance-bytes-reads.Post → EnhanceCall

@@ -47,26 +47,27 @@ narrowed-same n = n .into ∙ narrow-ends (n .ran) ∙ onto-whole (n .call .dst)
 
 -- ---- prepare
 
--- the wide call was handed the same film, widened, and another way to its map buffer
+-- the wide call was handed the same film and map buffer, widened, and the same scratch and list
 pub record PrepareOver (b p : PrepareCall) : Type 0 where
   pub film : p .film ≡ b .film
   pub width : p .width ≡ b .width
   pub height : p .height ≡ b .height
   pub settings : p .settings ≡ b .settings
   pub scratch : p .scratch ≡ b .scratch
+  pub list : p .list ≡ b .list
   pub pixels : Widened (b .pixels) (p .pixels)
   pub map : Widened (b .map) (p .map)
 
--- the same answer and scratch, and the map buffer narrowed again is the byte call's
+-- the same answer, scratch and list, and the map buffer narrowed again is the byte call's
 pub widened-prepare : {b p : PrepareCall} {map″ : List ℕ} → PreparesBytes b → Prepares p → first (profileRows (b .settings)) ≡ 0 → PrepareOver b p → Narrowed (p .map′) map″
-    → (b .answer ≡ p .answer) × (b .map′ ≡ map″) × (b .scratch′ ≡ p .scratch′)
+    → (b .answer ≡ p .answer) × (b .map′ ≡ map″) × (b .scratch′ ≡ p .scratch′) × (b .list′ ≡ p .list′)
 widened-prepare {b} {p} ran wide inside way back =
-    let x : ending (p .answer) (p .map′) (p .scratch′) ≡ prepareOf (p .film) (p .width) (p .height) (p .pixels) (p .settings) (p .map) (p .scratch) = prepare-ends wide in
-    let e : ending (b .answer) (b .map′) (b .scratch′) ≡ ending (p .answer) (p .map′) (p .scratch′) =
+    let x : ending (p .answer) (p .map′) (p .scratch′) (p .list′) ≡ prepareOf (p .film) (p .width) (p .height) (p .pixels) (p .settings) (p .map) (p .scratch) (p .list) = prepare-ends wide in
+    let e : ending (b .answer) (b .map′) (b .scratch′) (b .list′) ≡ ending (p .answer) (p .map′) (p .scratch′) (p .list′) =
     prepare-bytes-ends ran
-    ∙ prepare-inside (b .film) (b .width) (b .height) (b .pixels) (b .settings) (b .map) (b .scratch) inside
-    ∙ sym (x ∙ rw (way .film, way .width, way .height, way .settings, way .scratch, widened-same (way .pixels), widened-same (way .map)) refl) in
-    (ap (λ (z : Ended). z .answer) e, ap (λ (z : Ended). z .map) e ∙ sym (narrowed-same back), ap (λ (z : Ended). z .scratch) e)
+    ∙ prepare-inside (b .film) (b .width) (b .height) (b .pixels) (b .settings) (b .map) (b .scratch) (b .list) inside
+    ∙ sym (x ∙ rw (way .film, way .width, way .height, way .settings, way .scratch, way .list, widened-same (way .pixels), widened-same (way .map)) refl) in
+    (ap (λ (z : Ended). z .answer) e, ap (λ (z : Ended). z .map) e ∙ sym (narrowed-same back), ap (λ (z : Ended). z .scratch) e, ap (λ (z : Ended). z .list) e)
 
 -- and what narrow asks of the map buffer is met, where film and map buffer were bytes
 pub prepare-narrow-met : {b p : PrepareCall} → Prepares p → first (profileRows (b .settings)) ≡ 0 → PrepareOver b p → all isByte (b .pixels) ≡ true → all isByte (b .map) ≡ true
@@ -74,7 +75,7 @@ pub prepare-narrow-met : {b p : PrepareCall} → Prepares p → first (profileRo
 prepare-narrow-met {b} {p} wide inside way bytes entries =
     ap (λ (z : Ended). all isByte (z .map)) (prepare-ends wide)
     ∙ rw (way .width, way .height, way .settings, way .scratch, widened-same (way .pixels), widened-same (way .map))
-    (prepare-leaves-bytes (b .width) (b .height) (b .pixels) (b .settings) (b .map) (b .scratch) (le-of-eq (profile (b .settings) inside .max)) bytes entries (p .film))
+    (prepare-leaves-bytes (b .width) (b .height) (b .pixels) (b .settings) (b .map) (b .scratch) (le-of-eq (profile (b .settings) inside .max)) bytes entries (p .film) (p .list))
 
 -- ---- enhance
 

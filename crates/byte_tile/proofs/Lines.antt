@@ -18,7 +18,8 @@ use Rattle.scan.proofs.Spans.{within-high}
 use Rattle.tally.specs.declared.Rect.{Rect}
 use Rattle.tally.specs.Tally.{greysOf, countsOf, FourAsks, FourAdded, RowsAsks}
 use Rattle.tally.proofs.Greys.{inside-part, length-row}
-use Rattle.tile.specs.Tile.{clippedBy, countsMapping, FromAsks, TileMapped}
+use Rattle.clip.specs.declared.Spent.{Spent}
+use Rattle.tile.specs.Tile.{clippedBy, countsMapping, spentBy, FromAsks, TileMapped}
 use Rattle.tile.proofs.Tiles.{length-counts-mapping, counts-mapping-within, tile-part, tile-asks, tile-mapped}
 use Rattle.narrow.specs.Narrow.{isByte}
 use Rattle.byte_tile.specs.ByteTile.{ByteTileAsks}
@@ -90,6 +91,7 @@ module _ {pic : List ℕ} {stride : ℕ} {r : Rect} {lo hi b : ℕ} {clip : Clip
     )
 
     -- at the end
-    pub mapping-end : (p : List ℕ) {p′ q : List ℕ} → q ≡ clippedBy clip (r .width * r .height) (take b s) → p′ ≡ onto p (take b (o ++ drop b l))
-        → TileMapped lo hi b clip (greysOf pic stride r) d (q ++ drop b s) p p′
-    mapping-end p f g = tile-mapped (asks .tile) d e p f (g ∙ ap (onto p) line-mapping)
+    pub mapping-end : (p : List ℕ) {p′ q : List ℕ} {took : Spent} → q ≡ clippedBy clip (r .width * r .height) (take b s) → p′ ≡ onto p (take b (o ++ drop b l))
+        → took ≡ spentBy clip (r .width * r .height) (take b s)
+        → TileMapped lo hi b clip (greysOf pic stride r) d (q ++ drop b s) p p′ took
+    mapping-end p f g k = tile-mapped (asks .tile) d e p f (g ∙ ap (onto p) line-mapping) k

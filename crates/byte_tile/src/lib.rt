@@ -6,6 +6,7 @@ ghost use Rattle.lists.specs.Lists.{onto};
 ghost use Rattle.tally.specs.Tally.{greysOf, countsOf, FourAsks, FourAdded, RowsAsks, CountAsks};
 ghost use Rattle.tile.specs.Tile.{TileMapped};
 ghost use Rattle.byte_tile.specs.ByteTile.{ByteTileAsks};
+use clip::Spent;
 use limit::Clip;
 use tally::Rect;
 
@@ -93,7 +94,7 @@ pub fn count(
     tally::add_up(counts, &b, &c, &d, bins as usize);
 }
 
-// A tile's mapping from its bytes: counted, then clipped and mapped into a line of its own, then made bytes. The counts stay in the front of the scratch.
+// A tile's mapping from its bytes: counted, then clipped and mapped into a line of its own, then made bytes. The counts stay in the front of the scratch. The answer is what clipping took.
 pub fn mapping(
     picture: &[u8],
     stride: usize,
@@ -104,15 +105,15 @@ pub fn mapping(
     clip: Clip,
     scratch: &mut [u32],
     out: &mut [u8],
-)
+) -> Spent
     requires { ⌜ ByteTileAsks (now picture) stride rect min max bins clip (length (now scratch)) (length (now out)) ⌝ }
-    ensures { λ _. ⌜ TileMapped min max bins clip (greysOf (now (picture .entry)) stride rect) (now (scratch .entry)) (now (scratch .exit)) (now (out .entry)) (now (out .exit)) ⌝ }
+    ensures { λ r. ⌜ TileMapped min max bins clip (greysOf (now (picture .entry)) stride rect) (now (scratch .entry)) (now (scratch .exit)) (now (out .entry)) (now (out .exit)) r ⌝ }
 {
     let pixels = (rect.width * rect.height) as u32;
     let entries = bins as usize;
     count(picture, stride, rect, min, max, bins, scratch);
     let mut line = [0u16; 256];
-    tile::from_counts(
+    let spent = tile::from_counts(
         clip,
         pixels,
         min,
@@ -121,4 +122,5 @@ pub fn mapping(
         &mut line[..entries],
     );
     narrow::narrow(&line[..entries], out);
+    spent
 }

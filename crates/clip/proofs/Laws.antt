@@ -1,14 +1,17 @@
--- What the clipped counts are: as many as the counts, adding up to the same, none above the limit, each with its even share or at the limit.
+-- What the clipped counts are: as many as the counts, adding up to the same, none above the limit, each with its even share or at the limit. How many looks they took at most.
 -- Assumes nothing.
 use Prim.Native.Nat.{ℕ, zero, suc, _+_, _-_, _*_, _≤_, _<_, min}
 use mathlib.Core.List.{List, [], _∷_, map}
 use mathlib.Core.Logic.{_⊎_, inl, inr}
 use mathlib.Core.Path.{_≡_, refl, sym, ap, _∙_}
 use lib.ListN.{length, length-map, getD}
+use native.Mathlib.Nat.{mul-left-comm}
 use native.Mathlib.Omega.{arith}
 use Rattle.lists.specs.Lists.{total}
 use Rattle.lists.proofs.Totals.{getD-map-lt, getD-map-le}
 use Rattle.clip.specs.Clip.{share, shared, left, starts, clipped}
+use Rattle.clip.specs.Looks.{looksFrom, looksOf, upTo}
+use Rattle.clip.proofs.Looked.{looks-none-left, looks-most, upTo-twice}
 use Rattle.clip.proofs.Rounds.{length-starts, starts-most, starts-grows, total-all-starts}
 use Rattle.clip.proofs.Shares.{shared-most, shared-least, total-first}
 
@@ -51,3 +54,21 @@ clipped-least l cs i h = go (shared-least l (share l cs) (getD cs i 0))
         → (getD cs i 0 + share l cs ≤ getD (clipped l cs) i 0) ⊎ (getD (clipped l cs) i 0 ≡ l)
     go (inl p) = inl (omega (arith, clipped-grown l cs i h))
     go (inr e) = inr (omega (arith, clipped-grown l cs i h, clipped-most l cs i))
+
+-- order 7, "it is 0 when r is 0"
+pub looks-none : (l : ℕ) (cs : List ℕ) → left l cs ≡ 0 → looksOf l cs ≡ 0
+unfolding looksOf
+looks-none l cs e =
+    ap (looksFrom (left l cs * length cs) l 0 (map (shared l (share l cs)) cs)) e
+    ∙ looks-none-left (left l cs * length cs) l 0 (map (shared l (share l cs)) cs)
+
+-- "and never more than r x B x (B + 1) / 2": twice of it
+pub looks-within : (l : ℕ) (cs : List ℕ) → 2 * looksOf l cs ≤ left l cs * (length cs * (length cs + 1))
+unfolding looksOf
+looks-within l cs =
+    let ds = map (shared l (share l cs)) cs in
+    let n : length ds ≡ length cs = length-map cs (shared l (share l cs)) in
+    let m : looksFrom (left l cs * length cs) l 0 ds (left l cs) ≤ left l cs * upTo (length cs) = rw n at (looks-most l ds (left l cs)) in
+    let e : left l cs * (length cs * (length cs + 1)) ≡ 2 * (left l cs * upTo (length cs)) =
+    ap (λ x. left l cs * x) (sym (upTo-twice (length cs))) ∙ mul-left-comm (left l cs) 2 (upTo (length cs)) in
+    omega (arith, m, e)

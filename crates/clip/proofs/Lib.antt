@@ -1,5 +1,6 @@
 pub mod Passes
 pub mod Walks
+pub mod Looked
 pub mod Rounds
 pub mod Ends
 pub mod Whole

@@ -14,7 +14,9 @@ use Rattle.lists.specs.Lists.{total}
 use Rattle.lists.proofs.Orders.{lt-or-ge}
 use Rattle.lists.proofs.Totals.{turned, rested, length-turned, total-turned, turned-at, turned-next, turned-all}
 use Rattle.clip.specs.Clip.{walk, nextStart, starts}
+use Rattle.clip.specs.Looks.{looksIn, looksFrom}
 use Rattle.clip.proofs.Walks.{walk-done, walk-gain, walk-skip, length-walk, total-walk, walk-rest, walk-kept, walk-hands, walk-grows, walk-most}
+use Rattle.clip.proofs.Looked.{looks-done, looks-gain, looks-skip, looks-none-left, looks-one}
 
 -- how many bins stand before the first one under the limit
 unfoldable pub ahead : ℕ → List ℕ → ℕ
@@ -214,78 +216,102 @@ pub total-all-starts : (l : ℕ) (cs : List ℕ) (r : ℕ) → 0 < length cs →
     → total (starts (r * length cs) l 0 cs r) ≡ total cs + r
 total-all-starts l cs r h room = total-starts (r * length cs) l 0 cs r h room (due-most l 0 cs r room)
 
--- how many starts may still come is all one where they are enough
-starts-alike : (k j l s : ℕ) (cs : List ℕ) (r : ℕ) → s < length cs → total cs + r ≤ l * length cs → (0 < r → due l s cs r < k + length cs)
-    → (0 < r → due l s cs r < j + length cs) → starts k l s cs r ≡ starts j l s cs r
-unfolding starts
-starts-alike zero j l s cs r h room e f = go (lt-or-ge 0 r)
+-- how many starts may still come is all one where they are enough, for the bins and for the looks
+alike : (k j l s : ℕ) (cs : List ℕ) (r : ℕ) → s < length cs → total cs + r ≤ l * length cs → (0 < r → due l s cs r < k + length cs)
+    → (0 < r → due l s cs r < j + length cs) → (starts k l s cs r ≡ starts j l s cs r) × (looksFrom k l s cs r ≡ looksFrom j l s cs r)
+unfolding starts looksFrom
+alike zero j l s cs r h room e f = go (lt-or-ge 0 r)
   where
-    go : (0 < r) ⊎ (r ≤ 0) → cs ≡ starts j l s cs r
+    go : (0 < r) ⊎ (r ≤ 0) → (cs ≡ starts j l s cs r) × (0 ≡ looksFrom j l s cs r)
     go (inl p) = absurd (due-many l s cs r p (e p))
-    go (inr z) = let q : r ≡ 0 = omega arith in sym (ap (starts j l s cs) q ∙ starts-none j l s cs)
-starts-alike (suc k) zero l s cs zero h room e f = refl
-starts-alike (suc k) zero l s cs (suc r) h room e f = absurd (due-many l s cs (suc r) (omega arith) (f (omega arith)))
-starts-alike (suc k) (suc j) l s cs zero h room e f = refl
-starts-alike (suc k) (suc j) l s cs (suc r) h room e f =
+    go (inr z) =
+        let q : r ≡ 0 = omega arith in
+        (sym (ap (starts j l s cs) q ∙ starts-none j l s cs), sym (ap (looksFrom j l s cs) q ∙ looks-none-left j l s cs))
+alike (suc k) zero l s cs zero h room e f = (refl, refl)
+alike (suc k) zero l s cs (suc r) h room e f = absurd (due-many l s cs (suc r) (omega arith) (f (omega arith)))
+alike (suc k) (suc j) l s cs zero h room e f = (refl, refl)
+alike (suc k) (suc j) l s cs (suc r) h room e f =
     let m = max 1 (length cs / suc r) in
     let w = walk l m s cs (suc r) in
     let n : length (w .counts) ≡ length cs = length-walk l m s cs (suc r) in
     let t : total (w .counts) + w .rest ≡ total cs + suc r = total-walk l m s cs (suc r) in
     let d : 0 < w .rest → due l (nextStart (length cs) s) (w .counts) (w .rest) < due l s cs (suc r) =
     due-less l s m cs (suc r) (w .counts) (w .rest) (omega arith) h room refl in
-    starts-alike k j l (nextStart (length cs) s) (w .counts) (w .rest) (rw n (next-in (length cs) s h)) (rw n (omega arith))
+    let a = alike k j l (nextStart (length cs) s) (w .counts) (w .rest) (rw n (next-in (length cs) s h)) (rw n (omega arith))
     (λ q. omega (arith, d q, e (omega arith)))
-    (λ q. omega (arith, d q, f (omega arith)))
+    (λ q. omega (arith, d q, f (omega arith))) in
+    (a .0, ap (λ x. looksIn l m s cs (suc r) + x) (a .1))
 
 -- ---- what the loop of starts keeps
 
--- what is still to be done from the start s on is all that is to be done, and starts enough may still come
-pub record Starting (l : ℕ) (all : List ℕ) (s : ℕ) (cs : List ℕ) (r : ℕ) : Type 0 where
+-- what is still to be done from the start s on is all that is to be done, the looks taken and those still to come are all looks, and starts enough may still come
+pub record Starting (l : ℕ) (all : List ℕ) (looks s : ℕ) (cs : List ℕ) (r taken : ℕ) : Type 0 where
   pub fuel : ℕ
   pub same : starts fuel l s cs r ≡ all
+  pub looked : taken + looksFrom fuel l s cs r ≡ looks
   pub enough : 0 < r → due l s cs r < fuel + length cs
   pub room : total cs + r ≤ l * length cs
   pub bin : s < length cs
 
--- what the walk of a start keeps: what is still to be done from the place `at` on is what was to be done at the start
-pub record Walking (l step s : ℕ) (first : List ℕ) (before at : ℕ) (cs : List ℕ) (r : ℕ) : Type 0 where
+-- what the walk of a start keeps: what is still to be done from the place `at` on is what was to be done at the start, for the bins and for the looks
+pub record Walking (l step s : ℕ) (first : List ℕ) (before at : ℕ) (cs : List ℕ) (r taken₀ taken : ℕ) : Type 0 where
   pub same : walk l step at cs r ≡ walk l step s first before
+  pub looked : taken + looksIn l step at cs r ≡ taken₀ + looksIn l step s first before
   pub some : 0 < r
   pub long : length cs ≡ length first
 
 -- before the first start
-pub starting-first : (l s : ℕ) (cs : List ℕ) (r : ℕ) → s < length cs → total cs + r ≤ l * length cs
-    → Starting l (starts (r * length cs) l s cs r) s cs r
-starting-first l s cs r h room =
-    record { fuel = r * length cs; same = refl; enough = due-most l s cs r room; room = room; bin = h }
+pub starting-first : (l s : ℕ) (cs : List ℕ) (r taken : ℕ) → s < length cs → total cs + r ≤ l * length cs
+    → Starting l (starts (r * length cs) l s cs r) (taken + looksFrom (r * length cs) l s cs r) s cs r taken
+starting-first l s cs r taken h room =
+    record { fuel = r * length cs; same = refl; looked = refl; enough = due-most l s cs r room; room = room; bin = h }
 
 -- wherever the starts stand, r times B more do what is to be done
-pub starting-here : {l : ℕ} {all : List ℕ} {s : ℕ} {cs : List ℕ} {r : ℕ} → Starting l all s cs r → starts (r * length cs) l s cs r ≡ all
-starting-here {l} {all} {s} {cs} {r} i =
-    starts-alike (r * length cs) (i .fuel) l s cs r (i .bin) (i .room) (due-most l s cs r (i .room)) (i .enough) ∙ i .same
+pub starting-here : {l : ℕ} {all : List ℕ} {looks s : ℕ} {cs : List ℕ} {r taken : ℕ} → Starting l all looks s cs r taken
+    → (starts (r * length cs) l s cs r ≡ all) × (taken + looksFrom (r * length cs) l s cs r ≡ looks)
+starting-here {l} {all} {looks} {s} {cs} {r} {taken} i =
+    let a = alike (r * length cs) (i .fuel) l s cs r (i .bin) (i .room) (due-most l s cs r (i .room)) (i .enough) in
+    (a .0 ∙ i .same, ap (λ x. taken + x) (a .1) ∙ i .looked)
 
 -- where nothing is left the starts are over
-pub starting-end : {l : ℕ} {all : List ℕ} {s : ℕ} {cs : List ℕ} {r : ℕ} → Starting l all s cs r → r ≤ 0 → cs ≡ all
-starting-end {l} {all} {s} {cs} {r} i z =
+pub starting-end : {l : ℕ} {all : List ℕ} {looks s : ℕ} {cs : List ℕ} {r taken : ℕ} → Starting l all looks s cs r taken → r ≤ 0
+    → (cs ≡ all) × (taken ≡ looks)
+starting-end {l} {all} {looks} {s} {cs} {r} {taken} i z =
     let e : r ≡ 0 = omega arith in
-    sym (ap (starts (i .fuel) l s cs) e ∙ starts-none (i .fuel) l s cs) ∙ i .same
+    let n : looksFrom (i .fuel) l s cs r ≡ 0 = ap (looksFrom (i .fuel) l s cs) e ∙ looks-none-left (i .fuel) l s cs in
+    (sym (ap (starts (i .fuel) l s cs) e ∙ starts-none (i .fuel) l s cs) ∙ i .same, omega (arith, n, i .looked))
 
 -- where something is left a start may still come
-some-fuel : {l : ℕ} {all : List ℕ} {s : ℕ} {cs : List ℕ} {r : ℕ} (i : Starting l all s cs r) → 0 < r → i .fuel ≡ suc (i .fuel - 1)
+some-fuel : {l : ℕ} {all : List ℕ} {looks s : ℕ} {cs : List ℕ} {r taken : ℕ} (i : Starting l all looks s cs r taken) → 0 < r → i .fuel ≡ suc (i .fuel - 1)
 unfolding due
-some-fuel {l} {all} {s} {cs} {r} i p =
+some-fuel {l} {all} {looks} {s} {cs} {r} i p =
     let m : 1 * length cs ≤ r * length cs = mul-le-mul-right (length cs) p in
     omega (arith, i .enough p, one-mul (length cs))
 
+-- the looks of a start, and those behind it
+start-looked : {l : ℕ} {all : List ℕ} {looks s : ℕ} {cs : List ℕ} {r taken : ℕ} (step : ℕ) {ds : List ℕ} {t : ℕ} (i : Starting l all looks s cs r taken)
+    → 0 < r → step ≡ max 1 (length cs / r) → walk l step s cs r ≡ record { counts = ds; rest = t }
+    → taken + looksIn l step s cs r + looksFrom (i .fuel - 1) l (nextStart (length cs) s) ds t ≡ looks
+start-looked {l} {all} {looks} {s} {cs} {r} {taken} step {ds} {t} i p q e =
+    let f : looksFrom (i .fuel) l s cs r ≡ looksIn l step s cs r + looksFrom (i .fuel - 1) l (nextStart (length cs) s) ds t =
+    ap (λ k. looksFrom k l s cs r) (some-fuel i p) ∙ looks-one (i .fuel - 1) l s cs r step ds t p q e in
+    omega (arith, f, i .looked)
+
+-- so many are taken when its walk is over, as the code has it
+pub start-looks : {l : ℕ} {all : List ℕ} {looks s : ℕ} {cs : List ℕ} {r taken step : ℕ} (b : ℕ) → Starting l all looks s cs r taken
+    → b ≡ length cs → 0 < r → step ≡ max 1 (b / r) → taken + looksIn l step s cs r ≤ looks
+start-looks {r = r} {step = step} b i n p q = omega (arith, start-looked step i p (q ∙ ap (λ k. max 1 (k / r)) n) refl)
+
 -- a start whose walk ends with something left
-pub starting-next : {l : ℕ} {all : List ℕ} {s : ℕ} {cs : List ℕ} {r : ℕ} (step : ℕ) {ds : List ℕ} {t : ℕ} → Starting l all s cs r
+pub starting-next : {l : ℕ} {all : List ℕ} {looks s : ℕ} {cs : List ℕ} {r taken : ℕ} (step : ℕ) {ds : List ℕ} {t : ℕ} → Starting l all looks s cs r taken
     → 0 < r → 0 < step → step ≡ max 1 (length cs / r) → walk l step s cs r ≡ record { counts = ds; rest = t } → 0 < t
-    → Starting l all (nextStart (length cs) s) ds t
-starting-next {l} {all} {s} {cs} {r} step {ds} {t} i p o q e z =
+    → Starting l all looks (nextStart (length cs) s) ds t (taken + looksIn l step s cs r)
+starting-next {l} {all} {looks} {s} {cs} {r} {taken} step {ds} {t} i p o q e z =
     record {
       fuel = i .fuel - 1;
       same =
           sym (starts-one (i .fuel - 1) l s cs r step ds t p q e) ∙ (ap (λ k. starts k l s cs r) (sym (some-fuel i p)) ∙ i .same);
+      looked = start-looked step i p q e;
       enough = λ y. omega (arith, i .enough p, some-fuel i p, due-less l s step cs r ds t o (i .bin) (i .room) e z, n);
       room = rw n (omega (arith, sum, i .room));
       bin = rw n (next-in (length cs) s (i .bin));
@@ -298,55 +324,83 @@ starting-next {l} {all} {s} {cs} {r} step {ds} {t} i p o q e z =
     sum = ap (λ w. total (w .counts) + w .rest) (sym e) ∙ total-walk l step s cs r
 
 -- a start whose walk ends with nothing left
-starting-stop : {l : ℕ} {all : List ℕ} {s : ℕ} {cs : List ℕ} {r : ℕ} (step : ℕ) {ds : List ℕ} → Starting l all s cs r → 0 < r
-    → step ≡ max 1 (length cs / r) → walk l step s cs r ≡ record { counts = ds; rest = 0 } → ds ≡ all
-starting-stop {l} {all} {s} {cs} {r} step {ds} i p q e =
-    sym (starts-one (i .fuel - 1) l s cs r step ds 0 p q e ∙ starts-none (i .fuel - 1) l (nextStart (length cs) s) ds)
-    ∙ (ap (λ k. starts k l s cs r) (sym (some-fuel i p)) ∙ i .same)
+starting-stop : {l : ℕ} {all : List ℕ} {looks s : ℕ} {cs : List ℕ} {r taken : ℕ} (step : ℕ) {ds : List ℕ} → Starting l all looks s cs r taken → 0 < r
+    → step ≡ max 1 (length cs / r) → walk l step s cs r ≡ record { counts = ds; rest = 0 } → (ds ≡ all) × (taken + looksIn l step s cs r ≡ looks)
+starting-stop {l} {all} {looks} {s} {cs} {r} {taken} step {ds} i p q e = (
+  sym (starts-one (i .fuel - 1) l s cs r step ds 0 p q e ∙ starts-none (i .fuel - 1) l (nextStart (length cs) s) ds)
+      ∙ (ap (λ k. starts k l s cs r) (sym (some-fuel i p)) ∙ i .same),
+  omega (arith, start-looked step i p q e, looks-none-left (i .fuel - 1) l (nextStart (length cs) s) ds),
+)
 
--- the walk of a start hands out the last one, as the code has it
-pub turn-stop : {l : ℕ} {all : List ℕ} {s : ℕ} {cs : List ℕ} {r : ℕ} {step : ℕ} {ds : List ℕ} (b : ℕ) → Starting l all s cs r
-    → b ≡ length cs → 0 < r → step ≡ max 1 (b / r) → walk l step s cs r ≡ record { counts = ds; rest = 0 }
-    → ds ≡ all
-turn-stop {r = r} {step = step} b i n p q e = starting-stop step i p (q ∙ ap (λ k. max 1 (k / r)) n) e
+-- the walk of a start hands out the last one, as the code has it: the number of bins and the looks are numbers of their own
+pub turn-stop : {l : ℕ} {all : List ℕ} {looks s : ℕ} {cs : List ℕ} {r taken : ℕ} {step : ℕ} {ds : List ℕ} {n : ℕ} (b : ℕ) → Starting l all looks s cs r taken
+    → b ≡ length cs → 0 < r → step ≡ max 1 (b / r) → walk l step s cs r ≡ record { counts = ds; rest = 0 } → n ≡ taken + looksIn l step s cs r
+    → (ds ≡ all) × (n ≡ looks)
+turn-stop {r = r} {step = step} b i n p q e y = let x = starting-stop step i p (q ∙ ap (λ k. max 1 (k / r)) n) e in (x .0, y ∙ x .1)
 
 -- ---- what the walk of a start keeps
 
 -- before the first bin
-pub walking-first : (l step s : ℕ) (cs : List ℕ) (r : ℕ) → 0 < r → Walking l step s cs r s cs r
-walking-first l step s cs r p = record { same = refl; some = p; long = refl }
+pub walking-first : (l step s : ℕ) (cs : List ℕ) (r taken : ℕ) → 0 < r → Walking l step s cs r s cs r taken taken
+walking-first l step s cs r taken p = record { same = refl; looked = refl; some = p; long = refl }
 
 -- the bin at the place is under the limit
-walk-took : {l step s : ℕ} {first : List ℕ} {before at : ℕ} {cs : List ℕ} {r : ℕ} → Walking l step s first before at cs r → 0 < step
+walk-took : {l step s : ℕ} {first : List ℕ} {before at : ℕ} {cs : List ℕ} {r taken₀ taken : ℕ} → Walking l step s first before at cs r taken₀ taken → 0 < step
     → at < length cs → getD cs at 0 < l → walk l step (at + step) (set cs at (getD cs at 0 + 1)) (r - 1) ≡ walk l step s first before
 walk-took {l} {step} {s} {first} {before} {at} {cs} {r} i o h u =
-    let e : r ≡ suc (r - 1) = omega arith in
+    let e : r ≡ suc (r - 1) = omega (arith, i .some) in
     sym (ap (walk l step at cs) e ∙ walk-gain l step at cs (r - 1) o h u) ∙ i .same
 
+-- and was looked at
+looks-took : {l step s : ℕ} {first : List ℕ} {before at : ℕ} {cs : List ℕ} {r taken₀ taken : ℕ} → Walking l step s first before at cs r taken₀ taken → 0 < step
+    → at < length cs → getD cs at 0 < l
+    → taken + 1 + looksIn l step (at + step) (set cs at (getD cs at 0 + 1)) (r - 1) ≡ taken₀ + looksIn l step s first before
+looks-took {l} {step} {s} {first} {before} {at} {cs} {r} i o h u =
+    let e : r ≡ suc (r - 1) = omega (arith, i .some) in
+    let f : looksIn l step at cs r ≡ suc (looksIn l step (at + step) (set cs at (getD cs at 0 + 1)) (r - 1)) =
+    ap (looksIn l step at cs) e ∙ looks-gain l step at cs (r - 1) o h u in
+    omega (arith, f, i .looked)
+
 -- a bin gained one
-pub walking-gain : {l step s : ℕ} {first : List ℕ} {before at : ℕ} {cs : List ℕ} {r : ℕ} {ds : List ℕ} {t : ℕ}
-    → Walking l step s first before at cs r → 0 < step → at < length cs → getD cs at 0 < l → ds ≡ set cs at (getD cs at 0 + 1) → t ≡ r - 1 → 0 < t
-    → Walking l step s first before (at + step) ds t
-walking-gain {l} {step} {s} {first} {before} {at} {cs} {r} {ds} {t} i o h u d e z =
+pub walking-gain : {l step s : ℕ} {first : List ℕ} {before at : ℕ} {cs : List ℕ} {r taken₀ taken : ℕ} {ds : List ℕ} {t n : ℕ}
+    → Walking l step s first before at cs r taken₀ taken → 0 < step → at < length cs → getD cs at 0 < l → ds ≡ set cs at (getD cs at 0 + 1) → t ≡ r - 1 → 0 < t
+    → n ≡ taken + 1 → Walking l step s first before (at + step) ds t taken₀ n
+walking-gain {l} {step} {s} {first} {before} {at} {cs} {r} {taken₀} {taken} {ds} {t} {n} i o h u d e z y =
     record {
       same = ap₂ (walk l step (at + step)) d e ∙ walk-took i o h u;
+      looked = omega (arith, ap₂ (looksIn l step (at + step)) d e, looks-took i o h u);
       some = z;
       long = ap length d ∙ (length-set cs at (getD cs at 0 + 1) ∙ i .long);
     }
 
 -- a bin at the limit was looked at
-pub walking-skip : {l step s : ℕ} {first : List ℕ} {before at : ℕ} {cs : List ℕ} {r : ℕ} {ds : List ℕ} {t : ℕ}
-    → Walking l step s first before at cs r → 0 < step → at < length cs → l ≤ getD cs at 0 → ds ≡ cs → t ≡ r
-    → Walking l step s first before (at + step) ds t
-walking-skip {l} {step} {s} {first} {before} {at} {cs} {r} {ds} {t} i o h u d e =
+pub walking-skip : {l step s : ℕ} {first : List ℕ} {before at : ℕ} {cs : List ℕ} {r taken₀ taken : ℕ} {ds : List ℕ} {t n : ℕ}
+    → Walking l step s first before at cs r taken₀ taken → 0 < step → at < length cs → l ≤ getD cs at 0 → ds ≡ cs → t ≡ r
+    → n ≡ taken + 1 → Walking l step s first before (at + step) ds t taken₀ n
+walking-skip {l} {step} {s} {first} {before} {at} {cs} {r} {taken₀} {taken} {ds} {t} {n} i o h u d e y =
     let f : r ≡ suc (r - 1) = omega (arith, i .some) in
     let g : walk l step at cs r ≡ walk l step (at + step) cs r =
     ap (walk l step at cs) f ∙ (walk-skip l step at cs (r - 1) o h u ∙ ap (walk l step (at + step) cs) (sym f)) in
-    record { same = ap₂ (walk l step (at + step)) d e ∙ (sym g ∙ i .same); some = omega (arith, i .some); long = ap length d ∙ i .long }
+    let k : looksIn l step at cs r ≡ suc (looksIn l step (at + step) cs r) =
+    ap (looksIn l step at cs) f ∙ (looks-skip l step at cs (r - 1) o h u ∙ ap (λ x. suc (looksIn l step (at + step) cs x)) (sym f)) in
+    record {
+      same = ap₂ (walk l step (at + step)) d e ∙ (sym g ∙ i .same);
+      looked = omega (arith, ap₂ (looksIn l step (at + step)) d e, k, i .looked);
+      some = omega (arith, i .some);
+      long = ap length d ∙ i .long;
+    }
 
 -- the walk is over the moment nothing is left
-pub walking-stop : {l step s : ℕ} {first : List ℕ} {before at : ℕ} {cs : List ℕ} {r : ℕ} → Walking l step s first before at cs r → 0 < step
+pub walking-stop : {l step s : ℕ} {first : List ℕ} {before at : ℕ} {cs : List ℕ} {r taken₀ taken : ℕ} → Walking l step s first before at cs r taken₀ taken → 0 < step
     → at < length cs → getD cs at 0 < l → r - 1 ≡ 0 → walk l step s first before ≡ record { counts = set cs at (getD cs at 0 + 1); rest = 0 }
 walking-stop {l} {step} {s} {first} {before} {at} {cs} {r} i o h u z =
     sym (walk-took i o h u)
     ∙ (ap (walk l step (at + step) (set cs at (getD cs at 0 + 1))) z ∙ walk-done l step (at + step) (set cs at (getD cs at 0 + 1)))
+
+-- and its last look is taken
+pub looking-stop : {l step s : ℕ} {first : List ℕ} {before at : ℕ} {cs : List ℕ} {r taken₀ taken : ℕ} → Walking l step s first before at cs r taken₀ taken → 0 < step
+    → at < length cs → getD cs at 0 < l → r - 1 ≡ 0 → taken + 1 ≡ taken₀ + looksIn l step s first before
+looking-stop {l} {step} {s} {first} {before} {at} {cs} {r} i o h u z =
+    let n : looksIn l step (at + step) (set cs at (getD cs at 0 + 1)) (r - 1) ≡ 0 =
+    ap (looksIn l step (at + step) (set cs at (getD cs at 0 + 1))) z ∙ looks-done l step (at + step) (set cs at (getD cs at 0 + 1)) in
+    omega (arith, n, looks-took i o h u)

@@ -13,7 +13,8 @@ use borrow.Author.Tests.{lt-ltb, le-ltb}
 use Rattle.lists.specs.Lists.{total}
 use Rattle.lists.proofs.Orders.{lt-or-ge}
 use Rattle.clip.specs.Clip.{excess, share, shared, taken, left, starts, clipped}
-use Rattle.clip.specs.Asks.{ClipAsks, PassAsks, Passed, WalkAsks}
+use Rattle.clip.specs.Looks.{looksFrom, looksOf, spentAs, spentOf}
+use Rattle.clip.specs.Asks.{ClipAsks, PassAsks, Passed, WalkAsks, Walked}
 
 -- ---- one bin
 
@@ -150,13 +151,21 @@ walk-asked {l} {cs} {ds} {r} e a q p =
     let f = first-pass e q p in
     let n : length ds ≡ length cs = ap length (f .0) ∙ length-map cs (shared l (share l cs)) in
     let t : total ds + r ≡ total cs = ap₂ (λ x y. total x + y) (f .0) (f .1) ∙ total-first l cs in
-    record { some-bin = omega (arith, a .some-bin); few-bins = omega (arith, a .few-bins); room = rw n (omega (arith, a .holds)) }
+    record {
+      some-bin = omega (arith, a .some-bin);
+      few-bins = omega (arith, a .few-bins);
+      few-left = omega (arith, p .rest, q, excess-most l cs, a .few-pixels);
+      room = rw n (omega (arith, a .holds));
+    }
 
--- the pass and the walk together are the clipped counts
-pub clip-ends : {l : ℕ} {cs ds : List ℕ} {r : ℕ} {es : List ℕ} (e : ℕ) → e ≡ excess l cs → Passed l (e / length cs) e cs ds r
-    → es ≡ starts (r * length ds) l 0 ds r → es ≡ clipped l cs
-unfolding clipped
-clip-ends {l} {cs} {ds} {r} {es} e q p w =
+-- the pass and the walk together are the clipped counts, and what they took
+pub clip-ends : {l : ℕ} {cs ds : List ℕ} {r : ℕ} {es : List ℕ} (e n : ℕ) → e ≡ excess l cs → Passed l (e / length cs) e cs ds r → Walked l r ds es n
+    → (es ≡ clipped l cs) × (spentAs e n ≡ spentOf l cs)
+unfolding clipped looksOf
+clip-ends {l} {cs} {ds} {r} {es} e n q p w =
     let f = first-pass e q p in
-    let n : length ds ≡ length cs = ap length (f .0) ∙ length-map cs (shared l (share l cs)) in
-    w ∙ (ap (λ k. starts (r * k) l 0 ds r) n ∙ ap₂ (λ x y. starts (y * length cs) l 0 x y) (f .0) (f .1))
+    let m : length ds ≡ length cs = ap length (f .0) ∙ length-map cs (shared l (share l cs)) in (
+      w .bins ∙ (ap (λ k. starts (r * k) l 0 ds r) m ∙ ap₂ (λ x y. starts (y * length cs) l 0 x y) (f .0) (f .1)),
+      ap₂ spentAs q
+          (w .taken ∙ (ap (λ k. looksFrom (r * k) l 0 ds r) m ∙ ap₂ (λ x y. looksFrom (y * length cs) l 0 x y) (f .0) (f .1))),
+    )

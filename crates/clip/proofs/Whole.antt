@@ -13,8 +13,10 @@ use borrow.Rule.Slice.PartMut.{putMid, put-same}
 use Rattle.lists.specs.Lists.{total}
 use Rattle.lists.proofs.Orders.{lt-or-ge}
 use Rattle.clip.specs.Clip.{behind, walk, nextStart}
+use Rattle.clip.specs.Looks.{looksIn, skippedOf}
 use Rattle.clip.specs.Asks.{Shut, gain, gained, Raised}
 use Rattle.clip.proofs.Walks.{walk-pass, walk-under, walk-over, walk-full, length-walk, walk-grows}
+use Rattle.clip.proofs.Looked.{looks-all}
 use Rattle.clip.proofs.Rounds.{Starting}
 use Rattle.clip.proofs.Ends.{Onward, onward-open}
 
@@ -129,20 +131,41 @@ shut-whole {l} {s} {e} {cs} {ys} h shut p =
     grows i = rw w at (walk-grows l 1 s cs (suc (length cs)) i)
 
 -- and the next start
-pub onward-whole : {l : ℕ} {all : List ℕ} {s : ℕ} {cs : List ℕ} {r e : ℕ} {ys : List ℕ} {n : ℕ} (b f u : ℕ) → Starting l all s cs r
+pub onward-whole : {l : ℕ} {all : List ℕ} {looks s : ℕ} {cs : List ℕ} {r taken e : ℕ} {ys : List ℕ} {n : ℕ} (b f u k : ℕ) → Starting l all looks s cs r taken
     → b ≡ length cs → b < r → s ≤ e → Shut l e cs → Raised l (take (e - s) (drop s cs)) ys n → Shut l f (putMid s (e - s) cs ys) → u ≡ nextStart f s
-    → Onward l all s cs r u (putMid s (e - s) cs ys) (r - n)
-onward-whole {l} {all} {s} {cs} {r} {e} {ys} {n} b f u i q many h shut p ends v =
-    onward-open b f u i q long (omega arith) (omega arith) step w (omega (arith, raised-most h shut p)) ends v
+    → k ≡ taken + (b - s + skippedOf b f s (r - n))
+    → Onward l all looks s cs r u (putMid s (e - s) cs ys) (r - n) k
+onward-whole {l} {all} {looks} {s} {cs} {r} {taken} {e} {ys} {n} b f u k i q many h shut p ends v y =
+    onward-open b f u k i q long (omega arith) (omega arith) step w some ends v sum
   where
     w : walk l 1 s cs r ≡ record { counts = putMid s (e - s) cs ys; rest = r - n }
     w = walk-whole l s e cs r h shut (omega arith) p
+
+    some : 0 < r - n
+    some = omega (arith, raised-most h shut p)
 
     long : length (putMid s (e - s) cs ys) ≡ length cs
     long = ap (λ x. length (x .counts)) (sym w) ∙ length-walk l 1 s cs r
 
     step : 1 ≡ max 1 (b / r)
     step = rw (div-eq-of-lt many) refl
+
+    rest : walk l 1 s cs r .rest ≡ r - n
+    rest = ap (λ x. x .rest) w
+
+    each : looksIn l 1 s cs r ≡ length cs - s
+    each = looks-all l s cs r (rw rest some)
+
+    sum : k ≡ taken + looksIn l 1 s cs r + skippedOf b f s (r - n)
+    sum = omega (arith, y, each, q)
+
+-- so many looks were taken by then
+pub whole-looks : {l : ℕ} {all : List ℕ} {looks s : ℕ} {cs : List ℕ} {r taken e : ℕ} {ys : List ℕ} {n : ℕ} (b f : ℕ) → Starting l all looks s cs r taken
+    → b ≡ length cs → b < r → s ≤ e → Shut l e cs → Raised l (take (e - s) (drop s cs)) ys n → Shut l f (putMid s (e - s) cs ys)
+    → taken + (b - s + skippedOf b f s (r - n)) ≤ looks
+whole-looks {s = s} {r = r} {taken = taken} {n = n} b f i q many h shut p ends =
+    let o = onward-whole b f (nextStart f s) (taken + (b - s + skippedOf b f s (r - n))) i q many h shut p ends refl refl in
+    omega (arith, o .start .looked)
 
 -- the next start is none behind the end
 pub next-most : (e s : ℕ) → nextStart e s ≤ e

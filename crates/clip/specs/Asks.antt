@@ -8,6 +8,7 @@ use lib.Dec.{ltb}
 use lib.ListN.{length, getD}
 use Rattle.lists.specs.Lists.{total}
 use Rattle.clip.specs.Clip.{shared, taken, starts}
+use Rattle.clip.specs.Looks.{looksFrom}
 use Rattle.clip.specs.declared.Standing.{Standing}
 
 -- bins within "2 to 4096", one at least, a tile's counts, and a limit under which the bins hold them, as L always is (`limit: limit-holds`)
@@ -27,11 +28,17 @@ pub record Passed (limit q over : ℕ) (before after : List ℕ) (r : ℕ) : Typ
   pub bins : after ≡ map (shared limit q) before
   pub rest : r ≡ over - total (map (taken limit q) before)
 
--- the leftover walk: the bins have room for what is left
+-- the leftover walk: the bins have room for what is left, which is no more than a tile's pixels
 pub record WalkAsks (limit left : ℕ) (counts : List ℕ) : Type 0 where
   pub some-bin : 0 < length counts
   pub few-bins : length counts ≤ 4096
+  pub few-left : left ≤ 4194304
   pub room : total counts + left ≤ limit * length counts
+
+-- the leftover walk, done: what the bins became, and how many looks it took
+pub record Walked (limit left : ℕ) (before after : List ℕ) (looks : ℕ) : Type 0 where
+  pub bins : after ≡ starts (left * length before) limit 0 before left
+  pub taken : looks ≡ looksFrom (left * length before) limit 0 before left
 
 -- the bins from `end` on are full: no walk hands anything out from there on
 pub record Shut (limit end : ℕ) (counts : List ℕ) : Type 0 where
@@ -54,6 +61,7 @@ pub record Raised (limit : ℕ) (before after : List ℕ) (sum : ℕ) : Type 0 w
 -- starts, done: what is still to be done from here on is what was to be done before them
 pub record Stands (limit left : ℕ) (before after : List ℕ) (s : Standing) : Type 0 where
   pub same : starts (s .left * length after) limit (s .start) after (s .left) ≡ starts (left * length before) limit 0 before left
+  pub looked : s .looks + looksFrom (s .left * length after) limit (s .start) after (s .left) ≡ looksFrom (left * length before) limit 0 before left
   pub asks : WalkAsks limit (s .left) after
   pub bin : s .start < length after
   pub shut : Shut limit (s .end) after

@@ -1,2 +1,3 @@
 pub mod Clip
+pub mod Looks
 pub mod Asks

@@ -1,10 +1,17 @@
 // Clipping the counts of one tile in place: the excess above the limit is handed out evenly, then what is left of it one by one.
 ghost use mathlib.Core.Path.{_≡_};
-ghost use Prim.Native.Nat.{_-_, _*_, _/_, _≤_, _<_, max};
+ghost use Prim.Native.Nat.{_+_, _-_, _*_, _/_, _≤_, _<_, max};
 ghost use lib.ListN.{length};
 ghost use Rattle.lists.specs.Lists.{total};
-ghost use Rattle.clip.specs.Clip.{excess, shared, taken, starts, nextStart, clipped};
-ghost use Rattle.clip.specs.Asks.{ClipAsks, PassAsks, Passed, WalkAsks, Shut, gain, Raised, Stands};
+ghost use Rattle.clip.specs.Clip.{excess, shared, taken, nextStart, clipped};
+ghost use Rattle.clip.specs.Looks.{spentOf, apart, onward, skippedOf};
+ghost use Rattle.clip.specs.Asks.{ClipAsks, PassAsks, Passed, WalkAsks, Walked, Shut, gain, Raised, Stands};
+
+// What clipping a tile's counts took: the excess, and how many bins the rule's leftover walk looks at.
+pub struct Spent {
+    pub excess: u64,
+    pub looks: u64,
+}
 
 // What of a count stands above the limit.
 fn above(count: u32, limit: u32) -> u32
@@ -131,11 +138,46 @@ fn pass(counts: &mut [u32], limit: u32) -> u64
     sum as u64
 }
 
-// Where the starts stand: what is left, the next start, and where the bins under the limit end.
+// The looks at full bins that a walk has before it behind the end: at each step-th bin from `at` on.
+fn looks_behind(bins: usize, at: usize, step: usize) -> u64
+    requires { ⌜ (0 < step) × (step ≤ 4096) × (bins ≤ 4096) ⌝ }
+    ensures { λ r. ⌜ r ≡ apart step (bins - at) ⌝ }
+{
+    if at < bins {
+        return ((bins - at + (step - 1)) / step) as u64;
+    }
+    0
+}
+
+// The looks of n starts in a row, the last of them at the last bin, that find full bins only. With n = a x step + b, the first b of them
+// look at a + 1 bins, and then `step` of them at a, at a - 1, .. and at 1.
+fn looks_of_starts(step: usize, n: usize) -> u64
+    requires { ⌜ (0 < step) × (step ≤ 4096) × (n ≤ 4096) ⌝ }
+    ensures { λ r. ⌜ r ≡ onward step n ⌝ }
+{
+    let a = (n / step) as u64;
+    let b = (n % step) as u64;
+    step as u64 * (a * (a + 1) / 2) + b * (a + 1)
+}
+
+// The looks of the starts behind this one that the code does not walk, as all bins from their own on are full: those up to the last bin,
+// where the next start is the first bin.
+fn looks_skipped(bins: usize, end: usize, start: usize, r: u64) -> u64
+    requires { ⌜ (0 < r) × (bins ≤ 4096) × (start < bins) ⌝ }
+    ensures { λ n. ⌜ n ≡ skippedOf bins end start r ⌝ }
+{
+    if start + 1 < end {
+        return 0;
+    }
+    looks_of_starts(step_of(bins, r), bins - (start + 1))
+}
+
+// Where the starts stand: what is left, the next start, where the bins under the limit end, and the looks that were taken.
 struct Standing {
     left: u64,
     start: usize,
     end: usize,
+    looks: u64,
 }
 
 // The starts that find more left than there are bins: their step is 1 and nothing runs out on the way, so the walk of each is one pass.
@@ -147,32 +189,38 @@ fn whole_starts(counts: &mut [u32], limit: u32, left: u64) -> Standing
     let mut r = left;
     let mut start = 0;
     let mut end = bins;
+    let mut looks: u64 = 0;
     while (bins as u64) < r {
         r -= pass(&mut counts[start..end], limit);
         end = open_end(counts, limit, end);
+        looks += (bins - start) as u64 + looks_skipped(bins, end, start, r);
         start = next_start(end, start);
     }
     Standing {
         left: r,
         start,
         end,
+        looks,
     }
 }
 
-// The leftover, one by one to the bins under the limit, from every start in turn, until nothing is left.
-fn hand_out(counts: &mut [u32], limit: u32, left: u64)
+// The leftover, one by one to the bins under the limit, from every start in turn, until nothing is left. The answer is how many bins the
+// rule looks at on the way, those included that are full and that this code passes over.
+fn hand_out(counts: &mut [u32], limit: u32, left: u64) -> u64
     requires { ⌜ WalkAsks limit left (now counts) ⌝ }
-    ensures { λ _. ⌜ now (counts .exit) ≡ starts (left * length (now (counts .entry))) limit 0 (now (counts .entry)) left ⌝ }
+    ensures { λ r. ⌜ Walked limit left (now (counts .entry)) (now (counts .exit)) r ⌝ }
 {
     let standing = whole_starts(counts, limit, left);
     let bins = counts.len();
     let mut r = standing.left;
     let mut start = standing.start;
     let mut end = standing.end;
+    let mut looks = standing.looks;
     'starts: while 0 < r {
         let step = step_of(bins, r);
         let mut at = start;
         while at < end {
+            looks += 1;
             if counts[at] < limit {
                 counts[at] += 1;
                 r -= 1;
@@ -182,18 +230,25 @@ fn hand_out(counts: &mut [u32], limit: u32, left: u64)
             }
             at += step;
         }
+        looks += looks_behind(bins, at, step);
         end = open_end(counts, limit, end);
+        looks += looks_skipped(bins, end, start, r);
         start = next_start(end, start);
     }
+    looks
 }
 
 // Clips the counts of one tile at the limit.
-pub fn clip(counts: &mut [u32], limit: u32)
+pub fn clip(counts: &mut [u32], limit: u32) -> Spent
     requires { ⌜ ClipAsks limit (now counts) ⌝ }
-    ensures { λ _. ⌜ now (counts .exit) ≡ clipped limit (now (counts .entry)) ⌝ }
+    ensures { λ r. ⌜ (now (counts .exit) ≡ clipped limit (now (counts .entry))) × (r ≡ spentOf limit (now (counts .entry))) ⌝ }
 {
     let over = excess(counts, limit);
     let q = over / counts.len() as u64;
     let left = share_out(counts, limit, q as u32, over);
-    hand_out(counts, limit, left);
+    let looks = hand_out(counts, limit, left);
+    Spent {
+        excess: over,
+        looks,
+    }
 }

@@ -16,7 +16,7 @@ use settings::Settings;
 use text::Text;
 
 // The columns that these rows alone have. Of a film: how many counts are lent.
-const COUNTS_ROOM: usize = 23;
+const COUNTS_ROOM: usize = 24;
 
 // Of a mapping: how many counts are lent, what is changed in them, and the turns.
 const LENT_ROOM: usize = 6;
@@ -31,20 +31,21 @@ const LOSS: usize = 10;
 
 const STEP: usize = 11;
 
-const EACH: usize = 23;
+const EACH: usize = 24;
 
-const TURNS: usize = 24;
+const TURNS: usize = 25;
 
-const FIRST_TURN: usize = 25;
+const FIRST_TURN: usize = 26;
 
 // 2^32.
 const SPAN: u64 = 4294967296;
 
-// What a call left: its answer, 0 where it accepted, and the digests of map and scratch.
+// What a call left: its answer, 0 where it accepted, and the digests of map, scratch and list.
 pub struct Left {
     pub number: u32,
     pub map: u64,
     pub scratch: u64,
+    pub list: u64,
 }
 
 fn counted_number(c: Counted) -> u32 {
@@ -76,51 +77,114 @@ fn counted(row: Row, picture: &mut [u16], lent: &mut [u32]) -> u32 {
     call_count(row, &picture[..], lent)
 }
 
+// What a call left.
+fn left_by(number: u32, map: &[u16], scratch: &[u32], list: &[u64]) -> Left {
+    Left {
+        number,
+        map: digest::greys(map),
+        scratch: digest::words(scratch),
+        list: digest::longs(list),
+    }
+}
+
+// The line with a digest and those that a call left.
+fn left_line(letter: u8, no: u64, first: u64, left: Left) -> Text {
+    text::four(letter, no, first, left.map, left.scratch, left.list)
+}
+
 // Calls mapping, and prints its answer.
-fn call_map(row: Row, lent: &[u32], map: &mut [u16], scratch: &mut [u32]) -> Kept {
+fn call_map(
+    row: Row,
+    lent: &[u32],
+    map: &mut [u16],
+    scratch: &mut [u32],
+    list: &mut [u64],
+) -> Kept {
     let t = kept::made(row);
     let s: Settings = kept::settings(t);
-    let answer: Prepared = counts::map_counts(t.film, t.width, t.height, s, lent, map, scratch);
+    let answer: Prepared = counts::map_counts(
+        t.film,
+        t.width,
+        t.height,
+        s,
+        lent,
+        map,
+        scratch,
+        list,
+    );
     kept::of_prepared(b'P', at(row, column::NO), t, answer)
 }
 
-// Maps, and prints the answer, the digests of counts, map and scratch, and the map.
-fn mapped(row: Row, lent: &[u32], m: &mut [u16], s: &mut [u32]) -> Left {
-    let no = at(row, column::NO);
-    let k = call_map(row, lent, m, s);
-    let a = digest::greys(&m[..]);
-    let b = digest::words(&s[..]);
-    text::print(text::three(b'm', no, digest::words(lent), a, b));
-    text::print(text::small(b'q', no, &m[..]));
-    Left {
-        number: k.number,
-        map: a,
-        scratch: b,
-    }
+// The lines behind mapping: the digests of counts, map, scratch and list, the map and the list.
+fn mapped_lines(
+    no: u64,
+    number: u32,
+    lent: &[u32],
+    map: &[u16],
+    scratch: &[u32],
+    list: &[u64],
+) -> Left {
+    let left = left_by(number, map, scratch, list);
+    text::print(left_line(b'm', no, digest::words(lent), left));
+    text::print(text::small(b'q', no, map));
+    text::print(text::small_longs(b'x', no, list));
+    left
+}
+
+// Maps, and prints the answer and the lines behind it.
+fn mapped(row: Row, lent: &[u32], m: &mut [u16], s: &mut [u32], l: &mut [u64]) -> Left {
+    let k = call_map(row, lent, m, s, l);
+    mapped_lines(at(row, column::NO), k.number, lent, &m[..], &s[..], &l[..])
 }
 
 // Calls prepare, and prints its answer.
-fn call_prepare(row: Row, picture: &[u16], map: &mut [u16], scratch: &mut [u32]) -> Kept {
+fn call_prepare(
+    row: Row,
+    picture: &[u16],
+    map: &mut [u16],
+    scratch: &mut [u32],
+    list: &mut [u64],
+) -> Kept {
     let t = kept::made(row);
     let s: Settings = kept::settings(t);
-    let answer: Prepared = prepare::prepare(t.film, t.width, t.height, picture, s, map, scratch);
+    let answer: Prepared = prepare::prepare(
+        t.film,
+        t.width,
+        t.height,
+        picture,
+        s,
+        map,
+        scratch,
+        list,
+    );
     kept::of_prepared(b'P', at(row, column::NO), t, answer)
 }
 
-// Prepares, and prints the answer and the digests of picture, map and scratch.
-fn prepared(row: Row, picture: &[u16], m: &mut [u16], s: &mut [u32]) -> Left {
-    let k = call_prepare(row, picture, m, s);
-    let a = digest::greys(&m[..]);
-    let b = digest::words(&s[..]);
-    text::print(text::three(b'p', at(row, column::NO), digest::greys(picture), a, b));
-    Left {
-        number: k.number,
-        map: a,
-        scratch: b,
-    }
+// Prepares, and prints the answer and the digests of picture, map, scratch and list.
+fn prepared(row: Row, picture: &[u16], m: &mut [u16], s: &mut [u32], l: &mut [u64]) -> Left {
+    let k = call_prepare(row, picture, m, s, l);
+    let left = left_by(k.number, &m[..], &s[..], &l[..]);
+    text::print(left_line(b'p', at(row, column::NO), digest::greys(picture), left));
+    left
 }
 
-// Makes map and scratch and maps.
+// Makes the list and maps.
+fn mapped_listed(row: Row, lent: &[u32], m: &mut [u16], s: &mut [u32]) -> Left {
+    let mut list = made::list();
+    let n = fitting(at(row, column::LIST_ROOM), 600);
+    let l = &mut list[0..n];
+    mapped(row, lent, m, s, l)
+}
+
+// Makes the list and prepares.
+fn prepared_listed(row: Row, picture: &[u16], m: &mut [u16], s: &mut [u32]) -> Left {
+    let mut list = made::list();
+    let n = fitting(at(row, column::LIST_ROOM), 600);
+    let l = &mut list[0..n];
+    prepared(row, picture, m, s, l)
+}
+
+// Makes map, scratch and list and maps.
 fn mapped_anew(row: Row, lent: &[u32]) -> Left {
     let mut map = [0; 65536];
     let n = fitting(at(row, column::MAP_ROOM), 65536);
@@ -129,10 +193,10 @@ fn mapped_anew(row: Row, lent: &[u32]) -> Left {
     let mut scratch = made::scratch();
     let k = fitting(at(row, column::SCRATCH_ROOM), 4200);
     let s = &mut scratch[0..k];
-    mapped(row, lent, m, s)
+    mapped_listed(row, lent, m, s)
 }
 
-// Makes map and scratch and prepares.
+// Makes map, scratch and list and prepares.
 fn prepared_anew(row: Row, picture: &[u16]) -> Left {
     let mut map = [0; 65536];
     let n = fitting(at(row, column::MAP_ROOM), 65536);
@@ -141,15 +205,18 @@ fn prepared_anew(row: Row, picture: &[u16]) -> Left {
     let mut scratch = made::scratch();
     let k = fitting(at(row, column::SCRATCH_ROOM), 4200);
     let s = &mut scratch[0..k];
-    prepared(row, picture, m, s)
+    prepared_listed(row, picture, m, s)
 }
 
-// Whether map and scratch have the same digests: 1, else 0.
+// Whether map, scratch and list have the same digests: 1, else 0.
 fn alike(a: Left, b: Left) -> u32 {
     if a.map != b.map {
         return 0;
     }
     if a.scratch != b.scratch {
+        return 0;
+    }
+    if a.list != b.list {
         return 0;
     }
     1
@@ -206,16 +273,25 @@ fn turned(row: Row, turn: u64) -> Row {
     )
 }
 
-// The turns behind the first, each over the map and scratch that the one before left.
-fn turns(row: Row, count: u64, lent: &[u32], m: &mut [u16], s: &mut [u32]) {
+// The turns behind the first, each over the map, scratch and list that the one before left.
+fn turns(row: Row, count: u64, lent: &[u32], m: &mut [u16], s: &mut [u32], l: &mut [u64]) {
     let mut i = 0;
     while i < count {
-        mapped(turned(row, i), lent, m, s);
+        mapped(turned(row, i), lent, m, s, l);
         i += 1;
     }
 }
 
-// Makes map and scratch and maps in turn.
+// Makes the list and maps in turn.
+fn listed_turns(row: Row, lent: &[u32], m: &mut [u16], s: &mut [u32]) {
+    let mut list = made::list();
+    let n = fitting(at(row, column::LIST_ROOM), 600);
+    let l = &mut list[0..n];
+    mapped(row, lent, m, s, l);
+    turns(row, at(row, TURNS), lent, m, s, l);
+}
+
+// Makes map, scratch and list and maps in turn.
 fn all_turns(row: Row, lent: &[u32]) {
     let mut map = [0; 65536];
     let n = fitting(at(row, column::MAP_ROOM), 65536);
@@ -224,8 +300,7 @@ fn all_turns(row: Row, lent: &[u32]) {
     let mut scratch = made::scratch();
     let k = fitting(at(row, column::SCRATCH_ROOM), 4200);
     let s = &mut scratch[0..k];
-    mapped(row, lent, m, s);
-    turns(row, at(row, TURNS), lent, m, s);
+    listed_turns(row, lent, m, s);
 }
 
 // A row of the mappings, with that of its film.

@@ -3,32 +3,26 @@
 -- Assumes nothing.
 use Prim.Native.Nat.{ℕ}
 use mathlib.Core.List.{List}
-use mathlib.Core.Path.{_≡_, sym, ap, _∙_}
+use mathlib.Core.Path.{_≡_, ap, _∙_}
 use lib.Ieee.{Float}
 use Rattle.refuse.specs.Refuse.{accepted}
 use Rattle.settings.specs.declared.MapRecord.{MapRecord}
 use Rattle.settings.specs.declared.Footer.{Footer}
 use Rattle.settings.specs.Settings.{binsOf}
 use Rattle.tiles.specs.Tiles.{pixelsIn}
-use Rattle.prepare.specs.Prepare.{preparedSays, Ended, ending, prepareOf}
+use Rattle.prepare.specs.Prepare.{preparedSays, Ended}
 use Rattle.promises.specs.Films.{ClippingOn, FooterShows, FilmSound}
 use Rattle.promises.proofs.Demand3.{tiles-sound, footer-shows}
-use Rattle.count_promises.proofs.Runs.{MapCall, Maps, map-ends}
-use Rattle.count_promises.proofs.Turns.{CountedAs, counted-maps}
+use Rattle.count_promises.proofs.Runs.{MapCall, Maps}
+use Rattle.count_promises.proofs.Turns.{CountedAs, mapped-ends, mapped-says}
 
 module _ {pic : List ℕ} {d : MapCall} {r : MapRecord} {foot : Footer} (by : CountedAs (d .width) (d .height) pic (d .settings) (d .counts)) (ran : Maps d)
     (mapped : preparedSays (d .answer) ≡ accepted (r, foot)) where
-  -- it ended as prepare does of the film that was counted
-  as-prepare : ending (d .answer) (d .map′) (d .scratch′) ≡ prepareOf (d .film) (d .width) (d .height) pic (d .settings) (d .map) (d .scratch)
-  as-prepare = map-ends ran ∙ counted-maps by (d .film) (d .map) (d .scratch)
-
-  done : preparedSays (prepareOf (d .film) (d .width) (d .height) pic (d .settings) (d .map) (d .scratch) .answer) ≡ accepted (r, foot)
-  done = sym (ap (λ (z : Ended). preparedSays (z .answer)) as-prepare) ∙ mapped
-
   -- what the footer shows, by the clip setting
   pub mapped-footer : FooterShows (d .settings .clip) (pixelsIn (d .width) (d .height) (d .settings) 0) (binsOf (d .settings)) foot
-  mapped-footer = footer-shows _ _ _ _ _ (d .map) (d .scratch) done
+  mapped-footer = footer-shows _ _ _ _ _ (d .map) (d .scratch) (d .list) (mapped-says by ran ∙ mapped)
 
   -- and every tile, with its own limit
   pub mapped-tiles-sound : {f : Float} → ClippingOn (d .settings .clip) f → FilmSound (d .width) (d .height) pic (d .settings) f (d .map′)
-  mapped-tiles-sound on = rw (ap (λ (z : Ended). z .map) as-prepare) (tiles-sound _ _ _ _ _ (d .map) (d .scratch) done on)
+  mapped-tiles-sound on =
+      rw (ap (λ (z : Ended). z .map) (mapped-ends by ran)) (tiles-sound _ _ _ _ _ (d .map) (d .scratch) (d .list) (mapped-says by ran ∙ mapped) on)

@@ -1,17 +1,19 @@
--- Counting and mapping, demand 1 and how tight their promises are: what each answer says, that a refusal keeps all lent memory, that two runs of the same end the same,
+-- Counting and mapping, demand 1 and how tight their promises are: what each answer says, that a refusal and the factor 1.0 keep all lent memory, that two runs of the same end the same,
 -- that counting does not look at the clip setting, and that what lies behind the front of the counts plays no part.
 -- Of every run by the contracts (Runs); a name with ′ is lent memory at the end.
 -- Assumes nothing.
-use Prim.Native.Nat.{ℕ, _*_, _<_}
+use Prim.Native.Nat.{ℕ, zero, suc, _*_, _<_}
+use mathlib.Core.Bool.{true}
 use mathlib.Core.List.{List}
 use mathlib.Core.Logic.{_≢_}
 use mathlib.Core.Path.{_≡_, refl, sym, ap, _∙_}
+use native.Mathlib.Omega.{arith}
 use lib.ListN.{length, take, drop}
 use Rattle.lists.specs.Lists.{onto}
 use Rattle.lists.proofs.Fills.{take-onto, drop-onto}
 use Rattle.refuse.specs.Refuse.{first, refused, accepted, says}
 use Rattle.settings.specs.declared.Settings.{Settings}
-use Rattle.settings.specs.Settings.{entriesOf, keptOf, recordOf}
+use Rattle.settings.specs.Settings.{entriesOf, keptOf, recordOf, clipOne}
 use Rattle.tiles.specs.Tiles.{footOf}
 use Rattle.prepare.specs.Prepare.{preparedNot, preparedSays, Ended, ending}
 use Rattle.counting.specs.declared.Counted.the-variants as Counted
@@ -19,7 +21,7 @@ use Rattle.counting.specs.Counting.{rawCounts, countings, countsIn, countRows, 
 use Rattle.counts.specs.Counts.{mapRows, mapDoneOf, mapOf}
 use Rattle.counting.proofs.Tables.{count-never-10}
 use Rattle.counting.proofs.Endings.{count-refused, count-well}
-use Rattle.counts.proofs.Endings.{map-refused, map-done}
+use Rattle.counts.proofs.Endings.{map-refused, map-done, map-one}
 use Rattle.counting.proofs.Tiles.{length-countings, own-counts}
 use Rattle.counting.proofs.Like.{count-alike}
 use Rattle.counts.proofs.Like.{map-kept, map-taken}
@@ -41,15 +43,15 @@ count-table w h pic s cs =
       says-lent = λ k. refl;
     }
 
--- mapping: "1, 3 to 12 with 31 after 9, then 33, then 34"
-pub map-table : (film w h : ℕ) (s : Settings) (cs m t : List ℕ)
-    → ByTable (λ (x : Ended). preparedSays (x .answer)) (first (mapRows w h s cs (length m) (length t))) (recordOf film w h s, footOf w h s) (mapDoneOf film w h s cs m t)
-    (λ k. ending (preparedNot k) m t) (mapOf film w h s cs m t)
+-- mapping: "1, 3 to 12 with 31 after 9, then 33, then 34", and 32 "straight after 12"
+pub map-table : (film w h : ℕ) (s : Settings) (cs m t n : List ℕ)
+    → ByTable (λ (x : Ended). preparedSays (x .answer)) (first (mapRows w h s cs (length m) (length t) (length n))) (recordOf film w h s, footOf w h s)
+    (mapDoneOf film w h s cs m t n) (λ k. ending (preparedNot k) m t n) (mapOf film w h s cs m t n)
 unfolding mapDoneOf preparedSays
-map-table film w h s cs m t =
+map-table film w h s cs m t n =
     record {
-      when-none = λ z. sym (map-done film w h s cs m t refl z);
-      when-some = λ z. sym (map-refused film w h s cs m t refl z);
+      when-none = λ z. sym (map-done film w h s cs m t n refl z);
+      when-some = λ z. sym (map-refused film w h s cs m t n refl z);
       says-done = refl;
       says-lent = λ k. refl;
     }
@@ -63,9 +65,9 @@ count-says ran = ap (λ (y : Tallied). countedSays (y .answer)) (count-ends ran)
 -- mapping: prepare's record and footer, or the number
 pub map-says : {d : MapCall} → Maps d
     → preparedSays (d .answer)
-    ≡ says (first (mapRows (d .width) (d .height) (d .settings) (d .counts) (length (d .map)) (length (d .scratch))))
+    ≡ says (first (mapRows (d .width) (d .height) (d .settings) (d .counts) (length (d .map)) (length (d .scratch)) (length (d .list))))
     (recordOf (d .film) (d .width) (d .height) (d .settings), footOf (d .width) (d .height) (d .settings))
-map-says ran = ap (λ (y : Ended). preparedSays (y .answer)) (map-ends ran) ∙ table-says (map-table _ _ _ _ _ _ _)
+map-says ran = ap (λ (y : Ended). preparedSays (y .answer)) (map-ends ran) ∙ table-says (map-table _ _ _ _ _ _ _ _)
 
 -- counting "never looks at the clip": a factor that mapping refuses is counted all the same
 pub count-says-no-10 : {c : CountCall} → Counts c → countedSays (c .answer) ≢ refused 10
@@ -78,11 +80,29 @@ count-refusal-keeps n ran q =
     let x = count-ends ran in
     ap (λ (y : Tallied). y .counts) (x ∙ table-kept (count-table _ _ _ _ _) (sym (ap (λ (y : Tallied). countedSays (y .answer)) x) ∙ q))
 
-pub map-refusal-keeps : {d : MapCall} (n : ℕ) → Maps d → preparedSays (d .answer) ≡ refused n → (d .map′ ≡ d .map) × (d .scratch′ ≡ d .scratch)
+pub map-refusal-keeps : {d : MapCall} (n : ℕ) → Maps d → preparedSays (d .answer) ≡ refused n → (d .map′ ≡ d .map) × (d .scratch′ ≡ d .scratch) × (d .list′ ≡ d .list)
 map-refusal-keeps n ran q =
     let x = map-ends ran in
-    let e = x ∙ table-kept (map-table _ _ _ _ _ _ _) (sym (ap (λ (y : Ended). preparedSays (y .answer)) x) ∙ q) in
-    (ap (λ (y : Ended). y .map) e, ap (λ (y : Ended). y .scratch) e)
+    let e = x ∙ table-kept (map-table _ _ _ _ _ _ _ _) (sym (ap (λ (y : Ended). preparedSays (y .answer)) x) ∙ q) in
+    (ap (λ (y : Ended). y .map) e, ap (λ (y : Ended). y .scratch) e, ap (λ (y : Ended). y .list) e)
+
+-- ---- "at factor 1.0 the list keeps its contents", as map buffer and scratch do
+
+-- whatever the answer is
+one-kept : (film w h : ℕ) (s : Settings) (cs m t n : List ℕ) → clipOne (s .clip) ≡ true → (k : ℕ) → first (mapRows w h s cs (length m) (length t) (length n)) ≡ k
+    → (mapOf film w h s cs m t n .map ≡ m) × (mapOf film w h s cs m t n .scratch ≡ t) × (mapOf film w h s cs m t n .list ≡ n)
+one-kept film w h s cs m t n one zero e =
+    let q = sym (map-one film w h s cs m t n refl e refl refl refl one) in
+    (ap (λ (z : Ended). z .map) q, ap (λ (z : Ended). z .scratch) q, ap (λ (z : Ended). z .list) q)
+one-kept film w h s cs m t n one (suc k) e =
+    let q = sym (map-refused film w h s cs m t n refl (λ z. omega (arith, e, z))) in
+    (ap (λ (z : Ended). z .map) q, ap (λ (z : Ended). z .scratch) q, ap (λ (z : Ended). z .list) q)
+
+pub map-one-keeps : {d : MapCall} → Maps d → clipOne (d .settings .clip) ≡ true → (d .map′ ≡ d .map) × (d .scratch′ ≡ d .scratch) × (d .list′ ≡ d .list)
+map-one-keeps {d} ran one =
+    let x = map-ends ran in
+    let (map, scratch, list) = one-kept (d .film) (d .width) (d .height) (d .settings) (d .counts) (d .map) (d .scratch) (d .list) one _ refl in
+    (ap (λ (y : Ended). y .map) x ∙ map, ap (λ (y : Ended). y .scratch) x ∙ scratch, ap (λ (y : Ended). y .list) x ∙ list)
 
 -- ---- "fills only the front of a lent buffer with each tile's raw counts in the mappings' order"
 
@@ -121,15 +141,19 @@ count-any-clip {c} {d} x y width height pixels like counts =
     (ap (λ (z : Tallied). z .answer) e, ap (λ (z : Tallied). z .counts) e)
 
 -- mapping reads no more of the counts than an entry for each bin of each tile: what lies behind the front decides nothing
-pub map-alike : {d e : MapCall} → Maps d → Maps e → map-read d ≡ map-read e → (d .answer ≡ e .answer) × (d .map′ ≡ e .map′) × (d .scratch′ ≡ e .scratch′)
+pub map-alike : {d e : MapCall} → Maps d → Maps e → map-read d ≡ map-read e
+    → (d .answer ≡ e .answer) × (d .map′ ≡ e .map′) × (d .scratch′ ≡ e .scratch′) × (d .list′ ≡ e .list′)
 map-alike {d} {e} x y same =
-    let k = map-ends x ∙ sym (seen d) ∙ ap (λ g. mapOf (g .0) (g .1) (g .2) (g .3) (g .4) (g .5) (g .6)) same ∙ seen e ∙ sym (map-ends y) in
-    (ap (λ (z : Ended). z .answer) k, ap (λ (z : Ended). z .map) k, ap (λ (z : Ended). z .scratch) k)
+    let k = map-ends x ∙ sym (seen d) ∙ ap (λ g. mapOf (g .0) (g .1) (g .2) (g .3) (g .4) (g .5) (g .6) (g .7)) same ∙ seen e ∙ sym (map-ends y) in
+    (ap (λ (z : Ended). z .answer) k, ap (λ (z : Ended). z .map) k, ap (λ (z : Ended). z .scratch) k, ap (λ (z : Ended). z .list) k)
   where
     seen : (d : MapCall)
-        → mapOf (d .film) (d .width) (d .height) (keptOf (d .settings)) (take (entriesOf (d .settings)) (d .counts)) (d .map) (d .scratch)
-        ≡ mapOf (d .film) (d .width) (d .height) (d .settings) (d .counts) (d .map) (d .scratch)
-    seen d = map-kept (d .film) (d .width) (d .height) (d .settings) _ (d .map) (d .scratch) ∙ map-taken (d .film) (d .width) (d .height) (d .settings) (d .counts) (d .map) (d .scratch)
+        → mapOf (d .film) (d .width) (d .height) (keptOf (d .settings)) (take (entriesOf (d .settings)) (d .counts)) (d .map) (d .scratch) (d .list)
+        ≡ mapOf (d .film) (d .width) (d .height) (d .settings) (d .counts) (d .map) (d .scratch) (d .list)
+    seen d =
+        map-kept (d .film) (d .width) (d .height) (d .settings) _ (d .map) (d .scratch) (d .list)
+        ∙ map-taken (d .film) (d .width) (d .height) (d .settings) (d .counts) (d .map) (d .scratch) (d .list)
 
-pub map-determined : {d e : MapCall} → Maps d → Maps e → map-given d ≡ map-given e → (d .answer ≡ e .answer) × (d .map′ ≡ e .map′) × (d .scratch′ ≡ e .scratch′)
-map-determined x y same = map-alike x y (ap (λ g. (g .0, g .1, g .2, keptOf (g .3), take (entriesOf (g .3)) (g .4), g .5, g .6)) same)
+pub map-determined : {d e : MapCall} → Maps d → Maps e → map-given d ≡ map-given e
+    → (d .answer ≡ e .answer) × (d .map′ ≡ e .map′) × (d .scratch′ ≡ e .scratch′) × (d .list′ ≡ e .list′)
+map-determined x y same = map-alike x y (ap (λ g. (g .0, g .1, g .2, keptOf (g .3), take (entriesOf (g .3)) (g .4), g .5, g .6, g .7)) same)

@@ -57,27 +57,43 @@ pub record MapCall : Type 0 where
   pub counts : List ℕ
   pub map : List ℕ
   pub scratch : List ℕ
+  pub list : List ℕ
   pub answer : Prepared
   pub map′ : List ℕ
   pub scratch′ : List ℕ
+  pub list′ : List ℕ
 
 abbrev pub map-values : Run map.ps map.r map-reads.Post → MapCall
 map-values run =
-    let (film, (width, (height, (settings, (counts, (map, (scratch, end))))))) = run .handed in
-    let (_, (_, (_, (_, (_, (map′, (scratch′, end′))))))) = run .left in
-    record { film = film; width = width; height = height; settings = settings; counts = now counts; map = now map; scratch = now scratch; answer = run .answer; map′ = now map′; scratch′ = now scratch′ }
+    let (film, (width, (height, (settings, (counts, (map, (scratch, (list, end)))))))) = run .handed in
+    let (_, (_, (_, (_, (_, (map′, (scratch′, (list′, end′)))))))) = run .left in
+    record {
+      film = film;
+      width = width;
+      height = height;
+      settings = settings;
+      counts = now counts;
+      map = now map;
+      scratch = now scratch;
+      list = now list;
+      answer = run .answer;
+      map′ = now map′;
+      scratch′ = now scratch′;
+      list′ = now list′;
+    }
 
 -- what it is handed
-abbrev pub map-given : MapCall → ℕ × ℕ × ℕ × Settings × List ℕ × List ℕ × List ℕ
-map-given d = (d .film, d .width, d .height, d .settings, d .counts, d .map, d .scratch)
+abbrev pub map-given : MapCall → ℕ × ℕ × ℕ × Settings × List ℕ × List ℕ × List ℕ × List ℕ
+map-given d = (d .film, d .width, d .height, d .settings, d .counts, d .map, d .scratch, d .list)
 
 -- what it reads of that: the settings "with bins 0 kept as 128", and of the counts as many as "tiles times bins"
-abbrev pub map-read : MapCall → ℕ × ℕ × ℕ × Settings × List ℕ × List ℕ × List ℕ
-map-read d = (d .film, d .width, d .height, keptOf (d .settings), take (entriesOf (d .settings)) (d .counts), d .map, d .scratch)
+abbrev pub map-read : MapCall → ℕ × ℕ × ℕ × Settings × List ℕ × List ℕ × List ℕ × List ℕ
+map-read d = (d .film, d .width, d .height, keptOf (d .settings), take (entriesOf (d .settings)) (d .counts), d .map, d .scratch, d .list)
 
 -- mapping ran with these values
 abbrev pub Maps : MapCall → Type 0
 Maps = Ran map-values
 
-pub map-ends : {d : MapCall} → Maps d → ending (d .answer) (d .map′) (d .scratch′) ≡ mapOf (d .film) (d .width) (d .height) (d .settings) (d .counts) (d .map) (d .scratch)
+pub map-ends : {d : MapCall} → Maps d
+    → ending (d .answer) (d .map′) (d .scratch′) (d .list′) ≡ mapOf (d .film) (d .width) (d .height) (d .settings) (d .counts) (d .map) (d .scratch) (d .list)
 map-ends ran = rw (ran .named) (ran .run .allowed)

@@ -1,5 +1,5 @@
 -- Order 5: "Wherever prepare accepts the film and 33 isn't met, counting then mapping with factor f gives prepare's mappings, record and footer for f, for each f in turn
--- over the same counts". Of every run of counting, mapping and prepare by their contracts, each handed what is named; a name with ′ is lent memory at the end.
+-- over the same counts"; and so of order 7's list. Of every run of counting, mapping and prepare by their contracts, each handed what is named; a name with ′ is lent memory at the end.
 -- Assumes nothing.
 use Prim.Native.Nat.{ℕ, _≤_}
 use mathlib.Core.List.{List, [], _∷_}
@@ -35,10 +35,11 @@ pub record CountedAs (w h : ℕ) (pic : List ℕ) (s : Settings) (cs : List ℕ)
   pub like : Alike (call .settings) s
   pub left : cs ≡ call .counts′
 
--- mapping these counts is prepare, for every film number, clip setting, map buffer and scratch, refusals too
-pub counted-maps : {w h : ℕ} {pic : List ℕ} {s : Settings} {cs : List ℕ} → CountedAs w h pic s cs → (film : ℕ) (m t : List ℕ) → mapOf film w h s cs m t ≡ prepareOf film w h pic s m t
-counted-maps {w} {h} {pic} {s} {cs} by film m t =
-    ap (λ x. mapOf film w h s x m t) held ∙ mapped-as-prepared w h pic s (by .call .counts) free film m t
+-- mapping these counts is prepare, for every film number, clip setting, map buffer, scratch and list, refusals too
+pub counted-maps : {w h : ℕ} {pic : List ℕ} {s : Settings} {cs : List ℕ} → CountedAs w h pic s cs → (film : ℕ) (m t n : List ℕ)
+    → mapOf film w h s cs m t n ≡ prepareOf film w h pic s m t n
+counted-maps {w} {h} {pic} {s} {cs} by film m t n =
+    ap (λ x. mapOf film w h s x m t n) held ∙ mapped-as-prepared w h pic s (by .call .counts) free film m t n
   where
     held : cs ≡ onto (by .call .counts) (countings w h pic s)
     held = by .left ∙ counts-left (by .ran) (by .done) ∙ ap (onto (by .call .counts)) (rw (by .width, by .height, by .pixels) (countings-alike w h pic (by .like)))
@@ -47,6 +48,16 @@ counted-maps {w} {h} {pic} {s} {cs} by film m t =
     free =
         ap first (sym (rows-alike w h pic (by .like) (length (by .call .counts))))
         ∙ rw (← by .width, ← by .height, ← by .pixels) (says-accepted _ _ (sym (count-says (by .ran)) ∙ by .done) .0)
+
+-- so each run of mapping over them
+module _ {pic : List ℕ} {d : MapCall} (by : CountedAs (d .width) (d .height) pic (d .settings) (d .counts)) (ran : Maps d) where
+  -- ends as prepare does of the film that was counted
+  pub mapped-ends : ending (d .answer) (d .map′) (d .scratch′) (d .list′) ≡ prepareOf (d .film) (d .width) (d .height) pic (d .settings) (d .map) (d .scratch) (d .list)
+  mapped-ends = map-ends ran ∙ counted-maps by (d .film) (d .map) (d .scratch) (d .list)
+
+  -- and says what prepare says of it
+  pub mapped-says : preparedSays (prepareOf (d .film) (d .width) (d .height) pic (d .settings) (d .map) (d .scratch) (d .list) .answer) ≡ preparedSays (d .answer)
+  mapped-says = sym (ap (λ (z : Ended). preparedSays (z .answer)) mapped-ends)
 
 -- mapping was handed these counts, and all else as prepare was
 pub record MappedAs (p : PrepareCall) (cs : List ℕ) (d : MapCall) : Type 0 where
@@ -58,16 +69,17 @@ pub record MappedAs (p : PrepareCall) (cs : List ℕ) (d : MapCall) : Type 0 whe
   pub counts : d .counts ≡ cs
   pub map : d .map ≡ p .map
   pub scratch : d .scratch ≡ p .scratch
+  pub list : d .list ≡ p .list
 
 -- it answers and leaves what prepare does
 pub mapped-as-prepare : {p : PrepareCall} {cs : List ℕ} {d : MapCall} → Prepares p → CountedAs (p .width) (p .height) (p .pixels) (p .settings) cs → MappedAs p cs d
-    → (d .answer ≡ p .answer) × (d .map′ ≡ p .map′) × (d .scratch′ ≡ p .scratch′)
+    → (d .answer ≡ p .answer) × (d .map′ ≡ p .map′) × (d .scratch′ ≡ p .scratch′) × (d .list′ ≡ p .list′)
 mapped-as-prepare {p} {cs} {d} prepares by same =
-    let e : ending (d .answer) (d .map′) (d .scratch′) ≡ ending (p .answer) (p .map′) (p .scratch′) =
+    let e : ending (d .answer) (d .map′) (d .scratch′) (d .list′) ≡ ending (p .answer) (p .map′) (p .scratch′) (p .list′) =
     map-ends (same .maps)
-    ∙ rw (same .film, same .width, same .height, same .settings, same .counts, same .map, same .scratch) (counted-maps by (p .film) (p .map) (p .scratch))
+    ∙ rw (same .film, same .width, same .height, same .settings, same .counts, same .map, same .scratch, same .list) (counted-maps by (p .film) (p .map) (p .scratch) (p .list))
     ∙ sym (prepare-ends prepares) in
-    (ap (λ (z : Ended). z .answer) e, ap (λ (z : Ended). z .map) e, ap (λ (z : Ended). z .scratch) e)
+    (ap (λ (z : Ended). z .answer) e, ap (λ (z : Ended). z .map) e, ap (λ (z : Ended). z .scratch) e, ap (λ (z : Ended). z .list) e)
 
 -- ---- wherever prepare accepts the film and 33 is not met
 
@@ -89,53 +101,55 @@ module _ {p : PrepareCall} {r : MapRecord} {foot : Footer} (prepares : Prepares 
     where
       free : first (countRows (p .width) (p .height) (p .pixels) (p .settings) (length (c .counts))) ≡ 0
       free =
-          prepared-counts (p .width) (p .height) (p .pixels) (p .settings) (length (p .map)) (length (p .scratch)) (length (c .counts))
-          (prepare-accepts (p .film) (p .width) (p .height) (p .pixels) (p .settings) (p .map) (p .scratch)
+          prepared-counts (p .width) (p .height) (p .pixels) (p .settings) (length (p .map)) (length (p .scratch)) (length (p .list)) (length (c .counts))
+          (prepare-accepts (p .film) (p .width) (p .height) (p .pixels) (p .settings) (p .map) (p .scratch) (p .list)
           (sym (ap (λ (z : Ended). preparedSays (z .answer)) (prepare-ends prepares)) ∙ prepared))
           (of .long)
 
   counted-as : CountedAs (p .width) (p .height) (p .pixels) (p .settings) (c .counts′)
   counted-as = record { call = c; ran = of .counts; done = counted-done; width = of .width; height = of .height; pixels = of .pixels; like = of .like; left = refl }
 
-  -- and mapping what it left gives prepare's record and footer, map buffer and scratch
-  pub counted-then-mapped : {d : MapCall} → MappedAs p (c .counts′) d → (preparedSays (d .answer) ≡ accepted (r, foot)) × (d .map′ ≡ p .map′) × (d .scratch′ ≡ p .scratch′)
-  counted-then-mapped same = let (answer, map, scratch) = mapped-as-prepare prepares counted-as same in (ap preparedSays answer ∙ prepared, map, scratch)
+  -- and mapping what it left gives prepare's record and footer, map buffer, scratch and list
+  pub counted-then-mapped : {d : MapCall} → MappedAs p (c .counts′) d
+      → (preparedSays (d .answer) ≡ accepted (r, foot)) × (d .map′ ≡ p .map′) × (d .scratch′ ≡ p .scratch′) × (d .list′ ≡ p .list′)
+  counted-then-mapped same = let (answer, map, scratch, list) = mapped-as-prepare prepares counted-as same in (ap preparedSays answer ∙ prepared, map, scratch, list)
 
 -- ---- "for each f in turn over the same counts"
 
 -- mapping the counts cs with f ended with e
-pub record MapsWith (film w h : ℕ) (s : Settings) (cs : List ℕ) (f : Clip) (m t : List ℕ) (e : Ended) : Type 0 where
+pub record MapsWith (film w h : ℕ) (s : Settings) (cs : List ℕ) (f : Clip) (m t n : List ℕ) (e : Ended) : Type 0 where
   pub call : MapCall
   pub maps : Maps call
-  pub given : map-given call ≡ (film, w, h, withClip s f, cs, m, t)
-  pub ended : e ≡ ending (call .answer) (call .map′) (call .scratch′)
+  pub given : map-given call ≡ (film, w, h, withClip s f, cs, m, t, n)
+  pub ended : e ≡ ending (call .answer) (call .map′) (call .scratch′) (call .list′)
 
 -- prepare with f ended with e
-pub record PreparesWith (film w h : ℕ) (pic : List ℕ) (s : Settings) (f : Clip) (m t : List ℕ) (e : Ended) : Type 0 where
+pub record PreparesWith (film w h : ℕ) (pic : List ℕ) (s : Settings) (f : Clip) (m t n : List ℕ) (e : Ended) : Type 0 where
   pub call : PrepareCall
   pub prepares : Prepares call
-  pub given : prepare-given call ≡ (film, w, h, pic, withClip s f, m, t)
-  pub ended : e ≡ ending (call .answer) (call .map′) (call .scratch′)
+  pub given : prepare-given call ≡ (film, w, h, pic, withClip s f, m, t, n)
+  pub ended : e ≡ ending (call .answer) (call .map′) (call .scratch′) (call .list′)
 
--- a call for each f, from the map buffer m and the scratch t on, each handed what the one before left; es is what each ended with
-abbrev pub InTurn : (Clip → List ℕ → List ℕ → Ended → Type 0) → List Clip → List ℕ → List ℕ → List Ended → Type 0
-InTurn Call [] m t es = es ≡ []
-InTurn Call (f ∷ fs) m t [] = ⊥
-InTurn Call (f ∷ fs) m t (e ∷ es) = Call f m t e × InTurn Call fs (e .map) (e .scratch) es
+-- a call for each f, from the map buffer m, the scratch t and the list n on, each handed what the one before left; es is what each ended with
+abbrev pub InTurn : (Clip → List ℕ → List ℕ → List ℕ → Ended → Type 0) → List Clip → List ℕ → List ℕ → List ℕ → List Ended → Type 0
+InTurn Call [] m t n es = es ≡ []
+InTurn Call (f ∷ fs) m t n [] = ⊥
+InTurn Call (f ∷ fs) m t n (e ∷ es) = Call f m t n e × InTurn Call fs (e .map) (e .scratch) (e .list) es
 
 -- mapping in turn over the same counts ends, each time, as prepare in turn does
-pub in-turn : {w h : ℕ} {pic : List ℕ} {s : Settings} {cs : List ℕ} → CountedAs w h pic s cs → (film : ℕ) (fs : List Clip) (m t : List ℕ) (es es′ : List Ended)
-    → InTurn (MapsWith film w h s cs) fs m t es → InTurn (PreparesWith film w h pic s) fs m t es′ → es ≡ es′
-in-turn by film [] m t es es′ x y = x ∙ sym y
-in-turn by film (f ∷ fs) m t [] es′ x y = absurd x
-in-turn by film (f ∷ fs) m t (e ∷ es) [] x y = absurd y
-in-turn {w} {h} {pic} {s} {cs} by film (f ∷ fs) m t (e ∷ es) (e′ ∷ es′) x y = ap₂ (λ a b. a ∷ b) same (in-turn by film fs (e .map) (e .scratch) es es′ (x .1) (rw same (y .1)))
+pub in-turn : {w h : ℕ} {pic : List ℕ} {s : Settings} {cs : List ℕ} → CountedAs w h pic s cs → (film : ℕ) (fs : List Clip) (m t n : List ℕ) (es es′ : List Ended)
+    → InTurn (MapsWith film w h s cs) fs m t n es → InTurn (PreparesWith film w h pic s) fs m t n es′ → es ≡ es′
+in-turn by film [] m t n es es′ x y = x ∙ sym y
+in-turn by film (f ∷ fs) m t n [] es′ x y = absurd x
+in-turn by film (f ∷ fs) m t n (e ∷ es) [] x y = absurd y
+in-turn {w} {h} {pic} {s} {cs} by film (f ∷ fs) m t n (e ∷ es) (e′ ∷ es′) x y =
+    ap₂ (λ a b. a ∷ b) same (in-turn by film fs (e .map) (e .scratch) (e .list) es es′ (x .1) (rw same (y .1)))
   where
-    mapped : e ≡ mapOf film w h (withClip s f) cs m t
-    mapped = x .0 .ended ∙ map-ends (x .0 .maps) ∙ ap (λ g. mapOf (g .0) (g .1) (g .2) (g .3) (g .4) (g .5) (g .6)) (x .0 .given)
+    mapped : e ≡ mapOf film w h (withClip s f) cs m t n
+    mapped = x .0 .ended ∙ map-ends (x .0 .maps) ∙ ap (λ g. mapOf (g .0) (g .1) (g .2) (g .3) (g .4) (g .5) (g .6) (g .7)) (x .0 .given)
 
-    prepared : e′ ≡ prepareOf film w h pic (withClip s f) m t
-    prepared = y .0 .ended ∙ prepare-ends (y .0 .prepares) ∙ ap (λ g. prepareOf (g .0) (g .1) (g .2) (g .3) (g .4) (g .5) (g .6)) (y .0 .given)
+    prepared : e′ ≡ prepareOf film w h pic (withClip s f) m t n
+    prepared = y .0 .ended ∙ prepare-ends (y .0 .prepares) ∙ ap (λ g. prepareOf (g .0) (g .1) (g .2) (g .3) (g .4) (g .5) (g .6) (g .7)) (y .0 .given)
 
     another : CountedAs w h pic (withClip s f) cs
     another =
@@ -151,4 +165,4 @@ in-turn {w} {h} {pic} {s} {cs} by film (f ∷ fs) m t (e ∷ es) (e′ ∷ es′
         }
 
     same : e ≡ e′
-    same = mapped ∙ counted-maps another film m t ∙ sym prepared
+    same = mapped ∙ counted-maps another film m t n ∙ sym prepared

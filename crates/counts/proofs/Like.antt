@@ -11,17 +11,17 @@ use Rattle.lists.specs.Lists.{total}
 use Rattle.lists.proofs.Tabs.{every-cong}
 use Rattle.lists.proofs.Fills.{joined-cong}
 use Rattle.lists.proofs.Windows.{block-front}
-use Rattle.tile.specs.Tile.{countsMapping}
+use Rattle.tile.specs.Tile.{countsMapping, spentBy}
 use Rattle.settings.specs.declared.Settings.{Settings}
 use Rattle.settings.specs.Settings.{binsOf, entriesOf, keptOf, sideRows}
 use Rattle.settings.proofs.Like.{bins-kept, grid-kept, range-kept, clip-kept, room-kept}
 use Rattle.settings.proofs.Parts.{grey-parts}
 use Rattle.settings.proofs.Records.{record-of-kept}
-use Rattle.tiles.specs.Tiles.{pixelsIn}
+use Rattle.tiles.specs.Tiles.{pixelsIn, spentPair}
 use Rattle.tiles.proofs.Like.{foot-kept}
 use Rattle.counting.specs.Counting.{countsIn}
 use Rattle.counting.proofs.Like.{counts-kept, counts-front}
-use Rattle.counts.specs.Counts.{addsUp, mappingsFrom, tilingRows, lentRows, sumRows, mapRows, mapDoneOf, mapOf}
+use Rattle.counts.specs.Counts.{addsUp, mappingsFrom, spentsFrom, tilingRows, lentRows, sumRows, mapRows, mapDoneOf, mapOf}
 
 -- ---- mapping with bins 0 kept as 128
 
@@ -31,9 +31,9 @@ unfolding tilingRows
 tiling-kept w h s =
     ap₂ (λ a b. sideRows w h ++ (a ++ b)) (grid-kept w h s) (grey-parts (keptOf s) ∙ ap₂ (λ a b. a ++ b) (range-kept s) (clip-kept s) ∙ sym (grey-parts s))
 
-lent-kept : (s : Settings) (room scratch size : ℕ) → lentRows (keptOf s) room scratch size ≡ lentRows s room scratch size
+lent-kept : (s : Settings) (room scratch list size : ℕ) → lentRows (keptOf s) room scratch list size ≡ lentRows s room scratch list size
 unfolding lentRows
-lent-kept s room scratch size = rw (room-kept s room, counts-kept s size, bins-kept s) refl
+lent-kept s room scratch list size = rw (room-kept s room, counts-kept s size, bins-kept s) refl
 
 sums-kept : (w h : ℕ) (s : Settings) (cs : List ℕ) → addsUp w h (keptOf s) cs ≡ addsUp w h s cs
 unfolding addsUp
@@ -44,11 +44,18 @@ from-kept : (w h : ℕ) (s : Settings) (cs : List ℕ) → mappingsFrom w h (kep
 unfolding mappingsFrom
 from-kept w h s cs = joined-cong (s .across * s .down) (λ k l. rw (bins-kept s) refl)
 
+-- and what clipping takes
+spents-kept : (w h : ℕ) (s : Settings) (cs : List ℕ) → spentsFrom w h (keptOf s) cs ≡ spentsFrom w h s cs
+unfolding spentsFrom
+spents-kept w h s cs = joined-cong (s .across * s .down) (λ k l. rw (bins-kept s) refl)
+
 -- so it answers and leaves the same
-pub map-kept : (film w h : ℕ) (s : Settings) (cs m t : List ℕ) → mapOf film w h (keptOf s) cs m t ≡ mapOf film w h s cs m t
+pub map-kept : (film w h : ℕ) (s : Settings) (cs m t n : List ℕ) → mapOf film w h (keptOf s) cs m t n ≡ mapOf film w h s cs m t n
 unfolding mapOf mapDoneOf mapRows sumRows
-map-kept film w h s cs m t =
-    rw (tiling-kept w h s, lent-kept s (length m) (length t) (length cs), sums-kept w h s cs, from-kept w h s cs, foot-kept w h s, record-of-kept film w h s, bins-kept s) refl
+map-kept film w h s cs m t n =
+    rw
+    (tiling-kept w h s, lent-kept s (length m) (length t) (length n) (length cs), sums-kept w h s cs, from-kept w h s cs, spents-kept w h s cs, foot-kept w h s, record-of-kept film w h s, bins-kept s)
+    refl
 
 -- ---- mapping looks at the front of the counts
 
@@ -63,20 +70,25 @@ module _ (w h : ℕ) (s : Settings) (a b : List ℕ) (front : take (entriesOf s)
   sums-front = every-cong (s .across * s .down) (λ k l. ap (λ cs. eqb (total cs) (pixelsIn w h s k)) (same-counts l))
 
   -- the rows are met alike
-  rows-front : (room scratch : ℕ) → mapRows w h s a room scratch ≡ mapRows w h s b room scratch
+  rows-front : (room scratch list : ℕ) → mapRows w h s a room scratch list ≡ mapRows w h s b room scratch list
   unfolding mapRows lentRows sumRows
-  rows-front room scratch = rw (counts-front s a b front, sums-front) refl
+  rows-front room scratch list = rw (counts-front s a b front, sums-front) refl
 
-  -- and the mappings are the same
+  -- the mappings are the same
   mappings-front : mappingsFrom w h s a ≡ mappingsFrom w h s b
   unfolding mappingsFrom
   mappings-front = joined-cong (s .across * s .down) (λ k l. ap (countsMapping (s .min) (s .max) (s .clip) (pixelsIn w h s k)) (same-counts l))
 
+  -- and what clipping takes
+  spents-front : spentsFrom w h s a ≡ spentsFrom w h s b
+  unfolding spentsFrom
+  spents-front = joined-cong (s .across * s .down) (λ k l. ap (λ cs. spentPair (spentBy (s .clip) (pixelsIn w h s k) cs)) (same-counts l))
+
   -- what lies behind the front plays no part
-  pub map-front : (film : ℕ) (m t : List ℕ) → mapOf film w h s a m t ≡ mapOf film w h s b m t
+  pub map-front : (film : ℕ) (m t n : List ℕ) → mapOf film w h s a m t n ≡ mapOf film w h s b m t n
   unfolding mapOf mapDoneOf
-  map-front film m t = rw (rows-front (length m) (length t), mappings-front) refl
+  map-front film m t n = rw (rows-front (length m) (length t) (length n), mappings-front, spents-front) refl
 
 -- of any counts, mapping looks at as many
-pub map-taken : (film w h : ℕ) (s : Settings) (cs m t : List ℕ) → mapOf film w h s (take (entriesOf s) cs) m t ≡ mapOf film w h s cs m t
-map-taken film w h s cs m t = map-front w h s (take (entriesOf s) cs) cs (take-take (entriesOf s) (entriesOf s) cs (omega arith)) film m t
+pub map-taken : (film w h : ℕ) (s : Settings) (cs m t n : List ℕ) → mapOf film w h s (take (entriesOf s) cs) m t n ≡ mapOf film w h s cs m t n
+map-taken film w h s cs m t n = map-front w h s (take (entriesOf s) cs) cs (take-take (entriesOf s) (entriesOf s) cs (omega arith)) film m t n

@@ -15,21 +15,22 @@ use Rattle.settings.specs.declared.Settings.{Settings}
 use Rattle.settings.specs.Settings.{binsOf, entriesOf, clipBad, sideRows, gridRows, greyRows, roomRows, Tiled}
 use Rattle.settings.proofs.Ready.{room-numbers, side-numbered, grid-numbered, tiled, clip-fair, room-fits}
 use Rattle.settings.proofs.Parts.{grey-numbered, room-numbered, grey-both}
+use Rattle.tiles.specs.Tiles.{spentEntries}
 use Rattle.counting.specs.Counting.{countsRows}
 use Rattle.counting.proofs.Tables.{counts-numbers, counts-numbered, counts-fits}
-use Rattle.counts.specs.Counts.{addsUp, tilingRows, lentRows, sumRows, mapRows, MapsAsk}
+use Rattle.counts.specs.Counts.{addsUp, tilingRows, lentRows, sumRows, mapRows, ListAsks}
 
--- ---- the numbers, in the order that order 5 gives them
+-- ---- the numbers, in the order that the orders give them
 
--- "1, 3 to 12 with 31 after 9, then 33, then 34"
-pub map-numbers : (w h : ℕ) (s : Settings) (cs : List ℕ) (room scratch : ℕ)
-    → numbersOf (mapRows w h s cs room scratch) ≡ numbersOf (sideRows w h) ++ (numbersOf (gridRows w h s) ++ numbersOf (greyRows s)) ++ (11 ∷ 12 ∷ 33 ∷ 34 ∷ [])
+-- "1, 3 to 12 with 31 after 9, then 33, then 34", and 32 "straight after 12"
+pub map-numbers : (w h : ℕ) (s : Settings) (cs : List ℕ) (room scratch list : ℕ)
+    → numbersOf (mapRows w h s cs room scratch list) ≡ numbersOf (sideRows w h) ++ (numbersOf (gridRows w h s) ++ numbersOf (greyRows s)) ++ (11 ∷ 12 ∷ 32 ∷ 33 ∷ 34 ∷ [])
 unfolding numbersOf mapRows tilingRows lentRows sumRows
-map-numbers w h s cs room scratch =
-    numbers-append (tilingRows w h s) (lentRows s room scratch (length cs) ++ sumRows w h s cs)
+map-numbers w h s cs room scratch list =
+    numbers-append (tilingRows w h s) (lentRows s room scratch list (length cs) ++ sumRows w h s cs)
     ∙ ap₂ (λ a b. a ++ b)
     (numbers-append (sideRows w h) (gridRows w h s ++ greyRows s) ∙ ap (λ ns. numbersOf (sideRows w h) ++ ns) (numbers-append (gridRows w h s) (greyRows s)))
-    (numbers-append (lentRows s room scratch (length cs)) (sumRows w h s cs) ∙ ap (λ ns. ns ++ (34 ∷ [])) (numbers-append (roomRows s room) _ ∙ ap₂ (λ ns ms. ns ++ (12 ∷ ms)) (room-numbers s room) (counts-numbers s (length cs))))
+    (numbers-append (lentRows s room scratch list (length cs)) (sumRows w h s cs) ∙ ap (λ ns. ns ++ (34 ∷ [])) (numbers-append (roomRows s room) _ ∙ ap₂ (λ ns ms. ns ++ (12 ∷ 32 ∷ ms)) (room-numbers s room) (counts-numbers s (length cs))))
 
 -- ---- the numbers are above 0
 
@@ -39,29 +40,38 @@ tiling-numbered w h s =
     each-append (ltb 0) (sideRows w h) (gridRows w h s ++ greyRows s) (side-numbered w h)
     (each-append (ltb 0) (gridRows w h s) (greyRows s) (grid-numbered w h s) (grey-numbered s))
 
-pub lent-numbered : (s : Settings) (room scratch size : ℕ) → Numbered (lentRows s room scratch size)
+pub lent-numbered : (s : Settings) (room scratch list size : ℕ) → Numbered (lentRows s room scratch list size)
 unfolding all numbersOf lentRows
-lent-numbered s room scratch size = each-append (ltb 0) (roomRows s room) _ (room-numbered s room) (counts-numbered s size)
+lent-numbered s room scratch list size = each-append (ltb 0) (roomRows s room) _ (room-numbered s room) (counts-numbered s size)
 
--- ---- 11, 12 and 33, one after the other
+-- ---- 11, 12, 32 and 33, one after the other
 
-module _ (s : Settings) (room scratch size : ℕ) {r : ℕ} (e : r ≡ first (roomRows s room)) where
+module _ (s : Settings) (room scratch list size : ℕ) {r : ℕ} (e : r ≡ first (roomRows s room)) where
   -- 11 applies
-  pub lent-room : (r ≡ 0 → ⊥) → r ≡ first (lentRows s room scratch size)
+  pub lent-room : (r ≡ 0 → ⊥) → r ≡ first (lentRows s room scratch list size)
   unfolding lentRows
   lent-room z = front (roomRows s room) _ e z
 
   module _ (z : r ≡ 0) {b : ℕ} (n : b ≡ binsOf s) where
     -- it does not, and 12 does
-    pub lent-scratch : scratch < b → 12 ≡ first (lentRows s room scratch size)
+    pub lent-scratch : scratch < b → 12 ≡ first (lentRows s room scratch list size)
     unfolding lentRows
-    lent-scratch l = behind (roomRows s room) _ (room-numbered s room) e z (sym (first-hit (countsRows s size) (lt-ltb scratch (binsOf s) (omega arith))))
+    lent-scratch l = behind (roomRows s room) _ (room-numbered s room) e z (sym (first-hit _ (lt-ltb scratch (binsOf s) (omega arith))))
 
-    -- neither does, and 33 decides
-    pub lent-counts : {x : ℕ} → b ≤ scratch → x ≡ first (countsRows s size) → x ≡ first (lentRows s room scratch size)
-    unfolding lentRows
-    lent-counts l q =
-        behind (roomRows s room) _ (room-numbered s room) e z (q ∙ sym (first-skip 12 (countsRows s size) (le-ltb scratch (binsOf s) (omega arith))))
+    module _ (l : b ≤ scratch) where
+      -- neither does, and 32 does
+      pub lent-list : list < spentEntries s → 32 ≡ first (lentRows s room scratch list size)
+      unfolding lentRows
+      lent-list g =
+          behind (roomRows s room) _ (room-numbered s room) e z
+          (sym (first-skip 12 _ (le-ltb scratch (binsOf s) (omega arith)) ∙ first-hit _ (lt-ltb list (spentEntries s) g)))
+
+      -- none of them does, and 33 decides
+      pub lent-counts : {x : ℕ} → spentEntries s ≤ list → x ≡ first (countsRows s size) → x ≡ first (lentRows s room scratch list size)
+      unfolding lentRows
+      lent-counts g q =
+          behind (roomRows s room) _ (room-numbered s room) e z
+          (q ∙ sym (first-skip 12 _ (le-ltb scratch (binsOf s) (omega arith)) ∙ first-skip 32 (countsRows s size) (le-ltb list (spentEntries s) g)))
 
 -- ---- 34, by what was found
 
@@ -81,20 +91,28 @@ tiling-tiled w h s e =
     let c = grey-both s (b .1) in
     (tiled w h s (a .0) (b .0) (c .0), clip-fair s (c .1))
 
--- none of 11, 12 and 33
-pub lent-fits : (s : Settings) (room scratch size : ℕ) → first (lentRows s room scratch size) ≡ 0 → (entriesOf s ≤ room) × (binsOf s ≤ scratch) × (entriesOf s ≤ size)
+-- none of 11, 12, 32 and 33
+pub lent-fits : (s : Settings) (room scratch list size : ℕ) → first (lentRows s room scratch list size) ≡ 0
+    → (entriesOf s ≤ room) × (binsOf s ≤ scratch) × (spentEntries s ≤ list) × (entriesOf s ≤ size)
 unfolding lentRows all numbersOf
-lent-fits s room scratch size e =
+lent-fits s room scratch list size e =
     let a = first-both (roomRows s room) _ (room-numbered s room) e in
-    let b = first-none _ (counts-numbered s size) (a .1) in
-    (room-fits s room (a .0), ltb-false _ _ (b .0), counts-fits s size (sym (first-skip 12 (countsRows s size) (b .0)) ∙ a .1))
+    let b = first-none _ (counts-numbered s size) (a .1) in (
+      room-fits s room (a .0),
+      ltb-false _ _ (b .0),
+      ltb-false _ _ (b .1 .0),
+      counts-fits s size (sym (first-skip 12 _ (b .0) ∙ first-skip 32 (countsRows s size) (b .1 .0)) ∙ a .1),
+    )
 
 -- none of mapping's
-pub map-ready : (w h : ℕ) (s : Settings) (cs : List ℕ) (room scratch : ℕ) → first (mapRows w h s cs room scratch) ≡ 0 → MapsAsk w h s cs room scratch
+pub map-ready : (w h : ℕ) (s : Settings) (cs : List ℕ) (room scratch list : ℕ) → first (mapRows w h s cs room scratch list) ≡ 0 → ListAsks w h s cs room scratch list
 unfolding mapRows sumRows all numbersOf
-map-ready w h s cs room scratch e =
+map-ready w h s cs room scratch list e =
     let a = first-both (tilingRows w h s) _ (tiling-numbered w h s) e in
-    let b = first-both (lentRows s room scratch (length cs)) _ (lent-numbered s room scratch (length cs)) (a .1) in
+    let b = first-both (lentRows s room scratch list (length cs)) _ (lent-numbered s room scratch list (length cs)) (a .1) in
     let (known, fair) = tiling-tiled w h s (a .0) in
-    let (fits, bins, long) = lent-fits s room scratch (length cs) (b .0) in
-    record { tiled = known; fair = fair; fitting = fits; bins = bins; long = long; sums = not-false _ (first-none _ refl (b .1) .0) }
+    let (fits, bins, pairs, long) = lent-fits s room scratch list (length cs) (b .0) in
+    record {
+      film = record { tiled = known; fair = fair; fitting = fits; bins = bins; long = long; sums = not-false _ (first-none _ refl (b .1) .0) };
+      pairs = pairs;
+    }

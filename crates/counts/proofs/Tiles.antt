@@ -15,7 +15,8 @@ use Rattle.lists.proofs.Tabs.{every-at}
 use Rattle.lists.proofs.Fills.{take-onto, drop-onto, length-onto}
 use Rattle.lists.proofs.Maps.{over-part}
 use Rattle.lists.proofs.Windows.{block, length-block, block-cut}
-use Rattle.tile.specs.Tile.{clippedBy, countsMapping, Holds, FromAsks}
+use Rattle.clip.specs.declared.Spent.{Spent}
+use Rattle.tile.specs.Tile.{clippedBy, countsMapping, spentBy, Holds, FromAsks}
 use Rattle.tile.proofs.Tiles.{length-clipped-by, length-counts-mapping}
 use Rattle.settings.specs.declared.Settings.{Settings}
 use Rattle.settings.specs.Settings.{binsOf, Tiled}
@@ -104,14 +105,17 @@ module _ {w h : ℕ} {s : Settings} {cs : List ℕ} {k : ℕ} (m t : List ℕ) (
             enough = omega (arith, size, length-block m k b (block-room s (film .fitting) (asks .tile) q));
           }
 
-      -- what it leaves
-      pub one-mapped : {ys v : List ℕ} → v ≡ clippedBy (s .clip) n (take b u) → ys ≡ onto (block m k b) (countsMapping (s .min) (s .max) (s .clip) n (take b u))
-          → OneMapped w h s cs k m (putMid (k * b) (k * b + b - k * b) m ys) t (v ++ drop b u)
-      one-mapped {ys} {v} f g =
+      -- what it leaves and answers
+      pub one-mapped : {ys v : List ℕ} {took : Spent} → v ≡ clippedBy (s .clip) n (take b u) → ys ≡ onto (block m k b) (countsMapping (s .min) (s .max) (s .clip) n (take b u))
+          → took ≡ spentBy (s .clip) n (take b u) → OneMapped w h s cs k m (putMid (k * b) (k * b + b - k * b) m ys) t (v ++ drop b u) took
+      one-mapped {ys} {v} f g j =
           record {
-            map = over-part m (mappingFrom w h s cs k) (k * b) b (block-room s (asks .film .fitting) (asks .tile) q) (length-mapping-from asks ∙ sym q) (g ∙ rw (copied, p) refl) ∙ rw q refl;
-            behind = ap (λ j. drop j (v ++ drop b u)) (sym q) ∙ drop-at v (drop b u) b (clipped ∙ sym q) ∙ ap (drop b) held ∙ drop-onto t (countsIn s cs k) b long ∙ ap (λ j. drop j t) q;
-            size = length-front u v b (clipped ∙ sym size) ∙ ap length held ∙ length-onto t (countsIn s cs k) (omega (arith, long, copy-asks .room));
+            placed = record {
+              map = over-part m (mappingFrom w h s cs k) (k * b) b (block-room s (asks .film .fitting) (asks .tile) q) (length-mapping-from asks ∙ sym q) (g ∙ rw (copied, p) refl) ∙ rw q refl;
+              behind = ap (λ i. drop i (v ++ drop b u)) (sym q) ∙ drop-at v (drop b u) b (clipped ∙ sym q) ∙ ap (drop b) held ∙ drop-onto t (countsIn s cs k) b long ∙ ap (λ i. drop i t) q;
+              size = length-front u v b (clipped ∙ sym size) ∙ ap length held ∙ length-onto t (countsIn s cs k) (omega (arith, long, copy-asks .room));
+            };
+            spent = j ∙ ap₂ (spentBy (s .clip)) p copied;
           }
         where
           clipped : length v ≡ binsOf s

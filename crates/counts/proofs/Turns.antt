@@ -15,9 +15,11 @@ use Rattle.lists.proofs.Fills.{blocks-none}
 use Rattle.lists.proofs.Maps.{filled-behind}
 use Rattle.settings.specs.declared.Settings.{Settings}
 use Rattle.settings.specs.Settings.{binsOf}
+use Rattle.clip.specs.declared.Spent.{Spent}
 use Rattle.tiles.specs.Tiles.{pixelsIn}
+use Rattle.tiles.proofs.Turns.{Listed, listed-end}
 use Rattle.counting.specs.Counting.{countsIn}
-use Rattle.counts.specs.Counts.{addsUp, mappingFrom, mappingsFrom, MapsAsk, MapAsks, OneMapped, AllMapped}
+use Rattle.counts.specs.Counts.{addsUp, mappingFrom, mappingsFrom, spentFrom, spentsFrom, MapsAsk, MapAsks, OneMapped, AllMapped}
 use Rattle.counts.proofs.Tiles.{length-mapping-from}
 
 -- ---- adding up
@@ -76,21 +78,23 @@ module _ {w h : ℕ} {s : Settings} {cs m₀ t₀ : List ℕ} (asks : MapsAsk w 
   mapping-asks turn l = rw (mapping-length turn (omega arith), turn .size) record { film = asks; tile = l }
 
   -- one tile more
-  pub mapping-next : {m n t u : List ℕ} {k : ℕ} → Mapping w h s cs m₀ m t₀ t k → k < s .across * s .down → OneMapped w h s cs k m n t u → Mapping w h s cs m₀ n t₀ u (k + 1)
+  pub mapping-next : {m n t u : List ℕ} {k : ℕ} {took : Spent} → Mapping w h s cs m₀ m t₀ t k → k < s .across * s .down → OneMapped w h s cs k m n t u took
+      → Mapping w h s cs m₀ n t₀ u (k + 1)
   mapping-next {m} {n} {t} {u} {k} turn l done =
       record {
-        map = blocks-over (binsOf s) (mappingFrom w h s cs) m₀ k (λ i q. sized asks i (omega arith)) (turn .map) (done .map);
-        behind = done .behind ∙ turn .behind;
-        size = done .size ∙ turn .size;
+        map = blocks-over (binsOf s) (mappingFrom w h s cs) m₀ k (λ i q. sized asks i (omega arith)) (turn .map) (done .placed .map);
+        behind = done .placed .behind ∙ turn .behind;
+        size = done .placed .size ∙ turn .size;
       }
 
   -- all tiles, and the scratch cleared
-  pub mapping-end : {m t u : List ℕ} {k b : ℕ} → Mapping w h s cs m₀ m t₀ t k → k ≤ s .across * s .down → s .across * s .down ≤ k
-      → b ≡ binsOf s → u ≡ filled (λ i. 0) t b → AllMapped w h s cs m₀ m t₀ u
-  unfolding mappingsFrom
-  mapping-end {m} {t} {u} {k} {b} turn l g q e =
+  pub mapping-end : {m t u n₀ n : List ℕ} {k b : ℕ} → Mapping w h s cs m₀ m t₀ t k → Listed (spentFrom w h s cs) n₀ n k → k ≤ s .across * s .down → s .across * s .down ≤ k
+      → b ≡ binsOf s → u ≡ filled (λ i. 0) t b → AllMapped w h s cs m₀ m t₀ u n₀ n
+  unfolding mappingsFrom spentsFrom
+  mapping-end {m} {t} {u} {n₀} {n} {k} {b} turn listed l g q e =
       record {
         map = blocks-end (binsOf s) (mappingFrom w h s cs) m₀ (turn .map) l g
             ∙ blocks-onto (binsOf s) (mappingFrom w h s cs) m₀ (s .across * s .down) (sized asks);
         scratch = e ∙ ap (filled (λ i. 0) t) q ∙ filled-behind (λ i. 0) t t₀ (binsOf s) (turn .behind);
+        list = listed-end listed l g;
       }

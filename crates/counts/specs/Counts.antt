@@ -1,5 +1,5 @@
 -- Order 5, "a new factor without a new count": what mapping answers, and what each lent buffer holds at the end.
--- w and h are the film's width and height, cs the counts, m the map buffer and t the scratch as lent.
+-- w and h are the film's width and height, cs the counts, m the map buffer, t the scratch and n order 7's list as lent.
 -- Assumes nothing.
 use Prim.Native.Nat.{ℕ, _+_, _*_, _≤_, _<_}
 use mathlib.Core.Path.{_≡_}
@@ -9,10 +9,11 @@ use lib.Dec.{ltb, eqb}
 use lib.ListN.{length}
 use Rattle.lists.specs.Lists.{joined, every, total, onto, filled}
 use Rattle.refuse.specs.Refuse.{Row, row, first, unless}
-use Rattle.tile.specs.Tile.{countsMapping}
+use Rattle.clip.specs.declared.Spent.{Spent}
+use Rattle.tile.specs.Tile.{countsMapping, spentBy}
 use Rattle.settings.specs.declared.Settings.{Settings}
 use Rattle.settings.specs.Settings.{binsOf, entriesOf, recordOf, clipBad, clipOne, sideRows, gridRows, greyRows, roomRows, Tiled}
-use Rattle.tiles.specs.Tiles.{pixelsIn, footOf, Placed, AllPlaced}
+use Rattle.tiles.specs.Tiles.{pixelsIn, footOf, spentPair, spentEntries, Placed, AllPlaced}
 use Rattle.prepare.specs.Prepare.{preparedWith, preparedNot, Ended, ending}
 use Rattle.counting.specs.Counting.{countsIn, countsRows}
 
@@ -30,39 +31,48 @@ mappingFrom w h s cs k = countsMapping (s .min) (s .max) (s .clip) (pixelsIn w h
 unfoldable pub mappingsFrom : ℕ → ℕ → Settings → List ℕ → List ℕ
 mappingsFrom w h s cs = joined (s .across * s .down) (mappingFrom w h s cs)
 
+-- order 7, "E, and the number of looks" of tile k from those counts
+abbrev pub spentFrom : ℕ → ℕ → Settings → List ℕ → ℕ → Spent
+spentFrom w h s cs k = spentBy (s .clip) (pixelsIn w h s k) (countsIn s cs k)
+
+-- the list "in which each tile in row order has two entries"
+unfoldable pub spentsFrom : ℕ → ℕ → Settings → List ℕ → List ℕ
+spentsFrom w h s cs = joined (s .across * s .down) (λ k. spentPair (spentFrom w h s cs k))
+
 -- ---- refusals
 
 -- 1 and 3 to 10, "with 31 after 9": mapping is handed no picture
 unfoldable pub tilingRows : ℕ → ℕ → Settings → List Row
 tilingRows w h s = sideRows w h ++ (gridRows w h s ++ greyRows s)
 
--- 11, 12 and 33: what is lent is too short
-unfoldable pub lentRows : Settings → ℕ → ℕ → ℕ → List Row
-lentRows s room scratch size = roomRows s room ++ (row 12 (ltb scratch (binsOf s)) ∷ countsRows s size)
+-- 11, 12, 32 and 33: what is lent is too short; 32 "straight after 12"
+unfoldable pub lentRows : Settings → ℕ → ℕ → ℕ → ℕ → List Row
+lentRows s room scratch list size = roomRows s room ++ (row 12 (ltb scratch (binsOf s)) ∷ row 32 (ltb list (spentEntries s)) ∷ countsRows s size)
 
 -- 34: "a tile's counts don't add up to its pixels"
 unfoldable pub sumRows : ℕ → ℕ → Settings → List ℕ → List Row
 sumRows w h s cs = row 34 (not (addsUp w h s cs)) ∷ []
 
--- "mapping gives 1, 3 to 12 with 31 after 9, then 33, then 34"
-unfoldable pub mapRows : ℕ → ℕ → Settings → List ℕ → ℕ → ℕ → List Row
-mapRows w h s cs room scratch = tilingRows w h s ++ (lentRows s room scratch (length cs) ++ sumRows w h s cs)
+-- "mapping gives 1, 3 to 12 with 31 after 9, then 33, then 34", 32 behind 12
+unfoldable pub mapRows : ℕ → ℕ → Settings → List ℕ → ℕ → ℕ → ℕ → List Row
+mapRows w h s cs room scratch list = tilingRows w h s ++ (lentRows s room scratch list (length cs) ++ sumRows w h s cs)
 
 -- ---- mapping
 
 -- "mapping, which makes the mappings and footer from those counts": "Mapping leaves map buffer and scratch as prepare does, at factor 1.0 too"
-unfoldable pub mapDoneOf : ℕ → ℕ → ℕ → Settings → List ℕ → List ℕ → List ℕ → Ended
-mapDoneOf film w h s cs m t =
+unfoldable pub mapDoneOf : ℕ → ℕ → ℕ → Settings → List ℕ → List ℕ → List ℕ → List ℕ → Ended
+mapDoneOf film w h s cs m t n =
     record {
       answer = preparedWith (recordOf film w h s) (footOf w h s);
       map = cond (clipOne (s .clip)) m (onto m (mappingsFrom w h s cs));
       scratch = cond (clipOne (s .clip)) t (filled (λ k. 0) t (binsOf s));
+      list = cond (clipOne (s .clip)) n (onto n (spentsFrom w h s cs));
     }
 
 -- a refusal leaves all memory as it was; where none applies, mapping does its work
-unfoldable pub mapOf : ℕ → ℕ → ℕ → Settings → List ℕ → List ℕ → List ℕ → Ended
-mapOf film w h s cs m t =
-    unless (first (mapRows w h s cs (length m) (length t))) (λ n. ending (preparedNot n) m t) (mapDoneOf film w h s cs m t)
+unfoldable pub mapOf : ℕ → ℕ → ℕ → Settings → List ℕ → List ℕ → List ℕ → List ℕ → Ended
+mapOf film w h s cs m t n =
+    unless (first (mapRows w h s cs (length m) (length t) (length n))) (λ k. ending (preparedNot k) m t n) (mapDoneOf film w h s cs m t n)
 
 -- ---- what the functions below ask
 
@@ -76,7 +86,7 @@ pub record SumAsks (w h : ℕ) (s : Settings) (k size : ℕ) : Type 0 where
   pub film : SumsAsk w h s size
   pub tile : k < s .across * s .down
 
--- what mapping knows once none of its rows applies
+-- what mapping a tile knows once none of the rows applies
 pub record MapsAsk (w h : ℕ) (s : Settings) (cs : List ℕ) (room scratch : ℕ) : Type 0 where
   pub tiled : Tiled w h s
   pub fair : clipBad (s .clip) ≡ false
@@ -84,6 +94,11 @@ pub record MapsAsk (w h : ℕ) (s : Settings) (cs : List ℕ) (room scratch : �
   pub bins : binsOf s ≤ scratch
   pub long : entriesOf s ≤ length cs
   pub sums : addsUp w h s cs ≡ true
+
+-- what `map_all` asks: that, and a list with two entries for each tile
+pub record ListAsks (w h : ℕ) (s : Settings) (cs : List ℕ) (room scratch list : ℕ) : Type 0 where
+  pub film : MapsAsk w h s cs room scratch
+  pub pairs : spentEntries s ≤ list
 
 -- the same of one of the tiles
 pub record MapAsks (w h : ℕ) (s : Settings) (cs : List ℕ) (k room scratch : ℕ) : Type 0 where
@@ -96,10 +111,11 @@ pub record CopyAsks (b k size scratch : ℕ) : Type 0 where
   pub small : k * b + b ≤ 1048576
   pub room : b ≤ scratch
 
--- what `map_one` leaves
-abbrev pub OneMapped : ℕ → ℕ → Settings → List ℕ → ℕ → List ℕ → List ℕ → List ℕ → List ℕ → Type 0
-OneMapped w h s cs k = Placed s k (mappingFrom w h s cs k)
+-- what `map_one` leaves and answers
+pub record OneMapped (w h : ℕ) (s : Settings) (cs : List ℕ) (k : ℕ) (m₀ m t₀ t : List ℕ) (took : Spent) : Type 0 where
+  pub placed : Placed s k (mappingFrom w h s cs k) m₀ m t₀ t
+  pub spent : took ≡ spentFrom w h s cs k
 
 -- what `map_all` leaves
-abbrev pub AllMapped : ℕ → ℕ → Settings → List ℕ → List ℕ → List ℕ → List ℕ → List ℕ → Type 0
-AllMapped w h s cs = AllPlaced s (mappingsFrom w h s cs)
+abbrev pub AllMapped : ℕ → ℕ → Settings → List ℕ → List ℕ → List ℕ → List ℕ → List ℕ → List ℕ → List ℕ → Type 0
+AllMapped w h s cs = AllPlaced s (mappingsFrom w h s cs) (spentsFrom w h s cs)

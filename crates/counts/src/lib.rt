@@ -8,7 +8,8 @@ ghost use Rattle.refuse.specs.Refuse.{first};
 ghost use Rattle.tiles.specs.Tiles.{pixelsIn};
 ghost use Rattle.prepare.specs.Prepare.{ending};
 ghost use Rattle.counting.specs.Counting.{countsIn, LentAsks};
-ghost use Rattle.counts.specs.Counts.{addsUp, tilingRows, lentRows, mapRows, mapOf, SumsAsk, SumAsks, MapsAsk, MapAsks, CopyAsks, OneMapped, AllMapped};
+ghost use Rattle.counts.specs.Counts.{addsUp, tilingRows, lentRows, mapRows, mapOf, SumsAsk, SumAsks, ListAsks, MapAsks, CopyAsks, OneMapped, AllMapped};
+use clip::Spent;
 use prepare::Made;
 use prepare::Prepared;
 use settings::Settings;
@@ -70,10 +71,10 @@ fn tiling_refusal(width: u32, height: u32, s: Settings) -> u32
     settings::grey_refusal(s)
 }
 
-// The first of the refusals 11, 12 and 33 that applies, else 0.
-fn lent_refusal(s: Settings, room: usize, scratch: usize, size: usize) -> u32
+// The first of the refusals 11, 12, 32 and 33 that applies, else 0.
+fn lent_refusal(s: Settings, room: usize, scratch: usize, list: usize, size: usize) -> u32
     requires { ⌜ LentAsks s ⌝ }
-    ensures { λ r. ⌜ r ≡ first (lentRows s room scratch size) ⌝ }
+    ensures { λ r. ⌜ r ≡ first (lentRows s room scratch list size) ⌝ }
 {
     let full = settings::room_refusal(s, room);
     if full != 0 {
@@ -81,6 +82,9 @@ fn lent_refusal(s: Settings, room: usize, scratch: usize, size: usize) -> u32
     }
     if scratch < (settings::bins(s) as usize) {
         return 12;
+    }
+    if list < (2 * (s.across * s.down) as usize) {
+        return 32;
     }
     counting::counts_refusal(s, size)
 }
@@ -93,14 +97,15 @@ fn map_refusal(
     counts: &[u32],
     room: usize,
     scratch: usize,
+    list: usize,
 ) -> u32
-    ensures { λ r. ⌜ r ≡ first (mapRows width height s (now (counts .entry)) room scratch) ⌝ }
+    ensures { λ r. ⌜ r ≡ first (mapRows width height s (now (counts .entry)) room scratch list) ⌝ }
 {
     let tiling = tiling_refusal(width, height, s);
     if tiling != 0 {
         return tiling;
     }
-    let lent = lent_refusal(s, room, scratch, counts.len());
+    let lent = lent_refusal(s, room, scratch, list, counts.len());
     if lent != 0 {
         return lent;
     }
@@ -120,7 +125,7 @@ fn copy_tile(counts: &[u32], each: usize, k: usize, scratch: &mut [u32])
     lists::copy32(&counts[start..end], scratch);
 }
 
-// Makes the mapping of tile k from its counts, in its place in the map buffer.
+// Makes the mapping of tile k from its counts, in its place in the map buffer. The answer is what clipping took.
 fn map_one(
     width: u32,
     height: u32,
@@ -129,9 +134,9 @@ fn map_one(
     counts: &[u32],
     map: &mut [u16],
     scratch: &mut [u32],
-)
+) -> Spent
     requires { ⌜ MapAsks width height s (now counts) k (length (now map)) (length (now scratch)) ⌝ }
-    ensures { λ _. ⌜ OneMapped width height s (now (counts .entry)) k (now (map .entry)) (now (map .exit)) (now (scratch .entry)) (now (scratch .exit)) ⌝ }
+    ensures { λ r. ⌜ OneMapped width height s (now (counts .entry)) k (now (map .entry)) (now (map .exit)) (now (scratch .entry)) (now (scratch .exit)) r ⌝ }
 {
     let pixels = tiles::tile_pixels(width, height, s, k);
     let clip = s.clip;
@@ -146,10 +151,10 @@ fn map_one(
         s.max,
         &mut scratch[..each],
         &mut map[at..behind],
-    );
+    )
 }
 
-// Makes the mappings of all tiles from their counts; the scratch is left zero.
+// Makes the mappings of all tiles from their counts, and lays down what clipping each took; the scratch is left zero.
 fn map_all(
     width: u32,
     height: u32,
@@ -157,14 +162,16 @@ fn map_all(
     counts: &[u32],
     map: &mut [u16],
     scratch: &mut [u32],
+    list: &mut [u64],
 )
-    requires { ⌜ MapsAsk width height s (now counts) (length (now map)) (length (now scratch)) ⌝ }
-    ensures { λ _. ⌜ AllMapped width height s (now (counts .entry)) (now (map .entry)) (now (map .exit)) (now (scratch .entry)) (now (scratch .exit)) ⌝ }
+    requires { ⌜ ListAsks width height s (now counts) (length (now map)) (length (now scratch)) (length (now list)) ⌝ }
+    ensures { λ _. ⌜ AllMapped width height s (now (counts .entry)) (now (map .entry)) (now (map .exit)) (now (scratch .entry)) (now (scratch .exit)) (now (list .entry)) (now (list .exit)) ⌝ }
 {
     let tiles = (s.across * s.down) as usize;
     let mut k = 0;
     while k < tiles {
-        map_one(width, height, s, k, counts, map, scratch);
+        let spent = map_one(width, height, s, k, counts, map, scratch);
+        tiles::put_spent(list, k, spent);
         k += 1;
     }
     let each = settings::bins(s) as usize;
@@ -180,10 +187,19 @@ pub fn map_counts(
     counts: &[u32],
     map: &mut [u16],
     scratch: &mut [u32],
+    list: &mut [u64],
 ) -> Prepared
-    ensures { λ r. ⌜ ending r (now (map .exit)) (now (scratch .exit)) ≡ mapOf film width height s (now (counts .entry)) (now (map .entry)) (now (scratch .entry)) ⌝ }
+    ensures { λ r. ⌜ ending r (now (map .exit)) (now (scratch .exit)) (now (list .exit)) ≡ mapOf film width height s (now (counts .entry)) (now (map .entry)) (now (scratch .entry)) (now (list .entry)) ⌝ }
 {
-    let refused = map_refusal(width, height, s, counts, map.len(), scratch.len());
+    let refused = map_refusal(
+        width,
+        height,
+        s,
+        counts,
+        map.len(),
+        scratch.len(),
+        list.len(),
+    );
     if refused != 0 {
         return prepare::not_prepared(refused);
     }
@@ -197,7 +213,7 @@ pub fn map_counts(
             kept,
         };
     }
-    map_all(width, height, s, counts, map, scratch);
+    map_all(width, height, s, counts, map, scratch, list);
     Prepared {
         answer: Made::Done(foot),
         kept,

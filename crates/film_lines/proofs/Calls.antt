@@ -1,14 +1,13 @@
 -- Laws of the listing of a film: what prepare left, and the text that follows.
 -- Assumes nothing.
-use Prim.Native.Nat.{ℕ, zero, suc, _<_}
+use Prim.Native.Nat.{ℕ, zero, suc, _*_, _≤_, _<_}
 use mathlib.Core.Bool.{cond}
 use mathlib.Core.List.{List}
 use mathlib.Core.Path.{_≡_, refl, sym, ap, _∙_}
 use lib.Dec.{lit<}
 use lib.ListN.{length}
 use native.Mathlib.Omega.{arith}
-use Rattle.lists.specs.Lists.{onto, filled}
-use Rattle.lists.proofs.Fills.{length-filled}
+use Rattle.lists.specs.Lists.{onto}
 use Rattle.lists.proofs.Maps.{onto-whole}
 use Rattle.refuse.specs.Refuse.{first, unless}
 use Rattle.limit.proofs.Laws.{above-not-one}
@@ -18,13 +17,16 @@ use Rattle.settings.specs.Settings.{binsOf}
 use Rattle.prepare.specs.declared.Prepared.{Prepared}
 use Rattle.prepare.specs.declared.Made.the-variants as Made
 use Rattle.prepare.specs.Prepare.{prepareRows, preparedNot, Ended, ending, preparedOf, prepareOf}
-use Rattle.tiles.specs.Tiles.{mappings, footOf, TilesAsk}
-use Rattle.tiles.proofs.Footers.{foot-limit}
 use Rattle.prepare.proofs.Table.{work}
+use Rattle.tiles.specs.Tiles.{mappings, spents, footOf, TilesAsk}
+use Rattle.tiles.proofs.Footers.{foot-limit}
 use Rattle.tiles.proofs.Films.{length-mappings}
+use Rattle.tiles.proofs.Spents.{length-spents}
 use Rattle.lines.specs.Lines.{refusedText}
 use Rattle.lines.specs.Asks.{Told}
-use Rattle.film_lines.specs.FilmText.{two, settingsOf, limitFor}
+use Rattle.film_lines.specs.FilmText.{two, settingsOf, limitFor, filmText}
+use Rattle.film_lines.specs.Asks.{keptText, LinesAsk}
+use Rattle.film_lines.proofs.Tiles.{limit-short, excess-short, looks-short, text-kept}
 use Rattle.film_lines.proofs.Refusals.{prepare-below}
 
 -- ---- texts
@@ -40,25 +42,46 @@ told-none e t = rw e t
 -- ---- what prepare left
 
 module _ (w h m : ℕ) (pic : List ℕ) where
-  -- the number of the rows 1 to 13 and 31, with the listing's buffers
+  -- the number of the rows 1 to 13, 31 and 32, with the listing's buffers
   abbrev pub number : ℕ
-  number = first (prepareRows w h pic (settingsOf m) 16 4)
+  number = first (prepareRows w h pic (settingsOf m) 16 4 8)
 
   -- a film that is not refused
-  pub record Accepted (limit : ℕ) (map scratch : List ℕ) : Type 0 where
+  pub record Accepted (limit : ℕ) (map list : List ℕ) : Type 0 where
     pub none : number ≡ 0
     pub film : TilesAsk w h pic (settingsOf m) 16 4
-    pub bound : limit ≡ limitFor w h m 0
+    pub bound : limit ≡ limitFor w h m
     pub mapped : map ≡ mappings w h pic (settingsOf m)
-    pub counts : length scratch ≡ 4
+    pub listed : list ≡ spents w h pic (settingsOf m)
+
+  -- what its lines ask
+  pub lines-asks : {limit : ℕ} {map list : List ℕ} → Accepted limit map list → w * h ≤ 8192 → (room : ℕ) → 512 ≤ room → LinesAsk w h m limit map list room
+  unfolding binsOf
+  lines-asks {limit} {map} {list} made few room q =
+      record {
+        width = omega (arith, made .film .work .ready .tiled .widest);
+        height = omega (arith, made .film .work .ready .tiled .highest);
+        maxval = omega (arith, made .film .work .ready .tiled .max);
+        limit = omega (arith, made .bound, limit-short w h m (made .film .work .ready .tiled) few);
+        entries = ap length (made .mapped) ∙ length-mappings w h pic (settingsOf m);
+        pairs = ap length (made .listed) ∙ length-spents w h pic (settingsOf m);
+        excess = λ k l. excess-short (made .film) few l (made .listed);
+        looks = λ k l. looks-short (made .film) few l (made .listed);
+        fitting = q;
+      }
+
+  -- and its text
+  pub accepted-told : {limit : ℕ} {map list : List ℕ} → Accepted limit map list → {d out : List ℕ} {r : ℕ} → Told d (keptText w h m limit map list) out r
+      → Told d (unless number refusedText (filmText w h m pic)) out r
+  accepted-told made t = told-none (made .none) (told-as t (text-kept w h m pic (made .bound) (made .mapped) (made .listed)))
 
   -- what the tiles ask, since the factor 2 is above one
   tiles-asks : number ≡ 0 → TilesAsk w h pic (settingsOf m) 16 4
-  tiles-asks z = record { work = work w h pic (settingsOf m) 16 4 z; changes = above-not-one two (refl, lit< tt) }
+  tiles-asks z = record { work = work w h pic (settingsOf m) 16 4 8 z; changes = above-not-one two (refl, lit< tt) }
 
-  module _ (map₀ scratch₀ : List ℕ) {map scratch : List ℕ} (n : length map₀ ≡ 16) (k : length scratch₀ ≡ 4) where
+  module _ (map₀ scratch₀ list₀ : List ℕ) {map scratch list : List ℕ} (n : length map₀ ≡ 16) (k : length scratch₀ ≡ 4) (j : length list₀ ≡ 8) where
     accepted : {p : Prepared} {foot : Footer} → p .answer ≡ Made.Done foot → number ≡ 0
-        → ending p map scratch ≡ preparedOf 0 w h pic (settingsOf m) map₀ scratch₀ → Accepted (foot .limit) map scratch
+        → ending p map scratch list ≡ preparedOf 0 w h pic (settingsOf m) map₀ scratch₀ list₀ → Accepted (foot .limit) map list
     unfolding preparedOf binsOf
     accepted {p} {foot} a z e =
         record {
@@ -66,26 +89,28 @@ module _ (w h m : ℕ) (pic : List ℕ) where
           film = tiles-asks z;
           bound = ap (λ (f : Footer). f .limit) (same (sym a ∙ ap (λ (x : Ended). x .answer .answer) e)) ∙ foot-limit w h (settingsOf m) refl (tiles-asks z .changes);
           mapped = ap (λ (x : Ended). x .map) e ∙ ap (λ b. cond b map₀ (onto map₀ (mappings w h pic (settingsOf m)))) (tiles-asks z .changes) ∙ onto-whole map₀ (mappings w h pic (settingsOf m)) (omega (arith, length-mappings w h pic (settingsOf m)));
-          counts = ap (λ (x : Ended). length (x .scratch)) e ∙ ap (λ b. length (cond b scratch₀ (filled (λ i. 0) scratch₀ 4))) (tiles-asks z .changes) ∙ (length-filled (λ i. 0) scratch₀ 4 (omega arith) ∙ k);
+          listed = ap (λ (x : Ended). x .list) e ∙ ap (λ b. cond b list₀ (onto list₀ (spents w h pic (settingsOf m)))) (tiles-asks z .changes) ∙ onto-whole list₀ (spents w h pic (settingsOf m)) (omega (arith, length-spents w h pic (settingsOf m)));
         }
       where
         same : {f g : Footer} → Made.Done f ≡ Made.Done g → f ≡ g
         same q = cc
 
-    module _ {s : Settings} {p : Prepared} (q : s ≡ settingsOf m) (e : ending p map scratch ≡ prepareOf 0 w h pic s map₀ scratch₀) where
+    module _ {s : Settings} {p : Prepared} (q : s ≡ settingsOf m) (e : ending p map scratch list ≡ prepareOf 0 w h pic s map₀ scratch₀ list₀) where
       -- what is left, by the rows' number
       abbrev Left : ℕ → Type 0
-      Left i = ending p map scratch ≡ unless i (λ r. ending (preparedNot r) map₀ scratch₀) (preparedOf 0 w h pic (settingsOf m) map₀ scratch₀)
+      Left i =
+          ending p map scratch list
+          ≡ unless i (λ r. ending (preparedNot r) map₀ scratch₀ list₀) (preparedOf 0 w h pic (settingsOf m) map₀ scratch₀ list₀)
 
       left : Left number
       unfolding prepareOf
-      left = rw (q, n, k) at e
+      left = rw (q, n, k, j) at e
 
       -- the answer is a footer: no row applied
-      pub prepared-done : {foot : Footer} → p .answer ≡ Made.Done foot → Accepted (foot .limit) map scratch
+      pub prepared-done : {foot : Footer} → p .answer ≡ Made.Done foot → Accepted (foot .limit) map list
       prepared-done {foot} a = go number refl left
         where
-          go : (i : ℕ) → number ≡ i → Left i → Accepted (foot .limit) map scratch
+          go : (i : ℕ) → number ≡ i → Left i → Accepted (foot .limit) map list
           go zero z f = accepted a z f
           go (suc i) z f =
               let b : p .answer ≡ Made.Refused (suc i) = ap (λ (x : Ended). x .answer .answer) f in
@@ -103,4 +128,4 @@ module _ (w h m : ℕ) (pic : List ℕ) where
           go (suc i) z f =
               let b : p .answer ≡ Made.Refused (suc i) = ap (λ (x : Ended). x .answer .answer) f in
               let d : r ≡ suc i = cc in
-              (omega (arith, prepare-below w h pic (settingsOf m) 16 4), λ text. rw (z, d) refl)
+              (omega (arith, prepare-below w h pic (settingsOf m) 16 4 8), λ text. rw (z, d) refl)

@@ -1,4 +1,4 @@
-pub mod Tiles
 pub mod Films
+pub mod Tiles
 pub mod Refusals
 pub mod Calls

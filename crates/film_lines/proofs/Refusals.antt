@@ -15,8 +15,8 @@ use Rattle.prepare.specs.Prepare.{prepareRows}
 use Rattle.prepare.proofs.Table.{table-numbers}
 
 -- a refusal of prepare
-pub prepare-below : (w h : ℕ) (pic : List ℕ) (s : Settings) (room scratch : ℕ) → first (prepareRows w h pic s room scratch) < 100
+pub prepare-below : (w h : ℕ) (pic : List ℕ) (s : Settings) (room scratch list : ℕ) → first (prepareRows w h pic s room scratch list) < 100
 unfolding all
-prepare-below w h pic s room scratch =
+prepare-below w h pic s room scratch list =
     ltb-true _ 100
-    (each-first (λ n. ltb n 100) (prepareRows w h pic s room scratch) refl (rw (table-numbers w h pic s room scratch, shared-numbers w h (length pic) s room) refl))
+    (each-first (λ n. ltb n 100) (prepareRows w h pic s room scratch list) refl (rw (table-numbers w h pic s room scratch list, shared-numbers w h (length pic) s room) refl))

@@ -7,10 +7,8 @@ use lib.IntN.{pos}
 use lib.Ieee.{Float, fin}
 use Rattle.limit.specs.declared.Clip.the-variants.{Factor}
 use Rattle.limit.specs.Limit.{limitOf}
-use Rattle.clip.specs.Clip.{excess}
-use Rattle.tally.specs.Tally.{greysOf, countsOf}
 use Rattle.settings.specs.declared.Settings.{Settings}
-use Rattle.tiles.specs.Tiles.{tileOf, pixelsIn, tileMap}
+use Rattle.tiles.specs.Tiles.{pixelsIn, tileMap, spentIn}
 use Rattle.lines.specs.Lines.{line}
 
 -- "factor 2", as a float
@@ -21,22 +19,19 @@ two = fin false 1 (pos 1)
 abbrev pub settingsOf : ℕ → Settings
 settingsOf maxval = record { across = 2; down = 2; bins = 4; min = 0; max = maxval; clip = Factor two }
 
--- "N and L are each tile's own": the limit of tile k
-abbrev pub limitFor : ℕ → ℕ → ℕ → ℕ → ℕ
-limitFor w h maxval k = limitOf two (pixelsIn w h (settingsOf maxval) k) 4
+-- the limit of tile 0, 0
+abbrev pub limitFor : ℕ → ℕ → ℕ → ℕ
+limitFor w h maxval = limitOf two (pixelsIn w h (settingsOf maxval) 0) 4
 
 -- "First line: width, height, grid across, grid down, bins, Min, Max, L.", that of tile 0, 0 as in the footer
 unfoldable pub firstLine : ℕ → ℕ → ℕ → List ℕ
-firstLine w h maxval = line (w ∷ h ∷ 2 ∷ 2 ∷ 4 ∷ 0 ∷ maxval ∷ limitFor w h maxval 0 ∷ [])
+firstLine w h maxval = line (w ∷ h ∷ 2 ∷ 2 ∷ 4 ∷ 0 ∷ maxval ∷ limitFor w h maxval ∷ [])
 
--- "Excess E is the sum over bins of what stands above L": that of tile k, over its own L
-unfoldable pub excessFor : ℕ → ℕ → ℕ → List ℕ → ℕ → ℕ
-excessFor w h maxval pic k =
-    excess (limitFor w h maxval k) (countsOf 0 maxval 4 (greysOf pic w (tileOf w h (settingsOf maxval) k)))
-
--- "Then a line per tile: row, column, E, the mapping."
+-- "Then a line per tile: row, column, E, the mapping."; order 7, the looks: "The listing gets it as a new field after E."
 unfoldable pub tileLine : ℕ → ℕ → ℕ → List ℕ → ℕ → List ℕ
-tileLine w h maxval pic k = line (k / 2 ∷ k % 2 ∷ excessFor w h maxval pic k ∷ tileMap w h pic (settingsOf maxval) k)
+tileLine w h maxval pic k =
+    let p = spentIn w h pic (settingsOf maxval) k in
+    line (k / 2 ∷ k % 2 ∷ p .excess ∷ p .looks ∷ tileMap w h pic (settingsOf maxval) k)
 
 -- the first line, "Then a line per tile": the four of them row by row
 unfoldable pub filmText : ℕ → ℕ → ℕ → List ℕ → List ℕ

@@ -7,7 +7,7 @@ use lib.Dec.{eqb, ltb, leb}
 use lib.Ieee.{Float, nan, binary32, binary64, ofBits, toBits}
 use lib.ListN.{getD, set, length, replicate}
 use Rattle.text.specs.declared.Text.{Text}
-use Rattle.text.specs.Text.{run, blankText, fieldOf, fieldsOf, hexFieldOf, startOf, endOf, lineOf}
+use Rattle.text.specs.Text.{run, blankText, fieldOf, fieldsOf, hexFieldOf, startOf, endOf, lineOf, smallOf}
 use Rattle.limit.specs.declared.Clip.{Clip}
 use Rattle.limit.specs.declared.Clip.the-variants.{Off, Factor}
 use Rattle.grid.specs.declared.Axis.{Axis}
@@ -26,6 +26,7 @@ use Rattle.filmset.specs.declared.row.Line.{Line}
 use Rattle.filmset.specs.declared.kept.Ten.{Ten}
 use Rattle.filmset.specs.declared.kept.Kept.{Kept}
 use Rattle.filmset.specs.declared.axes.Axes.{Axes}
+use Rattle.filmset.specs.declared.film.Left.{Left}
 use Rattle.filmset.specs.declared.film.Shot.{Shot}
 use Rattle.filmset.specs.declared.file.Found.{Found}
 use Rattle.filmset.specs.declared.file.Laid.{Laid}
@@ -222,6 +223,14 @@ abbrev pub keptEnhanced : Ten → Enhanced → Kept
 keptEnhanced t (enhanced.Done foot) = keptMade 0 t
 keptEnhanced t (enhanced.Refused n) = keptMade n t
 
+-- what prepare left, with its list's digest and "`x`, no, the list (small)"
+abbrev pub leftOf : ℕ → Kept → List ℕ → Left
+leftOf n k s = record { kept = k; list = digestOf s; line = smallOf 120 n s }
+
+-- what enhance left, which has no list
+abbrev pub leftAlone : Kept → Left
+leftAlone k = record { kept = k; list = 0; line = blankText }
+
 -- the map record that is kept
 unfoldable pub recordOf : Kept → MapRecord
 recordOf k =
@@ -326,3 +335,7 @@ fillOf base first pace span i = (base + restOf ((i % 4294967296 * (pace % 429496
 -- entry i of a scratch before a call
 unfoldable pub scratchOf : ℕ → ℕ
 scratchOf i = i % 1000 * 5 % 1000 + 1
+
+-- entry i of a list before a call: "1099511627776 + (i mod 1000)"
+unfoldable pub listOf : ℕ → ℕ
+listOf i = 1099511627776 + i % 1000

@@ -57,3 +57,15 @@ pub fn bytes(entries: &[u8]) -> u64
     }
     taken(h, entries.len() as u64)
 }
+
+pub fn longs(entries: &[u64]) -> u64
+    ensures { λ r. ⌜ r ≡ digestOf (now (entries .entry)) ⌝ }
+{
+    let mut h = 7;
+    let mut i = 0;
+    while i < entries.len() {
+        h = taken(h, entries[i]);
+        i += 1;
+    }
+    taken(h, entries.len() as u64)
+}

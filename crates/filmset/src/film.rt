@@ -1,7 +1,7 @@
 // The films and the draws: prepare, draw and enhance.
 ghost use mathlib.Core.Path.{_≡_};
 ghost use lib.ListN.{length};
-ghost use Rattle.filmset.specs.Filmset.{digestOf, isFilm, ownOf, windowOf, drawnNumber, placeOf, handedOf, joinedOf, sameLine};
+ghost use Rattle.filmset.specs.Filmset.{digestOf, isFilm, ownOf, windowOf, drawnNumber, placeOf, handedOf, joinedOf, sameLine, leftOf, leftAlone};
 use crate::axes;
 use crate::axes::Axes;
 use crate::column;
@@ -40,6 +40,13 @@ pub struct Made {
     pub map: [u16; 65536],
 }
 
+// What a call left besides picture, map and scratch: the answer with the record for draw, and of prepare's list the digest and the line.
+pub struct Left {
+    pub kept: Kept,
+    pub list: u64,
+    pub line: Text,
+}
+
 // What came of a row: 0 where each call accepted, and the digest of the rendered pixels.
 pub struct Shot {
     pub number: u32,
@@ -74,6 +81,28 @@ pub fn window(drawn: Row) -> Window
     }
 }
 
+// What prepare left, with its list.
+pub fn listed(no: u64, kept: Kept, list: &[u64]) -> Left
+    ensures { λ r. ⌜ r ≡ leftOf no kept (now (list .entry)) ⌝ }
+{
+    Left {
+        kept,
+        list: digest::longs(list),
+        line: text::small_longs(b'x', no, list),
+    }
+}
+
+// What enhance left, which has no list.
+pub fn unlisted(kept: Kept) -> Left
+    ensures { λ r. ⌜ r ≡ leftAlone kept ⌝ }
+{
+    Left {
+        kept,
+        list: 0,
+        line: text::blank(),
+    }
+}
+
 // Calls prepare for C. A refusal leaves the made record where it was.
 fn prepare_c(
     letter: u8,
@@ -82,6 +111,7 @@ fn prepare_c(
     picture: &[u16],
     map: &mut [u16],
     scratch: &mut [u32],
+    list: &mut [u64],
 ) -> Kept {
     let mut numbers = kept::nine(t);
     let mut factor = t.factor;
@@ -118,6 +148,7 @@ fn prepare_c(
         &mut column_centres,
         &mut row_edges,
         &mut row_centres,
+        list,
     );
     let left = Axes {
         columns: Axis {
@@ -150,15 +181,32 @@ fn prepare_by(
     picture: &[u16],
     map: &mut [u16],
     scratch: &mut [u32],
+    list: &mut [u64],
 ) -> Kept {
     let no = at(row, column::NO);
     let t = kept::made(row);
     if by_c {
-        return prepare_c(letter, no, t, picture, map, scratch);
+        return prepare_c(letter, no, t, picture, map, scratch, list);
     }
     let s = kept::settings(t);
-    let answer = prepare::prepare(t.film, t.width, t.height, picture, s, map, scratch);
+    let answer = prepare::prepare(t.film, t.width, t.height, picture, s, map, scratch, list);
     kept::of_prepared(letter, no, t, answer)
+}
+
+// Makes the list and calls prepare, and prints its answer under the letter.
+fn prepare_listed(
+    by_c: bool,
+    letter: u8,
+    row: Row,
+    picture: &[u16],
+    map: &mut [u16],
+    scratch: &mut [u32],
+) -> Left {
+    let mut list = made::list();
+    let n = fitting(at(row, column::LIST_ROOM), 600);
+    let l = &mut list[0..n];
+    let kept = prepare_by(by_c, letter, row, picture, map, scratch, l);
+    listed(at(row, column::NO), kept, &l[..])
 }
 
 // Calls enhance for C.
@@ -214,15 +262,24 @@ fn call_by(
     picture: &mut [u16],
     map: &mut [u16],
     scratch: &mut [u32],
-) -> Kept {
+) -> Left {
     if letter == b'E' {
-        return enhance_by(by_c, row, picture, map, scratch);
+        return unlisted(enhance_by(by_c, row, picture, map, scratch));
     }
-    prepare_by(by_c, letter, row, &picture[..], map, scratch)
+    prepare_listed(by_c, letter, row, &picture[..], map, scratch)
 }
 
-// The digests of picture, map and scratch behind a call, and what it wrote; nothing under the letter 0. Answers the picture's.
-fn called_lines(letter: u8, no: u64, picture: &[u16], map: &[u16], scratch: &[u32]) -> u64
+// The digests of picture, map and scratch behind a call, behind prepare also that of its list, and what it wrote; nothing under the
+// letter 0. Answers the picture's.
+fn called_lines(
+    letter: u8,
+    no: u64,
+    list: u64,
+    line: Text,
+    picture: &[u16],
+    map: &[u16],
+    scratch: &[u32],
+) -> u64
     ensures { λ r. ⌜ r ≡ digestOf (now (picture .entry)) ⌝ }
 {
     let digest = digest::greys(picture);
@@ -231,12 +288,14 @@ fn called_lines(letter: u8, no: u64, picture: &[u16], map: &[u16], scratch: &[u3
     }
     let b = digest::greys(map);
     let c = digest::words(scratch);
-    text::print(text::three(letter % 128 + 32, no, digest, b, c));
     if letter == b'E' {
+        text::print(text::three(b'e', no, digest, b, c));
         text::print(text::small(b'i', no, picture));
         return digest;
     }
+    text::print(text::four(b'p', no, digest, b, c, list));
     text::print(text::small(b'm', no, map));
+    text::print(line);
     digest
 }
 
@@ -251,8 +310,18 @@ pub fn called(by_c: bool, letter: u8, row: Row, picture: &mut [u16]) -> Made
     let mut scratch = made::scratch();
     let k = fitting(at(row, column::SCRATCH_ROOM), 4200);
     let s = &mut scratch[0..k];
-    let kept = call_by(by_c, letter, row, picture, m, s);
-    let digest = called_lines(letter, at(row, column::NO), &picture[..], &m[..], &s[..]);
+    let left = call_by(by_c, letter, row, picture, m, s);
+    let line = left.line;
+    let digest = called_lines(
+        letter,
+        at(row, column::NO),
+        left.list,
+        line,
+        &picture[..],
+        &m[..],
+        &s[..],
+    );
+    let kept = left.kept;
     Made { kept, digest, map }
 }
 

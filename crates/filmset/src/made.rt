@@ -3,7 +3,7 @@ ghost use mathlib.Core.Path.{_≡_};
 ghost use Prim.Native.Nat.{_%_};
 ghost use lib.ListN.{getD, set, length};
 ghost use Rattle.lists.specs.Lists.{tab};
-ghost use Rattle.filmset.specs.Filmset.{fillOf, scratchOf};
+ghost use Rattle.filmset.specs.Filmset.{fillOf, scratchOf, listOf};
 use crate::column;
 use crate::whole::Row;
 use crate::whole::at;
@@ -190,6 +190,19 @@ pub fn scratch() -> [u32; 4200]
     let mut i = 0;
     while i < 4200 {
         entries[i] = (i % 1000 * 5 % 1000 + 1) as u32;
+        i += 1;
+    }
+    entries
+}
+
+// A list of the longest length before a call: its entries are more than 32 bits hold.
+pub fn list() -> [u64; 600]
+    ensures { λ r. ⌜ r ≡ tab 600 listOf ⌝ }
+{
+    let mut entries = [0u64; 600];
+    let mut i = 0;
+    while i < 600 {
+        entries[i] = 1099511627776 + (i % 1000) as u64;
         i += 1;
     }
     entries

@@ -55,8 +55,8 @@ unfolding preparedSays
 prepared-refused p old q = rw q (refl, refl)
 
 -- so what prepare leaves and what was handed out are what the call for C leaves
-pub prepared-handed : {p : Prepared} {m t : List ℕ} (e : Ended) (old : Cells) {n : ℕ} {cells : Cells} → ending p m t ≡ e
-    → (n ≡ returned (preparedSays p)) × (cells ≡ cellsAfter (preparedSays p) old) → preparedAs n m t cells ≡ flatPrepared e old
+pub prepared-handed : {p : Prepared} {m t list : List ℕ} (e : Ended) (old : Cells) {n : ℕ} {cells : Cells} → ending p m t list ≡ e
+    → (n ≡ returned (preparedSays p)) × (cells ≡ cellsAfter (preparedSays p) old) → preparedAs n m t list cells ≡ flatPrepared e old
 unfolding flatPrepared
 prepared-handed e old q h = rw (← q, h .0, h .1) refl
 

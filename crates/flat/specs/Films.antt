@@ -43,20 +43,21 @@ abbrev pub cellsAfter : Says (MapRecord × Footer) → Cells → Cells
 cellsAfter (accepted v) cells = celled (recordNumbers (v .0)) (clipFactor (v .0 .settings .clip)) (axesAfter (v .0)) (footAfter (v .1))
 cellsAfter (refused n) cells = cells
 
--- what tz_prepare leaves: its number, the map buffer, the scratch and the cells
+-- what tz_prepare leaves: its number, the map buffer, the scratch, the list and the cells
 pub record FlatPrepared : Type 0 where
   pub number : ℕ
   pub map : List ℕ
   pub scratch : List ℕ
+  pub list : List ℕ
   pub cells : Cells
 
--- a number, two buffers and the cells as one
-abbrev pub preparedAs : ℕ → List ℕ → List ℕ → Cells → FlatPrepared
-preparedAs n m t cells = record { number = n; map = m; scratch = t; cells = cells }
+-- a number, three buffers and the cells as one
+abbrev pub preparedAs : ℕ → List ℕ → List ℕ → List ℕ → Cells → FlatPrepared
+preparedAs n m t list cells = record { number = n; map = m; scratch = t; list = list; cells = cells }
 
 -- from what prepare leaves, and what the cells held before
 unfoldable pub flatPrepared : Ended → Cells → FlatPrepared
-flatPrepared e cells = preparedAs (returned (preparedSays (e .answer))) (e .map) (e .scratch) (cellsAfter (preparedSays (e .answer)) cells)
+flatPrepared e cells = preparedAs (returned (preparedSays (e .answer))) (e .map) (e .scratch) (e .list) (cellsAfter (preparedSays (e .answer)) cells)
 
 -- ---- tz_enhance
 

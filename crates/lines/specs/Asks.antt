@@ -28,13 +28,14 @@ pub record LineAsks (at : ℕ) (numbers : List ℕ) (room : ℕ) : Type 0 where
   pub small : all short numbers ≡ true
   pub fitting : at + 6 * length numbers ≤ room
 
--- the fields of a tile's line: row, column, E and the mapping, which stands in the map buffer's k-th four entries
-abbrev pub tileFields : ℕ → ℕ → List ℕ → List ℕ
-tileFields k e m = k / 2 ∷ k % 2 ∷ e ∷ getD m (k * 4) 0 ∷ getD m (k * 4 + 1) 0 ∷ getD m (k * 4 + 2) 0 ∷ getD m (k * 4 + 3) 0 ∷ []
+-- the fields of a tile's line: row, column, E, the looks and the mapping, which stands in the map buffer's k-th four entries
+abbrev pub tileFields : ℕ → ℕ → ℕ → List ℕ → List ℕ
+tileFields k e n m = k / 2 ∷ k % 2 ∷ e ∷ n ∷ getD m (k * 4) 0 ∷ getD m (k * 4 + 1) 0 ∷ getD m (k * 4 + 2) 0 ∷ getD m (k * 4 + 3) 0 ∷ []
 
--- what `tile_line` asks: one of the four tiles, its excess, a map of four mappings, and room
-pub record TileLineAsks (at k e : ℕ) (map : List ℕ) (room : ℕ) : Type 0 where
+-- what `tile_line` asks: one of the four tiles, its excess and looks, a map of four mappings, and room
+pub record TileLineAsks (at k e n : ℕ) (map : List ℕ) (room : ℕ) : Type 0 where
   pub tile : k < 4
   pub excess : e < 100000
+  pub looks : n < 100000
   pub entries : length map ≡ 16
-  pub fitting : at + 42 ≤ room
+  pub fitting : at + 48 ≤ room

@@ -29,16 +29,17 @@ pub fn first_line(out: &mut [u8], width: u32, height: u32, maxval: u32, limit: u
     write_line(out, 0, &numbers)
 }
 
-// The line of tile k: row, column, E and the mapping.
-pub fn tile_line(out: &mut [u8], at: usize, k: usize, excess: u32, map: &[u16]) -> usize
-    requires { ⌜ TileLineAsks at k excess (now map) (length (now out)) ⌝ }
-    ensures { λ r. ⌜ Laid (now (out .entry)) at (line (tileFields k excess (now (map .entry)))) (now (out .exit)) r ⌝ }
+// The line of tile k: row, column, E, the looks of the leftover walk, and the mapping.
+pub fn tile_line(out: &mut [u8], at: usize, k: usize, excess: u32, looks: u32, map: &[u16]) -> usize
+    requires { ⌜ TileLineAsks at k excess looks (now map) (length (now out)) ⌝ }
+    ensures { λ r. ⌜ Laid (now (out .entry)) at (line (tileFields k excess looks (now (map .entry)))) (now (out .exit)) r ⌝ }
 {
     let a = k * 4;
     let numbers = [
         (k / 2) as u32,
         (k % 2) as u32,
         excess,
+        looks,
         map[a] as u32,
         map[a + 1] as u32,
         map[a + 2] as u32,

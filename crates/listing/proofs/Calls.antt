@@ -38,7 +38,7 @@ use Rattle.lines.specs.Lines.{refusedText}
 use Rattle.lines.specs.Asks.{Told}
 use Rattle.lines.proofs.Lines.{length-refused}
 use Rattle.film_lines.specs.FilmText.{settingsOf, filmText}
-use Rattle.film_lines.proofs.Films.{length-film}
+use Rattle.film_lines.proofs.Tiles.{length-film}
 use Rattle.listing.specs.Listing.{isLarger, pictureText, readText, listingOf, textRows, listOf, laidOf}
 use Rattle.listing.specs.Asks.{ListAsks}
 
@@ -119,7 +119,7 @@ module _ (raster : List ℕ) (w h m room : ℕ) (asks : ListAsks raster w h m ro
 
 -- the text of a film none of whose samples is above maxval
 pub picture-listed : (w h m : ℕ) {pic film d out : List ℕ} {r : ℕ} → film ≡ pic → noneAbove m pic ≡ true
-    → Told d (unless (first (prepareRows w h film (settingsOf m) 16 4)) refusedText (filmText w h m film)) out r → Told d (pictureText w h m pic) out r
+    → Told d (unless (first (prepareRows w h film (settingsOf m) 16 4 8)) refusedText (filmText w h m film)) out r → Told d (pictureText w h m pic) out r
 picture-listed w h m {pic} {film} f e t = rw e (rw f at t)
 
 -- the text of one that has such a sample
@@ -204,22 +204,22 @@ module _ (s : List ℕ) where
 
 -- ---- how long the text is
 
-length-unless : (n : ℕ) (text : List ℕ) → length text ≤ 216 → length (unless n refusedText text) ≤ 216
+length-unless : (n : ℕ) (text : List ℕ) → length text ≤ 240 → length (unless n refusedText text) ≤ 240
 length-unless zero text l = l
 length-unless (suc n) text l = omega (arith, length-refused (suc n))
 
-length-pick : (b : Bool) (s t : List ℕ) → length s ≤ 216 → length t ≤ 216 → length (cond b s t) ≤ 216
+length-pick : (b : Bool) (s t : List ℕ) → length s ≤ 240 → length t ≤ 240 → length (cond b s t) ≤ 240
 length-pick true s t l k = l
 length-pick false s t l k = k
 
-length-read : (x : Head) (s : List ℕ) → length (readText x s) ≤ 216
+length-read : (x : Head) (s : List ℕ) → length (readText x s) ≤ 240
 length-read (Head.Found w h m at) s =
     let pic = unpacked (isWide m) (drop at s) (w * h) in
-    length-pick (noneAbove m pic) _ (refusedText 26) (length-unless (first (prepareRows w h pic (settingsOf m) 16 4)) (filmText w h m pic) (length-film w h m pic)) (omega (arith, length-refused 26))
+    length-pick (noneAbove m pic) _ (refusedText 26) (length-unless (first (prepareRows w h pic (settingsOf m) 16 4 8)) (filmText w h m pic) (length-film w h m pic)) (omega (arith, length-refused 26))
 length-read (Head.Refused n) s = omega (arith, length-refused n)
 
--- at most 216 bytes are printed, whatever is read
-pub length-listing : (s : List ℕ) → length (listingOf s) ≤ 216
+-- at most 240 bytes are printed, whatever is read
+pub length-listing : (s : List ℕ) → length (listingOf s) ≤ 240
 unfolding listingOf
 length-listing s =
     length-pick (ltb 32768 (length s)) (refusedText 22) _ (omega (arith, length-refused 22))

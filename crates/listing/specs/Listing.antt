@@ -27,7 +27,7 @@ isLarger (Refused n) = false
 abbrev pub pictureText : ℕ → ℕ → ℕ → List ℕ → List ℕ
 pictureText w h maxval pic =
     cond (noneAbove maxval pic)
-    (unless (first (prepareRows w h pic (settingsOf maxval) 16 4)) refusedText (filmText w h maxval pic))
+    (unless (first (prepareRows w h pic (settingsOf maxval) 16 4 8)) refusedText (filmText w h maxval pic))
     (refusedText 26)
 
 -- "reads a PGM": of a file that read accepts its film's text, else read's own refusal

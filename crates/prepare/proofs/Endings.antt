@@ -1,4 +1,4 @@
--- How prepare ends: refused, with the factor 1.0, or with the mappings laid down.
+-- How prepare ends: refused, with the factor 1.0, or with the mappings and the list laid down.
 -- Assumes nothing.
 use Prim.Native.Nat.{ℕ, zero, suc}
 use mathlib.Core.Bool.{Bool, true, false, cond}
@@ -12,18 +12,18 @@ use Rattle.settings.specs.declared.Settings.{Settings}
 use Rattle.settings.specs.declared.Footer.{Footer}
 use Rattle.settings.specs.declared.MapRecord.{MapRecord}
 use Rattle.settings.specs.Settings.{binsOf, recordOf, clipOne, Tiled}
-use Rattle.tiles.specs.Tiles.{mappings, footOf, FilmAsks, Work, TilesAsk, TilesDone}
+use Rattle.tiles.specs.Tiles.{mappings, spents, footOf, FilmAsks, Work, ListAsks, TilesDone}
 use Rattle.tiles.proofs.Footers.{film-asks}
 use Rattle.prepare.specs.declared.Prepared.{Prepared}
 use Rattle.prepare.specs.Prepare.{preparedWith, preparedNot, prepareRows, Ended, ending, preparedOf, prepareOf}
-use Rattle.prepare.proofs.Table.{work}
+use Rattle.prepare.proofs.Table.{work, table-listed}
 
 -- ---- what the work asks, once none of the rows applies
 
-module _ (w h : ℕ) (pic : List ℕ) (s : Settings) (room scratch : ℕ) {r : ℕ} (e : r ≡ first (prepareRows w h pic s room scratch)) (z : r ≡ 0) where
+module _ (w h : ℕ) (pic : List ℕ) (s : Settings) (room scratch list : ℕ) {r : ℕ} (e : r ≡ first (prepareRows w h pic s room scratch list)) (z : r ≡ 0) where
   -- the whole of it
   pub asks-work : Work w h pic s room scratch
-  asks-work = work w h pic s room scratch (sym e ∙ z)
+  asks-work = work w h pic s room scratch list (sym e ∙ z)
 
   -- the record
   pub asks-record : Tiled w h s
@@ -34,57 +34,59 @@ module _ (w h : ℕ) (pic : List ℕ) (s : Settings) (room scratch : ℕ) {r : �
   asks-foot = film-asks (asks-work .ready)
 
   -- the tiles
-  pub asks-tiles : {o : Bool} → o ≡ clipOne (s .clip) → o ≡ false → TilesAsk w h pic s room scratch
-  asks-tiles q f = record { work = asks-work; changes = sym q ∙ f }
+  pub asks-tiles : {o : Bool} → o ≡ clipOne (s .clip) → o ≡ false → ListAsks w h pic s room scratch list
+  asks-tiles q f = record { film = record { work = asks-work; changes = sym q ∙ f }; pairs = table-listed w h pic s room scratch list (sym e ∙ z) }
 
 -- ---- the endings
 
-module _ (film w h : ℕ) (pic : List ℕ) (s : Settings) (m t : List ℕ) where
+module _ (film w h : ℕ) (pic : List ℕ) (s : Settings) (m t n : List ℕ) where
   -- a refusal, as it was worked out
-  pub ends-refused : {r : ℕ} → r ≡ first (prepareRows w h pic s (length m) (length t)) → (r ≡ 0 → ⊥)
-      → ending (preparedNot r) m t ≡ prepareOf film w h pic s m t
+  pub ends-refused : {r : ℕ} → r ≡ first (prepareRows w h pic s (length m) (length t) (length n)) → (r ≡ 0 → ⊥)
+      → ending (preparedNot r) m t n ≡ prepareOf film w h pic s m t n
   unfolding prepareOf
   ends-refused {r} e z =
-      unless-refused r (λ n. ending (preparedNot n) m t) (preparedOf film w h pic s m t) z
-      ∙ ap (λ k. unless k (λ n. ending (preparedNot n) m t) (preparedOf film w h pic s m t)) e
+      unless-refused r (λ k. ending (preparedNot k) m t n) (preparedOf film w h pic s m t n) z
+      ∙ ap (λ i. unless i (λ k. ending (preparedNot k) m t n) (preparedOf film w h pic s m t n)) e
 
   -- the same of the answer that `not_prepared` gives
-  pub ends-not : {r : ℕ} {p : Prepared} → r ≡ first (prepareRows w h pic s (length m) (length t)) → (r ≡ 0 → ⊥) → p ≡ preparedNot r
-      → ending p m t ≡ prepareOf film w h pic s m t
-  ends-not e z q = ap (λ p. ending p m t) q ∙ ends-refused e z
+  pub ends-not : {r : ℕ} {p : Prepared} → r ≡ first (prepareRows w h pic s (length m) (length t) (length n)) → (r ≡ 0 → ⊥) → p ≡ preparedNot r
+      → ending p m t n ≡ prepareOf film w h pic s m t n
+  ends-not e z q = ap (λ p. ending p m t n) q ∙ ends-refused e z
 
   -- no refusal
-  pub ends-done : {r : ℕ} → r ≡ first (prepareRows w h pic s (length m) (length t)) → r ≡ 0 → preparedOf film w h pic s m t ≡ prepareOf film w h pic s m t
+  pub ends-done : {r : ℕ} → r ≡ first (prepareRows w h pic s (length m) (length t) (length n)) → r ≡ 0
+      → preparedOf film w h pic s m t n ≡ prepareOf film w h pic s m t n
   unfolding prepareOf
-  ends-done {r} e z = ap (λ k. unless k (λ n. ending (preparedNot n) m t) (preparedOf film w h pic s m t)) (sym z ∙ e)
+  ends-done {r} e z = ap (λ i. unless i (λ k. ending (preparedNot k) m t n) (preparedOf film w h pic s m t n)) (sym z ∙ e)
 
-  -- what it leaves then, from the mappings however they were made
-  pub prepared-as : {maps : List ℕ} → maps ≡ mappings w h pic s
+  -- what it leaves then, from the mappings and the list's entries however they were made
+  pub prepared-as : {maps pairs : List ℕ} → maps ≡ mappings w h pic s → pairs ≡ spents w h pic s
       → _≡_ {A = Ended}
       record {
         answer = preparedWith (recordOf film w h s) (footOf w h s);
         map = cond (clipOne (s .clip)) m (onto m maps);
         scratch = cond (clipOne (s .clip)) t (filled (λ k. 0) t (binsOf s));
+        list = cond (clipOne (s .clip)) n (onto n pairs);
       }
-      (preparedOf film w h pic s m t)
+      (preparedOf film w h pic s m t n)
   unfolding preparedOf
-  prepared-as e = rw e refl
+  prepared-as e q = rw (e, q) refl
 
-  -- at the factor 1.0 the buffers stay
-  pub ends-one : {r : ℕ} {kept : MapRecord} {foot : Footer} {o : Bool} → r ≡ first (prepareRows w h pic s (length m) (length t)) → r ≡ 0
+  -- at the factor 1.0 the buffers and the list stay
+  pub ends-one : {r : ℕ} {kept : MapRecord} {foot : Footer} {o : Bool} → r ≡ first (prepareRows w h pic s (length m) (length t) (length n)) → r ≡ 0
       → foot ≡ footOf w h s → kept ≡ recordOf film w h s → o ≡ clipOne (s .clip) → o ≡ true
-      → ending (preparedWith kept foot) m t ≡ prepareOf film w h pic s m t
+      → ending (preparedWith kept foot) m t n ≡ prepareOf film w h pic s m t n
   unfolding preparedOf
   ends-one e z f k c y =
       let one : clipOne (s .clip) ≡ true = sym c ∙ y in
       rw (f, k, one) refl ∙ ends-done e z
 
-  -- else the mappings are laid down and the scratch is zero
-  pub ends-well : {r : ℕ} {kept : MapRecord} {foot : Footer} {o : Bool} {m′ t′ : List ℕ} → r ≡ first (prepareRows w h pic s (length m) (length t)) → r ≡ 0
+  -- else the mappings and the list's entries are laid down and the scratch is zero
+  pub ends-well : {r : ℕ} {kept : MapRecord} {foot : Footer} {o : Bool} {m′ t′ n′ : List ℕ} → r ≡ first (prepareRows w h pic s (length m) (length t) (length n)) → r ≡ 0
       → foot ≡ footOf w h s → kept ≡ recordOf film w h s → o ≡ clipOne (s .clip) → o ≡ false
-      → TilesDone w h pic s m m′ t t′
-      → ending (preparedWith kept foot) m′ t′ ≡ prepareOf film w h pic s m t
+      → TilesDone w h pic s m m′ t t′ n n′
+      → ending (preparedWith kept foot) m′ t′ n′ ≡ prepareOf film w h pic s m t n
   unfolding preparedOf
   ends-well e z f k c y done =
       let one : clipOne (s .clip) ≡ false = sym c ∙ y in
-      rw (f, k, done .map, done .scratch, one) refl ∙ ends-done e z
+      rw (f, k, done .map, done .scratch, done .list, one) refl ∙ ends-done e z

@@ -21,8 +21,8 @@ use Rattle.render.proofs.Laws.{render-front, ready-mapped}
 use Rattle.tiles.specs.Tiles.{mappings, footOf, Work, TilesAsk, TilesDone}
 use Rattle.tiles.proofs.Films.{length-mappings, mappings-within}
 use Rattle.prepare.specs.declared.Enhanced.the-variants as Enhanced
-use Rattle.prepare.specs.Prepare.{prepareRows, Over, overing, enhancedOf, enhanceOf}
-use Rattle.prepare.proofs.Endings.{asks-tiles}
+use Rattle.prepare.specs.Prepare.{enhanceRows, Over, overing, enhancedOf, enhanceOf}
+use Rattle.prepare.proofs.Table.{over-work}
 
 -- ---- what rendering asks, once the mappings are laid down
 
@@ -53,7 +53,7 @@ module _ (m : List ℕ) {w h : ℕ} {pic : List ℕ} {s : Settings} {scratch : �
       all-taken = take-all (entriesOf s) (mappings w h pic s) (omega (arith, length-mappings w h pic s))
 
 -- what `render` asks
-pub asks-render : {w h : ℕ} {pic : List ℕ} {s : Settings} {m t n u : List ℕ} → TilesAsk w h pic s (length m) (length t) → TilesDone w h pic s m n t u
+pub asks-render : {w h : ℕ} {pic : List ℕ} {s : Settings} {m t n u l l′ : List ℕ} → TilesAsk w h pic s (length m) (length t) → TilesDone w h pic s m n t u l l′
     → Mapped w h s n × Shown w h s (whole w h) pic
 asks-render {m = m} asks done = (laid-mapped m asks (done .map), whole-shown (asks .work))
 
@@ -61,7 +61,7 @@ asks-render {m = m} asks done = (laid-mapped m asks (done .map), whole-shown (as
 
 module _ (w h : ℕ) (pic : List ℕ) (s : Settings) (m t : List ℕ) where
   -- a refusal, as it was worked out
-  pub over-refused : {r : ℕ} → r ≡ first (prepareRows w h pic s (length m) (length t)) → (r ≡ 0 → ⊥)
+  pub over-refused : {r : ℕ} → r ≡ first (enhanceRows w h pic s (length m) (length t)) → (r ≡ 0 → ⊥)
       → overing (Enhanced.Refused r) pic m t ≡ enhanceOf w h pic s m t
   unfolding enhanceOf
   over-refused {r} e z =
@@ -69,12 +69,12 @@ module _ (w h : ℕ) (pic : List ℕ) (s : Settings) (m t : List ℕ) where
       ∙ ap (λ k. unless k (λ n. overing (Enhanced.Refused n) pic m t) (enhancedOf w h pic s m t)) e
 
   -- no refusal
-  pub over-done : {r : ℕ} → r ≡ first (prepareRows w h pic s (length m) (length t)) → r ≡ 0 → enhancedOf w h pic s m t ≡ enhanceOf w h pic s m t
+  pub over-done : {r : ℕ} → r ≡ first (enhanceRows w h pic s (length m) (length t)) → r ≡ 0 → enhancedOf w h pic s m t ≡ enhanceOf w h pic s m t
   unfolding enhanceOf
   over-done {r} e z = ap (λ k. unless k (λ n. overing (Enhanced.Refused n) pic m t) (enhancedOf w h pic s m t)) (sym z ∙ e)
 
   -- "Factor 1.0: nothing changes."
-  pub over-one : {r : ℕ} {foot : Footer} {o : Bool} → r ≡ first (prepareRows w h pic s (length m) (length t)) → r ≡ 0
+  pub over-one : {r : ℕ} {foot : Footer} {o : Bool} → r ≡ first (enhanceRows w h pic s (length m) (length t)) → r ≡ 0
       → foot ≡ footOf w h s → o ≡ clipOne (s .clip) → o ≡ true
       → overing (Enhanced.Done foot) pic m t ≡ enhanceOf w h pic s m t
   unfolding enhancedOf
@@ -83,12 +83,12 @@ module _ (w h : ℕ) (pic : List ℕ) (s : Settings) (m t : List ℕ) where
       rw (f, one) refl ∙ over-done e z
 
   -- else the picture is rendered from the mappings
-  pub over-well : {r : ℕ} {foot : Footer} {o : Bool} {ys m′ t′ : List ℕ} → r ≡ first (prepareRows w h pic s (length m) (length t)) → r ≡ 0
+  pub over-well : {r : ℕ} {foot : Footer} {o : Bool} {ys m′ t′ n n′ : List ℕ} → r ≡ first (enhanceRows w h pic s (length m) (length t)) → r ≡ 0
       → foot ≡ footOf w h s → o ≡ clipOne (s .clip) → o ≡ false
-      → TilesDone w h pic s m m′ t t′ → ys ≡ renderOf w h s m′ (whole w h) pic
+      → TilesDone w h pic s m m′ t t′ n n′ → ys ≡ renderOf w h s m′ (whole w h) pic
       → overing (Enhanced.Done foot) ys m′ t′ ≡ enhanceOf w h pic s m t
   unfolding enhancedOf
   over-well e z f c y done g =
-      let asks : TilesAsk w h pic s (length m) (length t) = asks-tiles w h pic s (length m) (length t) e z c y in
       let one : clipOne (s .clip) ≡ false = sym c ∙ y in
+      let asks : TilesAsk w h pic s (length m) (length t) = record { work = over-work w h pic s (length m) (length t) (sym e ∙ z); changes = one } in
       rw (f, laid-render m asks (done .map) g, done .map, done .scratch, one) refl ∙ over-done e z

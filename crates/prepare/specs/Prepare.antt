@@ -1,5 +1,5 @@
 -- Document 01, "What each call hands back" for prepare and enhance: what they answer, and what each lent buffer holds at the end.
--- w and h are the film's width and height, pic its pixels, m the map buffer and t the scratch as lent.
+-- w and h are the film's width and height, pic its pixels, m the map buffer, t the scratch and n the list as lent.
 -- Assumes nothing.
 use Prim.Native.Nat.{ℕ}
 use mathlib.Core.Bool.{not, cond}
@@ -14,7 +14,7 @@ use Rattle.settings.specs.declared.MapRecord.{MapRecord}
 use Rattle.settings.specs.declared.Footer.{Footer}
 use Rattle.settings.specs.Settings.{binsOf, recordOf, noRecord, clipOne, sharedRows}
 use Rattle.render.specs.Render.{renderOf, whole}
-use Rattle.tiles.specs.Tiles.{mappings, footOf}
+use Rattle.tiles.specs.Tiles.{mappings, spents, spentEntries, footOf}
 use Rattle.prepare.specs.declared.Prepared.{Prepared}
 use Rattle.prepare.specs.declared.Made.{Made}
 use Rattle.prepare.specs.declared.Made.the-variants as Made
@@ -25,9 +25,18 @@ use Rattle.prepare.specs.declared.Enhanced.the-variants as Enhanced
 unfoldable pub workRows : List ℕ → Settings → ℕ → List Row
 workRows pic s scratch = row 12 (ltb scratch (binsOf s)) ∷ row 13 (not (all (within (s .min) (s .max)) pic)) ∷ []
 
--- "Prepare and enhance: 1 to 14 upward", of which order 2 strikes 14; 31 stands behind 9
-unfoldable pub prepareRows : ℕ → ℕ → List ℕ → Settings → ℕ → ℕ → List Row
-prepareRows w h pic s room scratch = sharedRows w h (length pic) s room ++ workRows pic s scratch
+-- order 7: 32, "this list is shorter than twice the number of tiles, straight after 12"
+unfoldable pub listedRows : List ℕ → Settings → ℕ → ℕ → List Row
+listedRows pic s scratch list =
+    row 12 (ltb scratch (binsOf s)) ∷ row 32 (ltb list (spentEntries s)) ∷ row 13 (not (all (within (s .min) (s .max)) pic)) ∷ []
+
+-- "Prepare and enhance: 1 to 14 upward", of which order 2 strikes 14; 31 stands behind 9: enhance, which is lent no list
+unfoldable pub enhanceRows : ℕ → ℕ → List ℕ → Settings → ℕ → ℕ → List Row
+enhanceRows w h pic s room scratch = sharedRows w h (length pic) s room ++ workRows pic s scratch
+
+-- and prepare, with 32
+unfoldable pub prepareRows : ℕ → ℕ → List ℕ → Settings → ℕ → ℕ → ℕ → List Row
+prepareRows w h pic s room scratch list = sharedRows w h (length pic) s room ++ listedRows pic s scratch list
 
 -- ---- the answers
 
@@ -55,30 +64,33 @@ enhancedSays (Enhanced.Refused n) = refused n
 
 -- ---- prepare
 
--- what prepare leaves: its answer, the map buffer and the scratch
+-- what prepare leaves: its answer, the map buffer, the scratch and the list
 pub record Ended : Type 0 where
   pub answer : Prepared
   pub map : List ℕ
   pub scratch : List ℕ
+  pub list : List ℕ
 
--- the answer, the map buffer and the scratch at the end, as prepare leaves them
-abbrev pub ending : Prepared → List ℕ → List ℕ → Ended
-ending r m t = record { answer = r; map = m; scratch = t }
+-- the answer, the map buffer, the scratch and the list at the end, as prepare leaves them
+abbrev pub ending : Prepared → List ℕ → List ℕ → List ℕ → Ended
+ending r m t n = record { answer = r; map = m; scratch = t; list = n }
 
 -- "the map buffer's first (grid across) x (grid down) x B entries are the mappings ..; the first B scratch entries are zero;
--- all other entries keep their contents. It returns the map record and a footer record"; "Factor 1.0: .. map and scratch stay as they were"
-unfoldable pub preparedOf : ℕ → ℕ → ℕ → List ℕ → Settings → List ℕ → List ℕ → Ended
-preparedOf film w h pic s m t =
+-- all other entries keep their contents. It returns the map record and a footer record"; "Factor 1.0: .. map and scratch stay as they were";
+-- order 7: "one more lent list, in which each tile in row order has two entries .. at factor 1.0 the list keeps its contents, as do entries behind the last tile"
+unfoldable pub preparedOf : ℕ → ℕ → ℕ → List ℕ → Settings → List ℕ → List ℕ → List ℕ → Ended
+preparedOf film w h pic s m t n =
     record {
       answer = preparedWith (recordOf film w h s) (footOf w h s);
       map = cond (clipOne (s .clip)) m (onto m (mappings w h pic s));
       scratch = cond (clipOne (s .clip)) t (filled (λ k. 0) t (binsOf s));
+      list = cond (clipOne (s .clip)) n (onto n (spents w h pic s));
     }
 
 -- "The first that applies is given", and all memory stays as it was; where none applies, prepare does its work
-unfoldable pub prepareOf : ℕ → ℕ → ℕ → List ℕ → Settings → List ℕ → List ℕ → Ended
-prepareOf film w h pic s m t =
-    unless (first (prepareRows w h pic s (length m) (length t))) (λ n. ending (preparedNot n) m t) (preparedOf film w h pic s m t)
+unfoldable pub prepareOf : ℕ → ℕ → ℕ → List ℕ → Settings → List ℕ → List ℕ → List ℕ → Ended
+prepareOf film w h pic s m t n =
+    unless (first (prepareRows w h pic s (length m) (length t) (length n))) (λ k. ending (preparedNot k) m t n) (preparedOf film w h pic s m t n)
 
 -- ---- enhance
 
@@ -103,7 +115,7 @@ enhancedOf w h pic s m t =
       scratch = cond (clipOne (s .clip)) t (filled (λ k. 0) t (binsOf s));
     }
 
--- the refusals are prepare's, and leave the picture and all memory as they were; where none applies, enhance does its work
+-- the refusals are prepare's but for 32, since enhance is lent no list, and leave the picture and all memory as they were; where none applies, enhance does its work
 unfoldable pub enhanceOf : ℕ → ℕ → List ℕ → Settings → List ℕ → List ℕ → Over
 enhanceOf w h pic s m t =
-    unless (first (prepareRows w h pic s (length m) (length t))) (λ n. overing (Enhanced.Refused n) pic m t) (enhancedOf w h pic s m t)
+    unless (first (enhanceRows w h pic s (length m) (length t))) (λ n. overing (Enhanced.Refused n) pic m t) (enhancedOf w h pic s m t)

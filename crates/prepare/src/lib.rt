@@ -1,7 +1,8 @@
 // The calls prepare and enhance: the tile mappings of a film, and the whole film rendered in place.
 ghost use mathlib.Core.Path.{_≡_};
+ghost use Prim.Native.Nat.{_≤_};
 ghost use Rattle.refuse.specs.Refuse.{first};
-ghost use Rattle.prepare.specs.Prepare.{workRows, prepareRows, prepareOf, enhanceOf, ending, overing, preparedNot};
+ghost use Rattle.prepare.specs.Prepare.{listedRows, prepareRows, prepareOf, enhanceOf, ending, overing, preparedNot};
 use settings::Footer;
 use settings::MapRecord;
 use settings::Settings;
@@ -25,12 +26,16 @@ pub enum Enhanced {
     Refused(u32),
 }
 
-// The first of the refusals 12 and 13 that applies, else 0.
-fn work_refusal(picture: &[u16], s: Settings, scratch: usize) -> u32
-    ensures { λ r. ⌜ r ≡ first (workRows (now (picture .entry)) s scratch) ⌝ }
+// The first of the refusals 12, 32 and 13 that applies, else 0.
+fn work_refusal(picture: &[u16], s: Settings, scratch: usize, list: usize) -> u32
+    requires { ⌜ (s .across ≤ 16) × (s .down ≤ 16) ⌝ }
+    ensures { λ r. ⌜ r ≡ first (listedRows (now (picture .entry)) s scratch list) ⌝ }
 {
     if scratch < (settings::bins(s) as usize) {
         return 12;
+    }
+    if list < (2 * (s.across * s.down) as usize) {
+        return 32;
     }
     if !scan::all_within(picture, s.min, s.max) {
         return 13;
@@ -38,7 +43,7 @@ fn work_refusal(picture: &[u16], s: Settings, scratch: usize) -> u32
     0
 }
 
-// The first of the refusals 1 to 13 and 31 that applies, else 0.
+// The first of the refusals 1 to 13, 31 and 32 that applies, else 0.
 fn refusal(
     width: u32,
     height: u32,
@@ -46,14 +51,15 @@ fn refusal(
     s: Settings,
     room: usize,
     scratch: usize,
+    list: usize,
 ) -> u32
-    ensures { λ r. ⌜ r ≡ first (prepareRows width height (now (picture .entry)) s room scratch) ⌝ }
+    ensures { λ r. ⌜ r ≡ first (prepareRows width height (now (picture .entry)) s room scratch list) ⌝ }
 {
     let shared = settings::shared(width, height, picture.len(), s, room);
     if shared != 0 {
         return shared;
     }
-    work_refusal(picture, s, scratch)
+    work_refusal(picture, s, scratch, list)
 }
 
 // What prepare answers with a refusal.
@@ -67,7 +73,7 @@ pub fn not_prepared(number: u32) -> Prepared
     }
 }
 
-// The mappings of a film in the map buffer, with the record of what they were made for and the footer.
+// The mappings of a film in the map buffer, and what clipping each tile took in the list, with the record of what they were made for and the footer.
 pub fn prepare(
     film: u32,
     width: u32,
@@ -76,10 +82,19 @@ pub fn prepare(
     s: Settings,
     map: &mut [u16],
     scratch: &mut [u32],
+    list: &mut [u64],
 ) -> Prepared
-    ensures { λ r. ⌜ ending r (now (map .exit)) (now (scratch .exit)) ≡ prepareOf film width height (now (picture .entry)) s (now (map .entry)) (now (scratch .entry)) ⌝ }
+    ensures { λ r. ⌜ ending r (now (map .exit)) (now (scratch .exit)) (now (list .exit)) ≡ prepareOf film width height (now (picture .entry)) s (now (map .entry)) (now (scratch .entry)) (now (list .entry)) ⌝ }
 {
-    let refused = refusal(width, height, picture, s, map.len(), scratch.len());
+    let refused = refusal(
+        width,
+        height,
+        picture,
+        s,
+        map.len(),
+        scratch.len(),
+        list.len(),
+    );
     if refused != 0 {
         return not_prepared(refused);
     }
@@ -93,7 +108,7 @@ pub fn prepare(
             kept,
         };
     }
-    tiles::map_tiles(picture, width, height, s, map, scratch);
+    tiles::map_tiles(picture, width, height, s, map, scratch, list);
     Prepared {
         answer: Made::Done(foot),
         kept,
@@ -111,7 +126,17 @@ pub fn enhance(
 ) -> Enhanced
     ensures { λ r. ⌜ overing r (now (picture .exit)) (now (map .exit)) (now (scratch .exit)) ≡ enhanceOf width height (now (picture .entry)) s (now (map .entry)) (now (scratch .entry)) ⌝ }
 {
-    let refused = refusal(width, height, &picture[..], s, map.len(), scratch.len());
+    // no list is lent, and none is too short: this one has two entries for each of 16 x 16 tiles
+    let mut list = [0u64; 512];
+    let refused = refusal(
+        width,
+        height,
+        &picture[..],
+        s,
+        map.len(),
+        scratch.len(),
+        512,
+    );
     if refused != 0 {
         return Enhanced::Refused(refused);
     }
@@ -121,7 +146,7 @@ pub fn enhance(
     if unchanged {
         return Enhanced::Done(foot);
     }
-    tiles::map_tiles(&picture[..], width, height, s, map, scratch);
+    tiles::map_tiles(&picture[..], width, height, s, map, scratch, &mut list);
     let whole = Window {
         left: 0,
         top: 0,

@@ -16,8 +16,8 @@ use Rattle.settings.specs.Settings.{binsOf, recordOf, clipOne}
 use Rattle.render.specs.Render.{renderOf, rectOf}
 use Rattle.prepare.specs.declared.Enhanced.the-variants as Enhanced
 use Rattle.tiles.specs.Tiles.{footOf, Work}
-use Rattle.prepare.specs.Prepare.{preparedNot, prepareRows, preparedSays, enhancedSays, Ended, ending, preparedOf, prepareOf, Over, overing, enhancedOf, enhanceOf}
-use Rattle.prepare.proofs.Table.{work}
+use Rattle.prepare.specs.Prepare.{preparedNot, enhanceRows, prepareRows, preparedSays, enhancedSays, Ended, ending, preparedOf, prepareOf, Over, overing, enhancedOf, enhanceOf}
+use Rattle.prepare.proofs.Table.{work, over-work}
 use Rattle.prepare.proofs.Endings.{ends-refused, ends-done}
 use Rattle.prepare.proofs.Renders.{over-refused, over-done}
 use Rattle.draw.specs.declared.Drawn.the-variants as Drawn
@@ -96,30 +96,30 @@ module _ {Y A : Type 0} {said : Y → Says A} {n : ℕ} {v : A} {done : Y} {lent
 
 -- ---- prepare
 
-module _ (film w h : ℕ) (pic : List ℕ) (s : Settings) (m t : List ℕ) where
-  -- prepare goes by the rows 1 to 13 and 31
-  pub prepare-table : ByTable (λ (x : Ended). preparedSays (x .answer)) (first (prepareRows w h pic s (length m) (length t)))
-      (recordOf film w h s, footOf w h s) (preparedOf film w h pic s m t) (λ k. ending (preparedNot k) m t) (prepareOf film w h pic s m t)
+module _ (film w h : ℕ) (pic : List ℕ) (s : Settings) (m t n : List ℕ) where
+  -- prepare goes by the rows 1 to 13, 31 and 32
+  pub prepare-table : ByTable (λ (x : Ended). preparedSays (x .answer)) (first (prepareRows w h pic s (length m) (length t) (length n)))
+      (recordOf film w h s, footOf w h s) (preparedOf film w h pic s m t n) (λ k. ending (preparedNot k) m t n) (prepareOf film w h pic s m t n)
   unfolding preparedOf preparedSays
   prepare-table =
       record {
-        when-none = λ z. sym (ends-done film w h pic s m t refl z);
-        when-some = λ z. sym (ends-refused film w h pic s m t refl z);
+        when-none = λ z. sym (ends-done film w h pic s m t n refl z);
+        when-some = λ z. sym (ends-refused film w h pic s m t n refl z);
         says-done = refl;
         says-lent = λ k. refl;
       }
 
-  module _ {r : MapRecord} {foot : Footer} (done : preparedSays (prepareOf film w h pic s m t .answer) ≡ accepted (r, foot)) where
-    -- an accepted film meets none of the rows 1 to 13 and 31
-    pub prepare-accepts : first (prepareRows w h pic s (length m) (length t)) ≡ 0
+  module _ {r : MapRecord} {foot : Footer} (done : preparedSays (prepareOf film w h pic s m t n .answer) ≡ accepted (r, foot)) where
+    -- an accepted film meets none of them
+    pub prepare-accepts : first (prepareRows w h pic s (length m) (length t) (length n)) ≡ 0
     prepare-accepts = table-accepted prepare-table done .0
 
     -- what such a film's call knows
     pub prepare-work : Work w h pic s (length m) (length t)
-    prepare-work = work w h pic s (length m) (length t) prepare-accepts
+    prepare-work = work w h pic s (length m) (length t) (length n) prepare-accepts
 
     -- it ends as the rules say
-    pub prepare-done : prepareOf film w h pic s m t ≡ preparedOf film w h pic s m t
+    pub prepare-done : prepareOf film w h pic s m t n ≡ preparedOf film w h pic s m t n
     prepare-done = table-done prepare-table done
 
     -- the record that is handed back
@@ -133,8 +133,8 @@ module _ (film w h : ℕ) (pic : List ℕ) (s : Settings) (m t : List ℕ) where
 -- ---- enhance
 
 module _ (w h : ℕ) (pic : List ℕ) (s : Settings) (m t : List ℕ) where
-  -- enhance goes by the same rows
-  pub enhance-table : ByTable (λ (x : Over). enhancedSays (x .answer)) (first (prepareRows w h pic s (length m) (length t)))
+  -- enhance goes by the same rows but 32
+  pub enhance-table : ByTable (λ (x : Over). enhancedSays (x .answer)) (first (enhanceRows w h pic s (length m) (length t)))
       (footOf w h s) (enhancedOf w h pic s m t) (λ k. overing (Enhanced.Refused k) pic m t) (enhanceOf w h pic s m t)
   unfolding enhancedOf enhancedSays
   enhance-table =
@@ -148,7 +148,7 @@ module _ (w h : ℕ) (pic : List ℕ) (s : Settings) (m t : List ℕ) where
   module _ {foot : Footer} (done : enhancedSays (enhanceOf w h pic s m t .answer) ≡ accepted foot) where
     -- what an accepted film's call knows
     pub enhance-work : Work w h pic s (length m) (length t)
-    enhance-work = work w h pic s (length m) (length t) (table-accepted enhance-table done .0)
+    enhance-work = over-work w h pic s (length m) (length t) (table-accepted enhance-table done .0)
 
     -- it ends as the rules say
     pub enhance-done : enhanceOf w h pic s m t ≡ enhancedOf w h pic s m t

@@ -13,12 +13,12 @@ use Rattle.settings.specs.declared.Footer.{Footer}
 use Rattle.settings.specs.Settings.{binsOf, Tiled}
 use Rattle.settings.proofs.Ready.{ready}
 use Rattle.prepare.specs.Prepare.{preparedSays, enhancedSays}
-use Rattle.prepare.proofs.Table.{work, table-31}
+use Rattle.prepare.proofs.Table.{table-31, over-31}
 use Rattle.draw.specs.Draw.{drawnSays}
 use Rattle.draw.proofs.Tables.{draw-parts, draw-31}
 use Rattle.promises.specs.Films.{BinsReached, BinUnreached}
-use Rattle.promises.proofs.Accepted.{says-accepted, says-refused}
-use Rattle.promises.proofs.Demand1.{prepare-says, enhance-says, draw-says}
+use Rattle.promises.proofs.Accepted.{says-accepted, says-refused, prepare-work, enhance-work}
+use Rattle.promises.proofs.Demand1.{prepare-says, enhance-says, draw-says, prepare-accepted, enhance-accepted}
 use Rattle.promises.proofs.Runs.{PrepareCall, Prepares, EnhanceCall, Enhances, DrawCall, Draws}
 
 -- ---- settings
@@ -34,12 +34,10 @@ more-unreached s more = bins-unreached (s .min) (s .max) (binsOf s) more
 -- ---- "every bin has at least one grey", of every film that a call accepts
 
 pub prepared-bins-reached : {p : PrepareCall} {r : MapRecord} {foot : Footer} → Prepares p → preparedSays (p .answer) ≡ accepted (r, foot) → BinsReached (p .settings)
-prepared-bins-reached {p} ran done =
-    tiled-reached (work (p .width) (p .height) (p .pixels) (p .settings) (length (p .map)) (length (p .scratch)) (says-accepted _ _ (sym (prepare-says ran) ∙ done) .0) .ready .tiled)
+prepared-bins-reached {p} ran done = tiled-reached (prepare-work _ _ _ _ _ (p .map) (p .scratch) (p .list) (prepare-accepted ran done) .ready .tiled)
 
 pub enhanced-bins-reached : {e : EnhanceCall} {foot : Footer} → Enhances e → enhancedSays (e .answer) ≡ accepted foot → BinsReached (e .settings)
-enhanced-bins-reached {e} ran done =
-    tiled-reached (work (e .width) (e .height) (e .pixels) (e .settings) (length (e .map)) (length (e .scratch)) (says-accepted _ _ (sym (enhance-says ran) ∙ done) .0) .ready .tiled)
+enhanced-bins-reached {e} ran done = tiled-reached (enhance-work _ _ _ _ (e .map) (e .scratch) (enhance-accepted ran done) .ready .tiled)
 
 pub drawn-bins-reached : {d : DrawCall} → Draws d → drawnSays (d .answer) ≡ accepted tt → BinsReached (d .settings)
 drawn-bins-reached {d} ran done =
@@ -52,11 +50,11 @@ drawn-bins-reached {d} ran done =
 
 pub prepare-31-unreached : {p : PrepareCall} → Prepares p → preparedSays (p .answer) ≡ refused 31 → BinUnreached (p .settings)
 prepare-31-unreached {p} ran q =
-    more-unreached (p .settings) (table-31 (p .width) (p .height) (p .pixels) (p .settings) (length (p .map)) (length (p .scratch)) (says-refused _ _ (sym (prepare-says ran) ∙ q)))
+    more-unreached (p .settings) (table-31 (p .width) (p .height) (p .pixels) (p .settings) (length (p .map)) (length (p .scratch)) (length (p .list)) (says-refused _ _ (sym (prepare-says ran) ∙ q)))
 
 pub enhance-31-unreached : {e : EnhanceCall} → Enhances e → enhancedSays (e .answer) ≡ refused 31 → BinUnreached (e .settings)
 enhance-31-unreached {e} ran q =
-    more-unreached (e .settings) (table-31 (e .width) (e .height) (e .pixels) (e .settings) (length (e .map)) (length (e .scratch)) (says-refused _ _ (sym (enhance-says ran) ∙ q)))
+    more-unreached (e .settings) (over-31 (e .width) (e .height) (e .pixels) (e .settings) (length (e .map)) (length (e .scratch)) (says-refused _ _ (sym (enhance-says ran) ∙ q)))
 
 pub draw-31-unreached : {d : DrawCall} → Draws d → drawnSays (d .answer) ≡ refused 31 → BinUnreached (d .settings)
 draw-31-unreached {d} ran q =

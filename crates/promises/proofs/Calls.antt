@@ -126,7 +126,7 @@ module _ {e : EnhanceCall} {foot : Footer} (ran : Enhances e) (enhanced : enhanc
 
 -- what prepare's contract gives of a call's values
 abbrev ended : PrepareCall → Ended
-ended p = prepareOf (p .film) (p .width) (p .height) (p .pixels) (p .settings) (p .map) (p .scratch)
+ended p = prepareOf (p .film) (p .width) (p .height) (p .pixels) (p .settings) (p .map) (p .scratch) (p .list)
 
 -- a film that prepare accepted, answering the record r
 module _ {p : PrepareCall} {r : MapRecord} {foot : Footer} (ran : Prepares p) (prepared : preparedSays (p .answer) ≡ accepted (r, foot)) where
@@ -138,16 +138,16 @@ module _ {p : PrepareCall} {r : MapRecord} {foot : Footer} (ran : Prepares p) (p
       → getD (p .map′) (k * binsOf (p .settings) + b) 0
       ≡ mappedOf (p .settings .min) (p .settings .max) (pixelsIn (p .width) (p .height) (p .settings) k) (clippedCounts (p .width) (p .height) (p .pixels) (p .settings) k) b
   prepared-by-rule one k b l q =
-      ap (λ (z : Ended). getD (z .map) (k * binsOf (p .settings) + b) 0) (prepare-ends ran) ∙ own-mapping _ _ _ _ _ _ _ done one k b l q
+      ap (λ (z : Ended). getD (z .map) (k * binsOf (p .settings) + b) 0) (prepare-ends ran) ∙ own-mapping _ _ _ _ _ _ _ _ done one k b l q
 
   -- the record's own settings can be handed on for those that were asked
   pub record-settings : keptOf (r .settings) ≡ keptOf (p .settings)
-  record-settings = left-settings _ _ _ _ _ _ _ done
+  record-settings = left-settings _ _ _ _ _ _ _ _ done
 
   -- "A window drawn with the record of a film of another number is refused.": handed that record and another film's number, whatever else
   pub prepared-other-film : {d : DrawCall} → Draws d → d .kept ≡ r → d .film ≢ p .film → Refuses d
   prepared-other-film drew same other =
-      draw-other-film-refused drew (λ e. other (e ∙ ap (λ (z : MapRecord). z .film) (same ∙ sym (prepare-record _ _ _ _ _ _ _ done)) ∙ record-film _ _ _ (p .settings)))
+      draw-other-film-refused drew (λ e. other (e ∙ ap (λ (z : MapRecord). z .film) (same ∙ sym (prepare-record _ _ _ _ _ _ _ _ done)) ∙ record-film _ _ _ (p .settings)))
 
 -- what prepare left, handed to draw: prepare accepted the film of p with this footer, and draw is handed the same film with the record that prepare answered, the settings,
 -- the mappings that prepare left, a window inside the film and an output of its area
@@ -176,7 +176,7 @@ pub drawn-done : {p : PrepareCall} {foot : Footer} {d : DrawCall} → HandedToDr
 drawn-done {p} {foot} {d} handed =
     ap (λ (z : Shows). drawnSays (z .answer)) (draw-ends (handed .draws))
     ∙ rw (handed .film, handed .width, handed .height, handed .pixels)
-    (draw-agrees _ _ _ _ _ _ _ (done (handed .prepares) (handed .prepared)) _ _ _ (d .out)
+    (draw-agrees _ _ _ _ _ _ _ _ (done (handed .prepares) (handed .prepared)) _ _ _ (d .out)
     (subst (λ m. HandedOn (p .width) (p .height) (p .settings) m (d .settings) (d .map) (d .window) (length (d .out))) (ap (λ (z : Ended). z .map) (prepare-ends (handed .prepares))) (handed .rest)))
 
 -- so all that follows is said of it
@@ -221,7 +221,7 @@ module _ {p : PrepareCall} {foot : Footer} {d : DrawCall} (from : DrawnFrom p fo
   -- the window lies inside the film
   pub drawn-inside : (d .window .left + d .window .width ≤ p .width) × (d .window .top + d .window .height ≤ p .height)
   drawn-inside =
-      let handed = accepted-handed (p .film) (p .width) (p .height) (p .pixels) (p .settings) _ _ made _ _ _ _ _ (d .window) _ accepts entries in
+      let handed = accepted-handed (p .film) (p .width) (p .height) (p .pixels) (p .settings) _ _ _ made _ _ _ _ _ (d .window) _ accepts entries in
       (handed .across, handed .down)
 
   -- "or through a window from the record and mappings prepared for those pixels and unchanged since"
@@ -229,14 +229,14 @@ module _ {p : PrepareCall} {foot : Footer} {d : DrawCall} (from : DrawnFrom p fo
       → drawnGrey d i j ≡ ruleGrey (p .width) (p .height) (p .pixels) (p .settings) (d .window .left + i) (d .window .top + j)
   drawn-by-rule one j i l k =
       ap (λ (z : Shows). getD (z .out) (j * d .window .width + i) 0) shows
-      ∙ accepted-by-rule (p .film) (p .width) (p .height) (p .pixels) (p .settings) _ _ made _ _ _ _ _ (d .window) _ accepts entries one j i l k
+      ∙ accepted-by-rule (p .film) (p .width) (p .height) (p .pixels) (p .settings) _ _ _ made _ _ _ _ _ (d .window) _ accepts entries one j i l k
 
   -- at the factor 1.0 the film's own pixels
   pub drawn-as-film : clipOne (p .settings .clip) ≡ true → (j i : ℕ) → j < d .window .height → i < d .window .width
       → drawnGrey d i j ≡ getD (p .pixels) ((d .window .top + j) * p .width + (d .window .left + i)) 0
   drawn-as-film one j i l k =
       ap (λ (z : Shows). getD (z .out) (j * d .window .width + i) 0) shows
-      ∙ accepted-as-film (p .film) (p .width) (p .height) (p .pixels) (p .settings) _ _ made _ _ _ _ _ (d .window) _ accepts entries one j i l k
+      ∙ accepted-as-film (p .film) (p .width) (p .height) (p .pixels) (p .settings) _ _ _ made _ _ _ _ _ (d .window) _ accepts entries one j i l k
 
   -- "With the record and buffer that prepare left for the film, and the film's pixels as they were then, each drawn pixel is the one in enhance's picture.",
   -- which enhance renders with the same footer
@@ -248,8 +248,8 @@ module _ {p : PrepareCall} {foot : Footer} {d : DrawCall} (from : DrawnFrom p fo
       enhance-ends (too .enhances)
       ∙ rw (too .width, too .height, too .pixels)
       (sym (enhance-kept _ _ _ (e .settings) _ _) ∙ ap (λ s. enhanceOf (p .width) (p .height) (p .pixels) s (e .map) (e .scratch)) (too .like) ∙ enhance-kept _ _ _ (p .settings) _ _) in (
-        ap (λ (z : Over). enhancedSays (z .answer)) over ∙ enhance-agrees (p .film) _ _ _ _ _ _ made _ _ (too .map) (too .scratch),
+        ap (λ (z : Over). enhancedSays (z .answer)) over ∙ enhance-agrees (p .film) _ _ _ _ _ _ _ made _ _ (too .map) (too .scratch),
         λ j i l k. ap (λ (z : Shows). getD (z .out) (j * d .window .width + i) 0) shows
-            ∙ accepted-as-enhanced (p .film) _ _ _ _ _ _ made _ _ _ _ _ (d .window) _ accepts entries (e .map) (e .scratch) (too .map) (too .scratch) j i l k
+            ∙ accepted-as-enhanced (p .film) _ _ _ _ _ _ _ made _ _ _ _ _ (d .window) _ accepts entries (e .map) (e .scratch) (too .map) (too .scratch) j i l k
             ∙ sym (ap (λ (z : Over). getD (z .picture) ((d .window .top + j) * p .width + (d .window .left + i)) 0) over),
       )

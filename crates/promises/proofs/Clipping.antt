@@ -18,7 +18,7 @@ use Rattle.settings.specs.declared.Footer.{Footer}
 use Rattle.settings.specs.Settings.{binsOf, clipBad}
 use Rattle.tiles.specs.Tiles.{pixelsIn}
 use Rattle.prepare.specs.Prepare.{preparedSays, enhancedSays, Ended, prepareOf, Over, enhanceOf}
-use Rattle.prepare.proofs.Table.{table-never-14}
+use Rattle.prepare.proofs.Table.{table-never-14, over-never-14}
 use Rattle.promises.specs.Films.{ClippingOn, ClipCase, FooterShows, limitIn, FilmSound, LimitFits}
 use Rattle.promises.proofs.Accepted.{says-refused, prepare-work, enhance-work}
 use Rattle.promises.proofs.Demand1.{prepare-says, enhance-says, prepare-accepted, enhance-accepted}
@@ -29,25 +29,25 @@ use Rattle.promises.proofs.Runs.{PrepareCall, Prepares, prepare-ends, E
 
 -- a film that prepare accepted, answering this footer
 module _ {p : PrepareCall} {r : MapRecord} {foot : Footer} (ran : Prepares p) (done : preparedSays (p .answer) ≡ accepted (r, foot)) where
-  prepared : preparedSays (prepareOf (p .film) (p .width) (p .height) (p .pixels) (p .settings) (p .map) (p .scratch) .answer) ≡ accepted (r, foot)
+  prepared : preparedSays (prepareOf (p .film) (p .width) (p .height) (p .pixels) (p .settings) (p .map) (p .scratch) (p .list) .answer) ≡ accepted (r, foot)
   prepared = prepare-accepted ran done
 
   -- "a footer record with L, the factor asked as f32 and the factor used as f64": what it shows, by the clip setting
   pub prepared-footer : FooterShows (p .settings .clip) (pixelsIn (p .width) (p .height) (p .settings) 0) (binsOf (p .settings)) foot
-  prepared-footer = footer-shows _ _ _ _ _ (p .map) (p .scratch) prepared
+  prepared-footer = footer-shows _ _ _ _ _ (p .map) (p .scratch) (p .list) prepared
 
   -- which is off, exactly 1.0, or a factor above one
   pub prepared-clip : ClipCase (p .settings .clip)
-  prepared-clip = clip-cases (prepare-work _ _ _ _ _ (p .map) (p .scratch) prepared)
+  prepared-clip = clip-cases (prepare-work _ _ _ _ _ (p .map) (p .scratch) (p .list) prepared)
 
   -- "With clipping on (a factor above one), in every tile of a film that prepare .. accepts": with the tile's own limit, and the map entries that prepare left
   pub prepared-tiles-sound : {f : Float} → ClippingOn (p .settings .clip) f → FilmSound (p .width) (p .height) (p .pixels) (p .settings) f (p .map′)
-  prepared-tiles-sound on = rw (ap (λ (z : Ended). z .map) (prepare-ends ran)) (tiles-sound _ _ _ _ _ (p .map) (p .scratch) prepared on)
+  prepared-tiles-sound on = rw (ap (λ (z : Ended). z .map) (prepare-ends ran)) (tiles-sound _ _ _ _ _ (p .map) (p .scratch) (p .list) prepared on)
 
   -- "L x B is never below N, and L is the least that can hold the tile where the factor would give less": of each tile and its own limit
   pub prepared-limit-fits : {f : Float} → ClippingOn (p .settings .clip) f → (k : ℕ)
       → LimitFits f (pixelsIn (p .width) (p .height) (p .settings) k) (binsOf (p .settings)) (limitIn (p .width) (p .height) (p .settings) f k)
-  prepared-limit-fits {f} on k = limit-fits (prepare-work _ _ _ _ _ (p .map) (p .scratch) prepared) f k
+  prepared-limit-fits {f} on k = limit-fits (prepare-work _ _ _ _ _ (p .map) (p .scratch) (p .list) prepared) f k
 
 -- a film that enhance accepted, answering this footer
 module _ {e : EnhanceCall} {foot : Footer} (ran : Enhances e) (done : enhancedSays (e .answer) ≡ accepted foot) where
@@ -76,12 +76,12 @@ module _ {e : EnhanceCall} {foot : Footer} (ran : Enhances e) (done : enhancedSa
 -- "a clip refusal never occurs": of prepare
 pub prepare-never-14 : {p : PrepareCall} → Prepares p → preparedSays (p .answer) ≢ refused 14
 prepare-never-14 {p} ran q =
-    table-never-14 (p .width) (p .height) (p .pixels) (p .settings) (length (p .map)) (length (p .scratch)) (says-refused _ _ (sym (prepare-says ran) ∙ q))
+    table-never-14 (p .width) (p .height) (p .pixels) (p .settings) (length (p .map)) (length (p .scratch)) (length (p .list)) (says-refused _ _ (sym (prepare-says ran) ∙ q))
 
 -- and of enhance
 pub enhance-never-14 : {e : EnhanceCall} → Enhances e → enhancedSays (e .answer) ≢ refused 14
 enhance-never-14 {e} ran q =
-    table-never-14 (e .width) (e .height) (e .pixels) (e .settings) (length (e .map)) (length (e .scratch)) (says-refused _ _ (sym (enhance-says ran) ∙ q))
+    over-never-14 (e .width) (e .height) (e .pixels) (e .settings) (length (e .map)) (length (e .scratch)) (says-refused _ _ (sym (enhance-says ran) ∙ q))
 
 -- ---- the judgement of a clip setting
 

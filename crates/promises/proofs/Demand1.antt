@@ -9,17 +9,18 @@ use Rattle.settings.specs.declared.MapRecord.{MapRecord}
 use Rattle.settings.specs.declared.Footer.{Footer}
 use Rattle.settings.specs.Settings.{binsOf, recordOf}
 use Rattle.tiles.specs.Tiles.{footOf}
-use Rattle.prepare.specs.Prepare.{prepareRows, preparedSays, enhancedSays, Ended, prepareOf, Over, enhanceOf}
+use Rattle.prepare.specs.Prepare.{enhanceRows, prepareRows, preparedSays, enhancedSays, Ended, prepareOf, Over, enhanceOf}
 use Rattle.draw.specs.Draw.{drawRows, drawnSays, Shows}
 use Rattle.promises.proofs.Accepted.{table-says, table-kept, prepare-table, enhance-table, draw-table}
 use Rattle.promises.proofs.Runs.{PrepareCall, Prepares, prepare-ends, EnhanceCall, Enhances, enhance-ends, DrawCall, Draws, draw-ends}
 
--- "after a refusal all lent memory holds what it held before": prepare's map buffer and scratch
-pub prepare-refusal-keeps : {p : PrepareCall} (n : ℕ) → Prepares p → preparedSays (p .answer) ≡ refused n → (p .map′ ≡ p .map) × (p .scratch′ ≡ p .scratch)
+-- "after a refusal all lent memory holds what it held before": prepare's map buffer, scratch and list
+pub prepare-refusal-keeps : {p : PrepareCall} (n : ℕ) → Prepares p → preparedSays (p .answer) ≡ refused n
+    → (p .map′ ≡ p .map) × (p .scratch′ ≡ p .scratch) × (p .list′ ≡ p .list)
 prepare-refusal-keeps n ran q =
     let x = prepare-ends ran in
-    let e = x ∙ table-kept (prepare-table _ _ _ _ _ _ _) (sym (ap (λ (y : Ended). preparedSays (y .answer)) x) ∙ q) in
-    (ap (λ (y : Ended). y .map) e, ap (λ (y : Ended). y .scratch) e)
+    let e = x ∙ table-kept (prepare-table _ _ _ _ _ _ _ _) (sym (ap (λ (y : Ended). preparedSays (y .answer)) x) ∙ q) in
+    (ap (λ (y : Ended). y .map) e, ap (λ (y : Ended). y .scratch) e, ap (λ (y : Ended). y .list) e)
 
 -- enhance's picture, map buffer and scratch
 pub enhance-refusal-keeps : {e : EnhanceCall} (n : ℕ) → Enhances e → enhancedSays (e .answer) ≡ refused n
@@ -38,22 +39,22 @@ draw-refusal-keeps n ran q =
 -- "Bad input meets a numbered refusal": prepare's is that of the first row of document 01's order that applies; where none does it hands back "the map record and a footer record"
 pub prepare-says : {p : PrepareCall} → Prepares p
     → preparedSays (p .answer)
-    ≡ says (first (prepareRows (p .width) (p .height) (p .pixels) (p .settings) (length (p .map)) (length (p .scratch)))) (
+    ≡ says (first (prepareRows (p .width) (p .height) (p .pixels) (p .settings) (length (p .map)) (length (p .scratch)) (length (p .list)))) (
       recordOf (p .film) (p .width) (p .height) (p .settings),
       footOf (p .width) (p .height) (p .settings),
     )
-prepare-says ran = ap (λ (y : Ended). preparedSays (y .answer)) (prepare-ends ran) ∙ table-says (prepare-table _ _ _ _ _ _ _)
+prepare-says ran = ap (λ (y : Ended). preparedSays (y .answer)) (prepare-ends ran) ∙ table-says (prepare-table _ _ _ _ _ _ _ _)
 
--- enhance's is that of the same rows, and where none applies it hands back "the same .. footer"
+-- enhance's is that of the same rows but 32, since it is lent no list, and where none applies it hands back "the same .. footer"
 pub enhance-says : {e : EnhanceCall} → Enhances e
     → enhancedSays (e .answer)
-    ≡ says (first (prepareRows (e .width) (e .height) (e .pixels) (e .settings) (length (e .map)) (length (e .scratch))))
+    ≡ says (first (enhanceRows (e .width) (e .height) (e .pixels) (e .settings) (length (e .map)) (length (e .scratch))))
     (footOf (e .width) (e .height) (e .settings))
 enhance-says ran = ap (λ (y : Over). enhancedSays (y .answer)) (enhance-ends ran) ∙ table-says (enhance-table _ _ _ _ _ _)
 
 -- so the outcome that the contract cites says what the answer does: of a film that prepare accepted
 pub prepare-accepted : {p : PrepareCall} {v : MapRecord × Footer} → Prepares p → preparedSays (p .answer) ≡ accepted v
-    → preparedSays (prepareOf (p .film) (p .width) (p .height) (p .pixels) (p .settings) (p .map) (p .scratch) .answer) ≡ accepted v
+    → preparedSays (prepareOf (p .film) (p .width) (p .height) (p .pixels) (p .settings) (p .map) (p .scratch) (p .list) .answer) ≡ accepted v
 prepare-accepted ran e = sym (ap (λ (y : Ended). preparedSays (y .answer)) (prepare-ends ran)) ∙ e
 
 -- and of one that enhance accepted

@@ -51,12 +51,12 @@ laid-own w h pic s m k b l q =
 
 -- "the one that the integer rule of document 01 gives for that film's own pixels and settings": the map entry of tile k and bin b that prepare leaves
 -- is the mapped value of that tile's own clipped counts, for every tile and bin
-pub own-mapping : (film w h : ℕ) (pic : List ℕ) (s : Settings) (m t : List ℕ) {r : MapRecord} {foot : Footer}
-    → preparedSays (prepareOf film w h pic s m t .answer) ≡ accepted (r, foot) → clipOne (s .clip) ≡ false → (k b : ℕ) → k < s .across * s .down → b < binsOf s
-    → getD (prepareOf film w h pic s m t .map) (k * binsOf s + b) 0 ≡ mappedOf (s .min) (s .max) (pixelsIn w h s k) (clippedCounts w h pic s k) b
+pub own-mapping : (film w h : ℕ) (pic : List ℕ) (s : Settings) (m t n : List ℕ) {r : MapRecord} {foot : Footer}
+    → preparedSays (prepareOf film w h pic s m t n .answer) ≡ accepted (r, foot) → clipOne (s .clip) ≡ false → (k b : ℕ) → k < s .across * s .down → b < binsOf s
+    → getD (prepareOf film w h pic s m t n .map) (k * binsOf s + b) 0 ≡ mappedOf (s .min) (s .max) (pixelsIn w h s k) (clippedCounts w h pic s k) b
 unfolding preparedOf
-own-mapping film w h pic s m t e one k b l q =
-    ap (λ (x : Ended). getD (x .map) (k * binsOf s + b) 0) (prepare-done film w h pic s m t e)
+own-mapping film w h pic s m t n e one k b l q =
+    ap (λ (x : Ended). getD (x .map) (k * binsOf s + b) 0) (prepare-done film w h pic s m t n e)
     ∙ ap (λ o. getD (cond o m (onto m (mappings w h pic s))) (k * binsOf s + b) 0) one
     ∙ laid-own w h pic s m k b l q
 
@@ -114,39 +114,39 @@ own-pixels w h pic s m t e one =
 
 -- ---- a window from what prepare left
 
-module _ (film w h : ℕ) (pic : List ℕ) (s : Settings) (m t : List ℕ) {r : MapRecord} {foot : Footer} (done : preparedSays (prepareOf film w h pic s m t .answer) ≡ accepted (r, foot)) where
+module _ (film w h : ℕ) (pic : List ℕ) (s : Settings) (m t n : List ℕ) {r : MapRecord} {foot : Footer} (done : preparedSays (prepareOf film w h pic s m t n .answer) ≡ accepted (r, foot)) where
   -- what prepare accepts enhance accepts, with the same footer, where its buffers are long enough
   pub enhance-agrees : (m₂ t₂ : List ℕ) → entriesOf s ≤ length m₂ → binsOf s ≤ length t₂ → enhancedSays (enhanceOf w h pic s m₂ t₂ .answer) ≡ accepted foot
   enhance-agrees m₂ t₂ room scratch =
       table-says (enhance-table w h pic s m₂ t₂)
-      ∙ ap₂ says (rows-any w h pic s (length m) (length t) (length m₂) (length t₂) (prepare-accepts film w h pic s m t done) room scratch) (prepare-foot film w h pic s m t done)
+      ∙ ap₂ says (rows-any w h pic s (length m) (length t) (length m₂) (length t₂) (length n) (prepare-accepts film w h pic s m t n done) room scratch) (prepare-foot film w h pic s m t n done)
 
   -- settings s′ that are kept as s are, and a map buffer m′ whose first entries are those that prepare left
-  module _ (s′ : Settings) (m′ : List ℕ) (win : Window) (out : List ℕ) (handed : HandedOn w h s (prepareOf film w h pic s m t .map) s′ m′ win (length out)) where
+  module _ (s′ : Settings) (m′ : List ℕ) (win : Window) (out : List ℕ) (handed : HandedOn w h s (prepareOf film w h pic s m t n .map) s′ m′ win (length out)) where
     -- draw looks at it as at the film's own
-    draw-same : drawOf film w h pic s′ r win m′ out ≡ drawOf film w h pic s r win (prepareOf film w h pic s m t .map) out
+    draw-same : drawOf film w h pic s′ r win m′ out ≡ drawOf film w h pic s r win (prepareOf film w h pic s m t n .map) out
     draw-same =
         sym (draw-kept film w h pic s′ r win m′ out)
         ∙ ap (λ x. drawOf film w h pic x r win m′ out) (handed .like)
         ∙ draw-kept film w h pic s r win m′ out
-        ∙ draw-room film w h pic s r win m′ (prepareOf film w h pic s m t .map) out (handed .long) (left-room film w h pic s m t done) (handed .front)
+        ∙ draw-room film w h pic s r win m′ (prepareOf film w h pic s m t n .map) out (handed .long) (left-room film w h pic s m t n done) (handed .front)
 
-    draw-none : first (drawRows film w h pic s r win (prepareOf film w h pic s m t .map) (length out)) ≡ 0
-    draw-none = draw-free film w h pic s m t done win (length out) (handed .wide) (handed .high) (handed .across) (handed .down) (handed .area)
+    draw-none : first (drawRows film w h pic s r win (prepareOf film w h pic s m t n .map) (length out)) ≡ 0
+    draw-none = draw-free film w h pic s m t n done win (length out) (handed .wide) (handed .high) (handed .across) (handed .down) (handed .area)
 
     -- it accepts a window inside the film, and an output of its area, with the record and the mappings that prepare left
     pub draw-agrees : drawnSays (drawOf film w h pic s′ r win m′ out .answer) ≡ accepted tt
     draw-agrees =
         ap (λ (x : Shows). drawnSays (x .answer)) draw-same
-        ∙ table-says (draw-table film w h pic s r win (prepareOf film w h pic s m t .map) out)
+        ∙ table-says (draw-table film w h pic s r win (prepareOf film w h pic s m t n .map) out)
         ∙ ap (λ n. says n tt) draw-none
 
     -- and draws it from those mappings
     drawn-from : drawOf film w h pic s′ r win m′ out .out
-        ≡ cond (clipOne (s .clip)) (greysOf pic w (rectOf win)) (renderOf w h s (prepareOf film w h pic s m t .map) win (greysOf pic w (rectOf win)))
+        ≡ cond (clipOne (s .clip)) (greysOf pic w (rectOf win)) (renderOf w h s (prepareOf film w h pic s m t n .map) win (greysOf pic w (rectOf win)))
     drawn-from =
-        ap (λ (x : Shows). x .out) (draw-same ∙ draw-table film w h pic s r win (prepareOf film w h pic s m t .map) out .when-none draw-none)
-        ∙ drawn-pixels w h pic s win (prepareOf film w h pic s m t .map)
+        ap (λ (x : Shows). x .out) (draw-same ∙ draw-table film w h pic s r win (prepareOf film w h pic s m t n .map) out .when-none draw-none)
+        ∙ drawn-pixels w h pic s win (prepareOf film w h pic s m t n .map)
 
     -- "With the record and buffer that prepare left for the film, and the film's pixels as they were then, each drawn pixel is the one in enhance's picture."
     pub drawn-is-enhanced : (m₂ t₂ : List ℕ) → entriesOf s ≤ length m₂ → binsOf s ≤ length t₂ → (j i : ℕ) → j < win .height → i < win .width
@@ -159,12 +159,12 @@ module _ (film w h : ℕ) (pic : List ℕ) (s : Settings) (m t : List ℕ) {r : 
         ∙ sym (ap (λ (x : Over). getD (x .picture) ((win .top + j) * w + (win .left + i)) 0) (enhance-done w h pic s m₂ t₂ (enhance-agrees m₂ t₂ room scratch)))
       where
         same : (b : Bool) → clipOne (s .clip) ≡ b
-            → getD (cond b (greysOf pic w (rectOf win)) (renderOf w h s (prepareOf film w h pic s m t .map) win (greysOf pic w (rectOf win)))) (j * win .width + i) 0
+            → getD (cond b (greysOf pic w (rectOf win)) (renderOf w h s (prepareOf film w h pic s m t n .map) win (greysOf pic w (rectOf win)))) (j * win .width + i) 0
             ≡ getD (cond b pic (renderOf w h s (mappings w h pic s) (whole w h) pic)) ((win .top + j) * w + (win .left + i)) 0
         same true e = getD-greys pic w (rectOf win) l k
         same false e =
-            window-law w h s (prepareOf film w h pic s m t .map) win pic (handed .across) (handed .down) l k
-            ∙ ap (λ ys. getD ys ((win .top + j) * w + (win .left + i)) 0) (laid-render m (left-asks film w h pic s m t done e) (left-laid film w h pic s m t done e) refl)
+            window-law w h s (prepareOf film w h pic s m t n .map) win pic (handed .across) (handed .down) l k
+            ∙ ap (λ ys. getD ys ((win .top + j) * w + (win .left + i)) 0) (laid-render m (left-asks film w h pic s m t n done e) (left-laid film w h pic s m t n done e) refl)
 
     -- "or through a window from the record and mappings prepared for those pixels and unchanged since": each drawn pixel is the one of the integer rule
     pub own-window : clipOne (s .clip) ≡ false → (j i : ℕ) → j < win .height → i < win .width
@@ -174,12 +174,12 @@ module _ (film w h : ℕ) (pic : List ℕ) (s : Settings) (m t : List ℕ) {r : 
         ∙ own-rendering w h pic s m t (enhance-agrees m t (known .ready .fitting) (known .bins)) one (win .left + i) (win .top + j) (omega (arith, handed .across)) (omega (arith, handed .down))
       where
         known : Work w h pic s (length m) (length t)
-        known = prepare-work film w h pic s m t done
+        known = prepare-work film w h pic s m t n done
 
     -- at the factor 1.0 they are the film's own pixels
     pub drawn-is-film : clipOne (s .clip) ≡ true → (j i : ℕ) → j < win .height → i < win .width
         → getD (drawOf film w h pic s′ r win m′ out .out) (j * win .width + i) 0 ≡ getD pic ((win .top + j) * w + (win .left + i)) 0
     drawn-is-film one j i l k =
         ap (λ ys. getD ys (j * win .width + i) 0) drawn-from
-        ∙ ap (λ b. getD (cond b (greysOf pic w (rectOf win)) (renderOf w h s (prepareOf film w h pic s m t .map) win (greysOf pic w (rectOf win)))) (j * win .width + i) 0) one
+        ∙ ap (λ b. getD (cond b (greysOf pic w (rectOf win)) (renderOf w h s (prepareOf film w h pic s m t n .map) win (greysOf pic w (rectOf win)))) (j * win .width + i) 0) one
         ∙ getD-greys pic w (rectOf win) l k

@@ -121,11 +121,11 @@ module _ {w h : ℕ} {pic : List ℕ} {s : Settings} {room scratch : ℕ} (work 
 -- ---- every tile
 
 -- demand 3, of prepare: every tile of an accepted film with a factor above one, with its own limit, and the map entries that prepare leaves for it
-pub tiles-sound : (film w h : ℕ) (pic : List ℕ) (s : Settings) (m t : List ℕ) {r : MapRecord} {foot : Footer} {f : Float}
-    → preparedSays (prepareOf film w h pic s m t .answer) ≡ accepted (r, foot) → ClippingOn (s .clip) f
-    → FilmSound w h pic s f (prepareOf film w h pic s m t .map)
-tiles-sound film w h pic s m t e on k l =
-    tile-sound (prepare-work film w h pic s m t e) on k l _ (λ i q. own-mapping film w h pic s m t e (on-not-one on) k i l q)
+pub tiles-sound : (film w h : ℕ) (pic : List ℕ) (s : Settings) (m t n : List ℕ) {r : MapRecord} {foot : Footer} {f : Float}
+    → preparedSays (prepareOf film w h pic s m t n .answer) ≡ accepted (r, foot) → ClippingOn (s .clip) f
+    → FilmSound w h pic s f (prepareOf film w h pic s m t n .map)
+tiles-sound film w h pic s m t n e on k l =
+    tile-sound (prepare-work film w h pic s m t n e) on k l _ (λ i q. own-mapping film w h pic s m t n e (on-not-one on) k i l q)
 
 -- the same of enhance
 pub tiles-sound-enhance : (w h : ℕ) (pic : List ℕ) (s : Settings) (m t : List ℕ) {foot : Footer} {f : Float}
@@ -170,10 +170,10 @@ module _ {w h : ℕ} {pic : List ℕ} {s : Settings} {room scratch : ℕ} (work 
 
 -- the footer that prepare hands back: with a factor above one it shows the limit of tile 0, 0, the factor asked and the factor used of that limit,
 -- with clip off and at 1.0 what document 01 says
-pub footer-shows : (film w h : ℕ) (pic : List ℕ) (s : Settings) (m t : List ℕ) {r : MapRecord} {foot : Footer}
-    → preparedSays (prepareOf film w h pic s m t .answer) ≡ accepted (r, foot) → FooterShows (s .clip) (pixelsIn w h s 0) (binsOf s) foot
-footer-shows film w h pic s m t e =
-    subst (FooterShows (s .clip) (pixelsIn w h s 0) (binsOf s)) (prepare-foot film w h pic s m t e) (foot-shows (prepare-work film w h pic s m t e))
+pub footer-shows : (film w h : ℕ) (pic : List ℕ) (s : Settings) (m t n : List ℕ) {r : MapRecord} {foot : Footer}
+    → preparedSays (prepareOf film w h pic s m t n .answer) ≡ accepted (r, foot) → FooterShows (s .clip) (pixelsIn w h s 0) (binsOf s) foot
+footer-shows film w h pic s m t n e =
+    subst (FooterShows (s .clip) (pixelsIn w h s 0) (binsOf s)) (prepare-foot film w h pic s m t n e) (foot-shows (prepare-work film w h pic s m t n e))
 
 -- and so does the one of enhance
 pub footer-shows-enhance : (w h : ℕ) (pic : List ℕ) (s : Settings) (m t : List ℕ) {foot : Footer}

@@ -14,3 +14,4 @@ pub mod FileOutcomes
 pub mod Bins
 pub mod Covers
 pub mod Fitted
+pub mod Looks

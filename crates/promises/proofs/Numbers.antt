@@ -6,6 +6,7 @@ use lib.Ieee.{ofBits}
 use Rattle.lists.specs.Lists.{tab, total, same}
 use Rattle.limit.specs.Limit.{flooredOf, limitOf}
 use Rattle.clip.specs.Clip.{excess, share, left, walk, starts, clipped}
+use Rattle.clip.specs.Looks.{looksIn, looksFrom, looksOf}
 use Rattle.binning.specs.Binning.{binOf}
 use Rattle.tile.specs.Tile.{mappedOf, mappingOf}
 use Rattle.grid.specs.Grid.{edgeOf, sizeOf, centreOf}
@@ -13,5 +14,5 @@ use Rattle.blend.specs.Blend.{reachedOf, placeOf, greyOf}
 use Rattle.promises.specs.Worked.{greyAt, holds, allHold, worked}
 
 pub worked-numbers : allHold worked ≡ true
-unfolding same greyAt holds allHold worked ofBits tab total flooredOf limitOf excess share left walk starts clipped binOf mappedOf mappingOf edgeOf sizeOf centreOf reachedOf placeOf greyOf
+unfolding same greyAt holds allHold worked ofBits tab total flooredOf limitOf excess share left walk starts clipped looksIn looksFrom looksOf binOf mappedOf mappingOf edgeOf sizeOf centreOf reachedOf placeOf greyOf
 worked-numbers = refl

@@ -14,15 +14,15 @@ use Rattle.promises.proofs.Runs.{PrepareCall, Prepares, prepare-given, 
 
 -- "Bins B: 2 to 4096. 0 means 128.": prepare answers and leaves the same for 0 as for 128
 pub prepare-alike : {p q : PrepareCall} → Prepares p → Prepares q → prepare-read p ≡ prepare-read q
-    → (p .answer ≡ q .answer) × (p .map′ ≡ q .map′) × (p .scratch′ ≡ q .scratch′)
+    → (p .answer ≡ q .answer) × (p .map′ ≡ q .map′) × (p .scratch′ ≡ q .scratch′) × (p .list′ ≡ q .list′)
 prepare-alike {p} {q} x y same =
     let e =
     prepare-ends x
-    ∙ sym (prepare-kept (p .film) (p .width) (p .height) (p .pixels) (p .settings) (p .map) (p .scratch))
-    ∙ ap (λ g. prepareOf (g .0) (g .1) (g .2) (g .3) (g .4) (g .5) (g .6)) same
-    ∙ prepare-kept (q .film) (q .width) (q .height) (q .pixels) (q .settings) (q .map) (q .scratch)
+    ∙ sym (prepare-kept (p .film) (p .width) (p .height) (p .pixels) (p .settings) (p .map) (p .scratch) (p .list))
+    ∙ ap (λ g. prepareOf (g .0) (g .1) (g .2) (g .3) (g .4) (g .5) (g .6) (g .7)) same
+    ∙ prepare-kept (q .film) (q .width) (q .height) (q .pixels) (q .settings) (q .map) (q .scratch) (q .list)
     ∙ sym (prepare-ends y) in
-    (ap (λ (z : Ended). z .answer) e, ap (λ (z : Ended). z .map) e, ap (λ (z : Ended). z .scratch) e)
+    (ap (λ (z : Ended). z .answer) e, ap (λ (z : Ended). z .map) e, ap (λ (z : Ended). z .scratch) e, ap (λ (z : Ended). z .list) e)
 
 -- and so does enhance
 pub enhance-alike : {e f : EnhanceCall} → Enhances e → Enhances f → enhance-read e ≡ enhance-read f
@@ -54,10 +54,10 @@ draw-alike {d} {f} x y same =
 
 -- ---- any two outcomes are equal
 
--- prepare: one answer, one map buffer and one scratch at the end
+-- prepare: one answer, one map buffer, one scratch and one list at the end
 pub prepare-determined : {p q : PrepareCall} → Prepares p → Prepares q → prepare-given p ≡ prepare-given q
-    → (p .answer ≡ q .answer) × (p .map′ ≡ q .map′) × (p .scratch′ ≡ q .scratch′)
-prepare-determined x y same = prepare-alike x y (ap (λ g. (g .0, g .1, g .2, g .3, keptOf (g .4), g .5, g .6)) same)
+    → (p .answer ≡ q .answer) × (p .map′ ≡ q .map′) × (p .scratch′ ≡ q .scratch′) × (p .list′ ≡ q .list′)
+prepare-determined x y same = prepare-alike x y (ap (λ g. (g .0, g .1, g .2, g .3, keptOf (g .4), g .5, g .6, g .7)) same)
 
 -- enhance: one answer, one picture, one map buffer and one scratch at the end
 pub enhance-determined : {e f : EnhanceCall} → Enhances e → Enhances f → enhance-given e ≡ enhance-given f

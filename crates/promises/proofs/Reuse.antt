@@ -42,55 +42,55 @@ window-greys p w h pic win whole across down g =
 
 -- ---- what prepare left
 
-module _ (film w h : ℕ) (pic : List ℕ) (s : Settings) (m t : List ℕ) {r : MapRecord} {foot : Footer} (done : preparedSays (prepareOf film w h pic s m t .answer) ≡ accepted (r, foot)) where
+module _ (film w h : ℕ) (pic : List ℕ) (s : Settings) (m t n : List ℕ) {r : MapRecord} {foot : Footer} (done : preparedSays (prepareOf film w h pic s m t n .answer) ≡ accepted (r, foot)) where
   -- at the factor 1.0 the map buffer stays; else it holds the mappings
-  pub left-map : prepareOf film w h pic s m t .map ≡ cond (clipOne (s .clip)) m (onto m (mappings w h pic s))
+  pub left-map : prepareOf film w h pic s m t n .map ≡ cond (clipOne (s .clip)) m (onto m (mappings w h pic s))
   unfolding preparedOf
-  left-map = ap (λ (x : Ended). x .map) (prepare-done film w h pic s m t done)
+  left-map = ap (λ (x : Ended). x .map) (prepare-done film w h pic s m t n done)
 
   -- its length is what it was
-  pub left-length : length (prepareOf film w h pic s m t .map) ≡ length m
+  pub left-length : length (prepareOf film w h pic s m t n .map) ≡ length m
   left-length = ap length left-map ∙ go (clipOne (s .clip))
     where
       go : (b : Bool) → length (cond b m (onto m (mappings w h pic s))) ≡ length m
       go true = refl
-      go false = length-onto m (mappings w h pic s) (omega (arith, length-mappings w h pic s, prepare-work film w h pic s m t done .ready .fitting))
+      go false = length-onto m (mappings w h pic s) (omega (arith, length-mappings w h pic s, prepare-work film w h pic s m t n done .ready .fitting))
 
   -- so it is long enough
-  pub left-room : entriesOf s ≤ length (prepareOf film w h pic s m t .map)
-  left-room = rw left-length (prepare-work film w h pic s m t done .ready .fitting)
+  pub left-room : entriesOf s ≤ length (prepareOf film w h pic s m t n .map)
+  left-room = rw left-length (prepare-work film w h pic s m t n done .ready .fitting)
 
   -- the record's own settings are kept as the same
   pub left-settings : keptOf (r .settings) ≡ keptOf s
   left-settings =
-      ap (λ (x : MapRecord). keptOf (x .settings)) (sym (prepare-record film w h pic s m t done))
+      ap (λ (x : MapRecord). keptOf (x .settings)) (sym (prepare-record film w h pic s m t n done))
       ∙ ap keptOf (record-settings film w h s)
       ∙ kept-same s (keptOf s) refl refl (bins-kept s) refl refl refl
 
   -- with a factor that is not 1.0 the mappings lie there
-  pub left-laid : clipOne (s .clip) ≡ false → prepareOf film w h pic s m t .map ≡ onto m (mappings w h pic s)
+  pub left-laid : clipOne (s .clip) ≡ false → prepareOf film w h pic s m t n .map ≡ onto m (mappings w h pic s)
   left-laid one = left-map ∙ ap (λ b. cond b m (onto m (mappings w h pic s))) one
 
   -- so what the tiles ask is met
   pub left-asks : clipOne (s .clip) ≡ false → TilesAsk w h pic s (length m) (length t)
-  left-asks one = record { work = prepare-work film w h pic s m t done; changes = one }
+  left-asks one = record { work = prepare-work film w h pic s m t n done; changes = one }
 
   -- neither 13 nor 18 applies
-  pixels-free : (win : Window) → win .left + win .width ≤ w → win .top + win .height ≤ h → first (pixelRows w pic s win (prepareOf film w h pic s m t .map)) ≡ 0
+  pixels-free : (win : Window) → win .left + win .width ≤ w → win .top + win .height ≤ h → first (pixelRows w pic s win (prepareOf film w h pic s m t n .map)) ≡ 0
   pixels-free win across down =
-      pixel-free w pic s win (prepareOf film w h pic s m t .map)
+      pixel-free w pic s win (prepareOf film w h pic s m t n .map)
       (window-greys (within (s .min) (s .max)) w h pic win (known .ready .whole) across down (known .greys))
       (λ e. ap (all (within (s .min) (s .max))) (laid-front m (left-asks e) (left-laid e)) ∙ mappings-within (left-asks e))
     where
       known : Work w h pic s (length m) (length t)
-      known = prepare-work film w h pic s m t done
+      known = prepare-work film w h pic s m t n done
 
   -- none of draw's rows applies
   pub draw-free : (win : Window) (room : ℕ) → 0 < win .width → 0 < win .height → win .left + win .width ≤ w → win .top + win .height ≤ h → room ≡ win .height * win .width
-      → first (drawRows film w h pic s r win (prepareOf film w h pic s m t .map) room) ≡ 0
+      → first (drawRows film w h pic s r win (prepareOf film w h pic s m t n .map) room) ≡ 0
   draw-free win room wide high across down area =
-      sym (draw-pixel film w h pic s r win (prepareOf film w h pic s m t .map) room {a = 0} {b = 0} {c = 0} {x = 0}
-      (sym (ap (λ n. first (sharedRows w h (length pic) s n)) left-length ∙ table-both w h pic s (length m) (length t) (prepare-accepts film w h pic s m t done) .0)) refl
-      (sym (ap (λ x. first (recordRows film w h s x)) (sym (prepare-record film w h pic s m t done)) ∙ own-record film w h s (prepare-work film w h pic s m t done .ready .clip))) refl
+      sym (draw-pixel film w h pic s r win (prepareOf film w h pic s m t n .map) room {a = 0} {b = 0} {c = 0} {x = 0}
+      (sym (ap (λ n. first (sharedRows w h (length pic) s n)) left-length ∙ table-both w h pic s (length m) (length t) (length n) (prepare-accepts film w h pic s m t n done) .0)) refl
+      (sym (ap (λ x. first (recordRows film w h s x)) (sym (prepare-record film w h pic s m t n done)) ∙ own-record film w h s (prepare-work film w h pic s m t n done .ready .clip))) refl
       (sym (window-free w h win room wide high across down area)) refl
       (sym (pixels-free win across down)))

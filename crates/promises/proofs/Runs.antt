@@ -54,30 +54,32 @@ pub record PrepareCall : Type 0 where
   pub settings : Settings
   pub map : List ℕ
   pub scratch : List ℕ
+  pub list : List ℕ
   pub answer : Prepared
   pub map′ : List ℕ
   pub scratch′ : List ℕ
+  pub list′ : List ℕ
 
 abbrev pub prepare-values : Run prepare.ps prepare.r prepare-reads.Post → PrepareCall
 prepare-values run =
-    let (film, (width, (height, (pixels, (settings, (map, (scratch, end))))))) = run .handed in
-    let (_, (_, (_, (_, (_, (map′, (scratch′, end′))))))) = run .left in
-    record { film = film; width = width; height = height; pixels = now pixels; settings = settings; map = now map; scratch = now scratch; answer = run .answer; map′ = now map′; scratch′ = now scratch′ }
+    let (film, (width, (height, (pixels, (settings, (map, (scratch, (list, end)))))))) = run .handed in
+    let (_, (_, (_, (_, (_, (map′, (scratch′, (list′, end′)))))))) = run .left in
+    record { film = film; width = width; height = height; pixels = now pixels; settings = settings; map = now map; scratch = now scratch; list = now list; answer = run .answer; map′ = now map′; scratch′ = now scratch′; list′ = now list′ }
 
 -- what it is handed
-abbrev pub prepare-given : PrepareCall → ℕ × ℕ × ℕ × List ℕ × Settings × List ℕ × List ℕ
-prepare-given c = (c .film, c .width, c .height, c .pixels, c .settings, c .map, c .scratch)
+abbrev pub prepare-given : PrepareCall → ℕ × ℕ × ℕ × List ℕ × Settings × List ℕ × List ℕ × List ℕ
+prepare-given c = (c .film, c .width, c .height, c .pixels, c .settings, c .map, c .scratch, c .list)
 
 -- what it reads of that: the settings "with bins 0 kept as 128"
-abbrev pub prepare-read : PrepareCall → ℕ × ℕ × ℕ × List ℕ × Settings × List ℕ × List ℕ
-prepare-read c = (c .film, c .width, c .height, c .pixels, keptOf (c .settings), c .map, c .scratch)
+abbrev pub prepare-read : PrepareCall → ℕ × ℕ × ℕ × List ℕ × Settings × List ℕ × List ℕ × List ℕ
+prepare-read c = (c .film, c .width, c .height, c .pixels, keptOf (c .settings), c .map, c .scratch, c .list)
 
 -- prepare ran with these values
 abbrev pub Prepares : PrepareCall → Type 0
 Prepares = Ran prepare-values
 
 pub prepare-ends : {p : PrepareCall} → Prepares p
-    → ending (p .answer) (p .map′) (p .scratch′) ≡ prepareOf (p .film) (p .width) (p .height) (p .pixels) (p .settings) (p .map) (p .scratch)
+    → ending (p .answer) (p .map′) (p .scratch′) (p .list′) ≡ prepareOf (p .film) (p .width) (p .height) (p .pixels) (p .settings) (p .map) (p .scratch) (p .list)
 prepare-ends ran = rw (ran .named) (ran .run .allowed)
 
 -- ---- enhance

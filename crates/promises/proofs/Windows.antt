@@ -28,15 +28,15 @@ use Rattle.promises.proofs.Accepted.{table-accepted, table-done, prepar
 use Rattle.promises.proofs.Demand2.{draw-agrees, drawn-is-enhanced, own-window, drawn-is-film}
 
 -- a window that draw accepted, with the record that prepare made, the pixels as they were then, and the mappings that it left
-module _ (film w h : ℕ) (pic : List ℕ) (s : Settings) (m t : List ℕ) {r : MapRecord} {foot : Footer} (done : preparedSays (prepareOf film w h pic s m t .answer) ≡ accepted (r, foot))
+module _ (film w h : ℕ) (pic : List ℕ) (s : Settings) (m t n : List ℕ) {r : MapRecord} {foot : Footer} (done : preparedSays (prepareOf film w h pic s m t n .answer) ≡ accepted (r, foot))
     (film′ w′ h′ : ℕ) (s′ : Settings) (m′ : List ℕ) (win : Window) (out : List ℕ) (drawn : drawnSays (drawOf film′ w′ h′ pic s′ r win m′ out .answer) ≡ accepted tt)
-    (front : clipOne (s .clip) ≡ false → take (entriesOf s) m′ ≡ take (entriesOf s) (prepareOf film w h pic s m t .map)) where
+    (front : clipOne (s .clip) ≡ false → take (entriesOf s) m′ ≡ take (entriesOf s) (prepareOf film w h pic s m t n .map)) where
   known : DrawReady film′ w′ h′ pic s′ r win m′ (length out)
   known = draw-ready film′ w′ h′ pic s′ r win m′ (length out) (table-accepted (draw-table film′ w′ h′ pic s′ r win m′ out) drawn .0)
 
   -- it has the film's number and sizes, and its settings
   held : Held film′ w′ h′ s′ (recordOf film w h s)
-  held = subst (Held film′ w′ h′ s′) (sym (prepare-record film w h pic s m t done)) (known .held)
+  held = subst (Held film′ w′ h′ s′) (sym (prepare-record film w h pic s m t n done)) (known .held)
 
   wide : w′ ≡ w
   wide = held .wide ∙ record-width film w h s
@@ -66,7 +66,7 @@ module _ (film w h : ℕ) (pic : List ℕ) (s : Settings) (m t : List ℕ) {r : 
   entries = rw (bins, across, down) refl
 
   -- so it is a window that prepare's record and mappings can be handed on for
-  pub accepted-handed : HandedOn w h s (prepareOf film w h pic s m t .map) s m′ win (length out)
+  pub accepted-handed : HandedOn w h s (prepareOf film w h pic s m t n .map) s m′ win (length out)
   accepted-handed =
       record {
         like = refl;
@@ -84,14 +84,14 @@ module _ (film w h : ℕ) (pic : List ℕ) (s : Settings) (m t : List ℕ) {r : 
   accepted-same =
       table-done (draw-table film′ w′ h′ pic s′ r win m′ out) drawn
       ∙ ap (showing Done) (drawn-pixels w′ h′ pic s′ win m′ ∙ pixels ∙ sym (drawn-pixels w h pic s win m′))
-      ∙ sym (table-done (draw-table film w h pic s r win m′ out) (draw-agrees film w h pic s m t done s m′ win out accepted-handed))
+      ∙ sym (table-done (draw-table film w h pic s r win m′ out) (draw-agrees film w h pic s m t n done s m′ win out accepted-handed))
     where
       greys : List ℕ
       greys = greysOf pic w (rectOf win)
 
       pixels : cond (clipOne (s′ .clip)) (greysOf pic w′ (rectOf win)) (renderOf w′ h′ s′ m′ win (greysOf pic w′ (rectOf win))) ≡ cond (clipOne (s .clip)) greys (renderOf w h s m′ win greys)
       pixels =
-          rw (wide, high, same-clip-one (s′ .clip) (s .clip) (known .shown .ready .clip) (prepare-work film w h pic s m t done .ready .clip) clip)
+          rw (wide, high, same-clip-one (s′ .clip) (s .clip) (known .shown .ready .clip) (prepare-work film w h pic s m t n done .ready .clip) clip)
           (ap (cond (clipOne (s .clip)) greys) (render-fields w h s s′ m′ win greys across down bins least most))
 
   -- demand 2, "through a window from the record and mappings prepared for those pixels and unchanged since": whatever else was handed to draw, each drawn pixel of an accepted
@@ -99,16 +99,16 @@ module _ (film w h : ℕ) (pic : List ℕ) (s : Settings) (m t : List ℕ) {r : 
   pub accepted-by-rule : clipOne (s .clip) ≡ false → (j i : ℕ) → j < win .height → i < win .width
       → getD (drawOf film′ w′ h′ pic s′ r win m′ out .out) (j * win .width + i) 0 ≡ ruleGrey w h pic s (win .left + i) (win .top + j)
   accepted-by-rule one j i l k =
-      ap (λ (x : Shows). getD (x .out) (j * win .width + i) 0) accepted-same ∙ own-window film w h pic s m t done s m′ win out accepted-handed one j i l k
+      ap (λ (x : Shows). getD (x .out) (j * win .width + i) 0) accepted-same ∙ own-window film w h pic s m t n done s m′ win out accepted-handed one j i l k
 
   -- at the factor 1.0 the film's own
   pub accepted-as-film : clipOne (s .clip) ≡ true → (j i : ℕ) → j < win .height → i < win .width
       → getD (drawOf film′ w′ h′ pic s′ r win m′ out .out) (j * win .width + i) 0 ≡ getD pic ((win .top + j) * w + (win .left + i)) 0
   accepted-as-film one j i l k =
-      ap (λ (x : Shows). getD (x .out) (j * win .width + i) 0) accepted-same ∙ drawn-is-film film w h pic s m t done s m′ win out accepted-handed one j i l k
+      ap (λ (x : Shows). getD (x .out) (j * win .width + i) 0) accepted-same ∙ drawn-is-film film w h pic s m t n done s m′ win out accepted-handed one j i l k
 
   -- and the one in enhance's picture
   pub accepted-as-enhanced : (m₂ t₂ : List ℕ) → entriesOf s ≤ length m₂ → binsOf s ≤ length t₂ → (j i : ℕ) → j < win .height → i < win .width
       → getD (drawOf film′ w′ h′ pic s′ r win m′ out .out) (j * win .width + i) 0 ≡ getD (enhanceOf w h pic s m₂ t₂ .picture) ((win .top + j) * w + (win .left + i)) 0
   accepted-as-enhanced m₂ t₂ room scratch j i l k =
-      ap (λ (x : Shows). getD (x .out) (j * win .width + i) 0) accepted-same ∙ drawn-is-enhanced film w h pic s m t done s m′ win out accepted-handed m₂ t₂ room scratch j i l k
+      ap (λ (x : Shows). getD (x .out) (j * win .width + i) 0) accepted-same ∙ drawn-is-enhanced film w h pic s m t n done s m′ win out accepted-handed m₂ t₂ room scratch j i l k

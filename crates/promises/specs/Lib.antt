@@ -1,3 +1,4 @@
 pub mod Worked
 pub mod Films
 pub mod Fitted
+pub mod Looks

@@ -9,6 +9,7 @@ use lib.Ieee.{ofBits, binary32}
 use Rattle.lists.specs.Lists.{same}
 use Rattle.limit.specs.Limit.{limitOf}
 use Rattle.clip.specs.Clip.{clipped}
+use Rattle.clip.specs.Looks.{looksOf}
 use Rattle.binning.specs.Binning.{binOf}
 use Rattle.tile.specs.Tile.{mappingOf}
 use Rattle.grid.specs.Grid.{edgeOf, centreOf}
@@ -21,6 +22,8 @@ pub data Worked : Type 0 where
   limit : ℕ → ℕ → ℕ → ℕ → Worked
   -- L and counts: the clipped counts
   clip : ℕ → List ℕ → List ℕ → Worked
+  -- the same: how many bins the leftover walk looks at
+  looks : ℕ → List ℕ → ℕ → Worked
   -- Min, Max, N and counts: the mapping
   mapping : ℕ → ℕ → ℕ → List ℕ → List ℕ → Worked
   -- Min, Max, B and a grey: its bin
@@ -52,6 +55,7 @@ greyAt side x y =
 unfoldable pub holds : Worked → Bool
 holds (limit f n b l) = eqb (limitOf (ofBits binary32 f) n b) l
 holds (clip l cs ds) = same (clipped l cs) ds
+holds (looks l cs n) = eqb (looksOf l cs) n
 holds (mapping lo hi n cs vs) = same (mappingOf lo hi n cs) vs
 holds (bin lo hi b v k) = eqb (binOf lo hi b v) k
 holds (edge side grid i e) = eqb (edgeOf side grid i) e
@@ -96,4 +100,10 @@ worked =
     ∷ place 5 2 2 (0 ∷ 1 ∷ 1 ∷ 1 ∷ 2 ∷ [])
     -- A film of 5 by 5, grid 2 by 2, the same mapped values: pixel x 2, y 2 gives 25.
     ∷ grey 5 2 2 25
+    -- Order 7, the looks of the counts above. L 6, 16,0,0,0: 5; 9,5,1,1: 4; 11,5,0,0: 4. L 7, 19,6,0,0: 8. L 4, 16,0,0,0: 4.
+    ∷ looks 6 (16 ∷ 0 ∷ 0 ∷ 0 ∷ []) 5
+    ∷ looks 6 (9 ∷ 5 ∷ 1 ∷ 1 ∷ []) 4
+    ∷ looks 6 (11 ∷ 5 ∷ 0 ∷ 0 ∷ []) 4
+    ∷ looks 7 (19 ∷ 6 ∷ 0 ∷ 0 ∷ []) 8
+    ∷ looks 4 (16 ∷ 0 ∷ 0 ∷ 0 ∷ []) 4
     ∷ []

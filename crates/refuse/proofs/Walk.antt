@@ -137,6 +137,14 @@ first-same s t rest k l e = go (first s) refl
     go zero z = first-behind s rest (first-none s k z) ∙ sym (first-behind t rest (first-none t l (sym e ∙ z)))
     go (suc n) z = first-front s rest (λ q. omega (arith, z, q)) ∙ (e ∙ sym (first-front t rest (λ q. omega (arith, z, e, q))))
 
+-- and the same behind one, where they give the same number once it gives none
+pub first-rest : (s t u : List Row) → Numbered s → (first s ≡ 0 → first t ≡ first u) → first (s ++ t) ≡ first (s ++ u)
+first-rest s t u k same = go (first s) refl
+  where
+    go : (n : ℕ) → first s ≡ n → first (s ++ t) ≡ first (s ++ u)
+    go zero z = first-behind s t (first-none s k z) ∙ (same z ∙ sym (first-behind s u (first-none s k z)))
+    go (suc n) z = first-front s t (λ q. omega (arith, z, q)) ∙ sym (first-front s u (λ q. omega (arith, z, q)))
+
 -- ---- what a number leaves
 
 -- a number other than 0 is a refusal

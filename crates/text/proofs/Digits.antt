@@ -14,13 +14,13 @@ use Rattle.header.proofs.Writing.{decimal-one, decimal-more}
 use Rattle.text.specs.declared.Text.{Text}
 use Rattle.text.specs.Text.{putOf}
 
-pub put-room : (t : Text) (b : ℕ) → t .end < 768 → _≡_ {A = Text} (record { bytes = set (t .bytes) (t .end) b; end = t .end + 1 }) (putOf t b)
+pub put-room : (t : Text) (b : ℕ) → t .end < 1368 → _≡_ {A = Text} (record { bytes = set (t .bytes) (t .end) b; end = t .end + 1 }) (putOf t b)
 unfolding putOf
-put-room t b h = rw (lt-ltb (t .end) 768 h) refl
+put-room t b h = rw (lt-ltb (t .end) 1368 h) refl
 
-pub put-full : (t : Text) (b : ℕ) → 768 ≤ t .end → t ≡ putOf t b
+pub put-full : (t : Text) (b : ℕ) → 1368 ≤ t .end → t ≡ putOf t b
 unfolding putOf
-put-full t b h = rw (le-ltb (t .end) 768 h) refl
+put-full t b h = rw (le-ltb (t .end) 1368 h) refl
 
 -- a decimal digit's byte
 decimal-glyph : (n : ℕ) → n < 10 → glyph n ≡ 48 + n

@@ -17,11 +17,11 @@ run f a (b ∷ bs) = run f (f a b) bs
 
 -- a line with no byte
 unfoldable pub blankText : Text
-blankText = record { bytes = replicate 768 0; end = 0 }
+blankText = record { bytes = replicate 1368 0; end = 0 }
 
 -- one byte more; as it is where it is full
 unfoldable pub putOf : Text → ℕ → Text
-putOf t b = cond (ltb (t .end) 768) (record { bytes = set (t .bytes) (t .end) b; end = t .end + 1 }) t
+putOf t b = cond (ltb (t .end) 1368) (record { bytes = set (t .bytes) (t .end) b; end = t .end + 1 }) t
 
 -- all bytes of a list more
 abbrev pub putsOf : Text → List ℕ → Text

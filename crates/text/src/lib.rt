@@ -7,9 +7,9 @@ ghost use lib.Ieee.{binary32, binary64, toBits};
 ghost use Rattle.text.specs.Text.{blankText, putOf, putsOf, startOf, fieldOf, fieldsOf, hexFieldOf, endOf, lineOf, isSmall, smallOf};
 use libc::STDOUT_FILENO;
 
-// Its bytes, and how many there are. The longest line lists 64 numbers of 10 digits behind a number of 20.
+// Its bytes, and how many there are. The longest line lists 64 numbers of 20 digits behind a number of 20.
 pub struct Text {
-    pub bytes: [u8; 768],
+    pub bytes: [u8; 1368],
     pub end: usize,
 }
 
@@ -18,7 +18,7 @@ pub fn blank() -> Text
     ensures { λ r. ⌜ r ≡ blankText ⌝ }
 {
     Text {
-        bytes: [0; 768],
+        bytes: [0; 1368],
         end: 0,
     }
 }
@@ -29,7 +29,7 @@ fn put(t: Text, b: u8) -> Text
 {
     let at = t.end;
     let mut next = t;
-    if at < 768 {
+    if at < 1368 {
         next.bytes[at] = b;
         next.end = at + 1;
     }
@@ -136,6 +136,12 @@ pub fn three(letter: u8, no: u64, a: u64, b: u64, c: u64) -> Text
     end(field(field(field(start(letter, no), a), b), c))
 }
 
+pub fn four(letter: u8, no: u64, a: u64, b: u64, c: u64, d: u64) -> Text
+    ensures { λ r. ⌜ r ≡ lineOf letter no (a ∷ b ∷ c ∷ d ∷ []) ⌝ }
+{
+    end(field(field(field(field(start(letter, no), a), b), c), d))
+}
+
 // The fields of all entries.
 fn fields(t: Text, entries: &[u16]) -> Text
     ensures { λ r. ⌜ r ≡ fieldsOf t (now (entries .entry)) ⌝ }
@@ -168,6 +174,18 @@ pub fn word_fields(t: Text, entries: &[u32]) -> Text
     let mut i = 0;
     while i < entries.len() {
         line = field(line, entries[i] as u64);
+        i += 1;
+    }
+    line
+}
+
+fn long_fields(t: Text, entries: &[u64]) -> Text
+    ensures { λ r. ⌜ r ≡ fieldsOf t (now (entries .entry)) ⌝ }
+{
+    let mut line = t;
+    let mut i = 0;
+    while i < entries.len() {
+        line = field(line, entries[i]);
         i += 1;
     }
     line
@@ -211,6 +229,15 @@ pub fn small_words(letter: u8, no: u64, entries: &[u32]) -> Text
     blank()
 }
 
+pub fn small_longs(letter: u8, no: u64, entries: &[u64]) -> Text
+    ensures { λ r. ⌜ r ≡ smallOf letter no (now (entries .entry)) ⌝ }
+{
+    if is_small(entries.len()) {
+        return end(long_fields(start(letter, no), entries));
+    }
+    blank()
+}
+
 // One of two letters.
 pub fn either(is_first: bool, first: u8, second: u8) -> u8
     ensures { λ r. ⌜ r ≡ cond «is_first» first second ⌝ }
@@ -232,9 +259,9 @@ fn least(a: usize, b: usize) -> usize
 
 // Writes a line to standard output; answers how many bytes it has.
 pub fn print(t: Text) -> usize
-    ensures { λ r. ⌜ r ≡ min (t .end) 768 ⌝ }
+    ensures { λ r. ⌜ r ≡ min (t .end) 1368 ⌝ }
 {
-    let n = least(t.end, 768);
+    let n = least(t.end, 1368);
     let bytes = t.bytes;
     io::write_all(STDOUT_FILENO, &bytes[..n]);
     n

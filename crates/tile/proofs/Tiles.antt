@@ -12,12 +12,14 @@ use Rattle.lists.proofs.Fills.{take-onto, drop-onto}
 use Rattle.limit.specs.declared.Clip.{Clip}
 use Rattle.limit.specs.declared.Clip.the-variants.{Off, Factor}
 use Rattle.limit.specs.Limit.{limitOf, allowed, LimitAsks}
+use Rattle.clip.specs.declared.Spent.{Spent}
 use Rattle.clip.specs.Clip.{clipped}
+use Rattle.clip.specs.Looks.{spentAs, spentOf}
 use Rattle.clip.specs.Asks.{ClipAsks}
 use Rattle.clip.proofs.Laws.{length-clipped, total-clipped, clipped-most}
 use Rattle.scan.specs.Scan.{within}
 use Rattle.tally.specs.Tally.{countsOf, greysOf}
-use Rattle.tile.specs.Tile.{clippedBy, mappedOf, mappingOf, countsMapping, tileCounts, tileMapping, Holds, factor, ClipByAsks, MapAsks, FromAsks, TileAsks, TileMapped}
+use Rattle.tile.specs.Tile.{clippedBy, mappedOf, mappingOf, countsMapping, tileCounts, tileMapping, spentBy, tileSpent, Holds, factor, ClipByAsks, MapAsks, FromAsks, FromMapped, TileAsks, TileMapped}
 use Rattle.tally.specs.declared.Rect.{Rect}
 use Rattle.tally.proofs.Greys.{length-greys}
 use Rattle.tally.proofs.Counts.{length-counts, total-counts}
@@ -58,6 +60,22 @@ pub clipped-factor : {clip : Clip} {f : Float} (n : ℕ) (cs : List ℕ) {l : �
     → ds ≡ clippedBy clip n cs
 unfolding clippedBy
 clipped-factor n cs e q h = rw e (h ∙ ap (λ k. clipped k cs) q)
+
+-- with clip off clipping takes nothing
+pub spent-off : {clip : Clip} (n : ℕ) (cs : List ℕ) → clip ≡ Off → spentAs 0 0 ≡ spentBy clip n cs
+unfolding spentBy
+spent-off n cs e = rw e refl
+
+-- else what clipping at the limit takes
+pub spent-factor : {clip : Clip} {f : Float} (n : ℕ) (cs : List ℕ) {l : ℕ} {took : Spent} → clip ≡ Factor f → l ≡ limitOf f n (length cs) → took ≡ spentOf l cs
+    → took ≡ spentBy clip n cs
+unfolding spentBy
+spent-factor n cs e q h = rw e (h ∙ ap (λ k. spentOf k cs) q)
+
+-- of a tile with these greys, by their counts
+pub tile-spent : (lo hi b : ℕ) (clip : Clip) (vs : List ℕ) → tileSpent lo hi b clip vs ≡ spentBy clip (length vs) (countsOf lo hi b vs)
+unfolding tileSpent
+tile-spent lo hi b clip vs = refl
 
 pub length-clipped-by : (clip : Clip) (n : ℕ) (cs : List ℕ) → length (clippedBy clip n cs) ≡ length cs
 unfolding clippedBy
@@ -243,14 +261,15 @@ module _ {pic : List ℕ} {stride : ℕ} {r : Rect} {lo hi b : ℕ} {clip : Clip
         }
 
     -- at the end
-    pub tile-mapped : (o : List ℕ) {p o′ : List ℕ} → p ≡ clippedBy clip (r .width * r .height) (take b s)
-        → o′ ≡ onto o (countsMapping lo hi clip (r .width * r .height) (take b s))
-        → TileMapped lo hi b clip (greysOf pic stride r) d (p ++ drop b s) o o′
-    unfolding tileMapping tileCounts onto
-    tile-mapped o {p} {o′} q h =
+    pub tile-mapped : (o : List ℕ) {p o′ : List ℕ} {took : Spent} → p ≡ clippedBy clip (r .width * r .height) (take b s)
+        → o′ ≡ onto o (countsMapping lo hi clip (r .width * r .height) (take b s)) → took ≡ spentBy clip (r .width * r .height) (take b s)
+        → TileMapped lo hi b clip (greysOf pic stride r) d (p ++ drop b s) o o′ took
+    unfolding tileMapping tileCounts tileSpent onto
+    tile-mapped o {p} {o′} q h k =
         record {
           counts = ap₂ (λ x y. x ++ y) (q ∙ ap₂ (clippedBy clip) (sym tile-pixels) tile-counted) behind;
           mapping = h ∙ ap₂ (λ n cs. onto o (countsMapping lo hi clip n cs)) (sym tile-pixels) tile-counted;
+          spent = k ∙ ap₂ (spentBy clip) (sym tile-pixels) tile-counted;
         }
       where
         behind : drop b s ≡ drop (length (tileCounts lo hi b clip (greysOf pic stride r))) d

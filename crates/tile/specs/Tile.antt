@@ -10,7 +10,9 @@ use Rattle.lists.specs.Lists.{tab, total, onto}
 use Rattle.limit.specs.declared.Clip.{Clip}
 use Rattle.limit.specs.declared.Clip.the-variants.{Off, Factor}
 use Rattle.limit.specs.Limit.{limitOf, allowed}
+use Rattle.clip.specs.declared.Spent.{Spent}
 use Rattle.clip.specs.Clip.{clipped}
+use Rattle.clip.specs.Looks.{spentAs, spentOf}
 use Rattle.tally.specs.declared.Rect.{Rect}
 use Rattle.tally.specs.Tally.{countsOf, CountAsks}
 
@@ -38,6 +40,15 @@ tileCounts lo hi b clip vs = clippedBy clip (length vs) (countsOf lo hi b vs)
 -- and the mapping of these same counts
 unfoldable pub tileMapping : ℕ → ℕ → ℕ → Clip → List ℕ → List ℕ
 tileMapping lo hi b clip vs = countsMapping lo hi clip (length vs) (countsOf lo hi b vs)
+
+-- order 7, "E, and the number of looks" of a tile's raw counts: "With clip off both are 0"
+unfoldable pub spentBy : Clip → ℕ → List ℕ → Spent
+spentBy Off n cs = spentAs 0 0
+spentBy (Factor f) n cs = spentOf (limitOf f n (length cs)) cs
+
+-- and of a tile with these greys
+unfoldable pub tileSpent : ℕ → ℕ → ℕ → Clip → List ℕ → Spent
+tileSpent lo hi b clip vs = spentBy clip (length vs) (countsOf lo hi b vs)
 
 -- ---- what the functions ask
 
@@ -77,7 +88,14 @@ pub record TileAsks (pic : List ℕ) (stride : ℕ) (r : Rect) (lo hi b : ℕ) (
   pub holds : Holds clip (r .width * r .height) b
   pub room : b ≤ out
 
--- what `mapping` leaves: the counts in the front of the scratch, the mapping in the front of the output, all else as it was
-pub record TileMapped (lo hi b : ℕ) (clip : Clip) (vs scratch₀ scratch out₀ out : List ℕ) : Type 0 where
+-- what `mapping` leaves: the counts in the front of the scratch, the mapping in the front of the output, all else as it was; and what clipping took
+pub record TileMapped (lo hi b : ℕ) (clip : Clip) (vs scratch₀ scratch out₀ out : List ℕ) (took : Spent) : Type 0 where
   pub counts : scratch ≡ onto scratch₀ (tileCounts lo hi b clip vs)
   pub mapping : out ≡ onto out₀ (tileMapping lo hi b clip vs)
+  pub spent : took ≡ tileSpent lo hi b clip vs
+
+-- what `from_counts` leaves of counts: the clipped ones, their mapping in the front of the output; and what clipping took
+pub record FromMapped (clip : Clip) (n lo hi : ℕ) (cs ds out₀ out : List ℕ) (took : Spent) : Type 0 where
+  pub counts : ds ≡ clippedBy clip n cs
+  pub mapping : out ≡ onto out₀ (countsMapping lo hi clip n cs)
+  pub spent : took ≡ spentBy clip n cs

@@ -3,7 +3,8 @@ ghost use mathlib.Core.Path.{_≡_};
 ghost use lib.ListN.{length};
 ghost use Rattle.lists.specs.Lists.{onto};
 ghost use Rattle.tally.specs.Tally.{greysOf};
-ghost use Rattle.tile.specs.Tile.{mappingOf, clippedBy, countsMapping, MapAsks, ClipByAsks, FromAsks, TileAsks, TileMapped};
+ghost use Rattle.tile.specs.Tile.{mappingOf, clippedBy, spentBy, MapAsks, ClipByAsks, FromAsks, FromMapped, TileAsks, TileMapped};
+use clip::Spent;
 use limit::Clip;
 use tally::Rect;
 
@@ -23,30 +24,41 @@ pub fn map(counts: &[u32], pixels: u32, min: u32, max: u32, out: &mut [u16])
     }
 }
 
-// The counts clipped by the clip setting; with clip off the raw counts stay.
-fn clip_by(clip: Clip, pixels: u32, counts: &mut [u32])
+// The counts clipped by the clip setting; with clip off the raw counts stay, and nothing is taken.
+fn clip_by(clip: Clip, pixels: u32, counts: &mut [u32]) -> Spent
     requires { ⌜ ClipByAsks clip pixels (now counts) ⌝ }
-    ensures { λ _. ⌜ now (counts .exit) ≡ clippedBy clip pixels (now (counts .entry)) ⌝ }
+    ensures { λ r. ⌜ (now (counts .exit) ≡ clippedBy clip pixels (now (counts .entry))) × (r ≡ spentBy clip pixels (now (counts .entry))) ⌝ }
 {
     match clip {
-        Clip::Off => (),
+        Clip::Off => Spent {
+            excess: 0,
+            looks: 0,
+        },
         Clip::Factor(factor) => {
             let most = limit::limit(factor, pixels, counts.len() as u32);
-            clip::clip(counts, most);
+            clip::clip(counts, most)
         }
     }
 }
 
-// Clips the counts by the setting, and maps them: what is left of `mapping` behind `count`.
-pub fn from_counts(clip: Clip, pixels: u32, min: u32, max: u32, counts: &mut [u32], out: &mut [u16])
+// Clips the counts by the setting, and maps them: what is left of `mapping` behind `count`. The answer is what clipping took.
+pub fn from_counts(
+    clip: Clip,
+    pixels: u32,
+    min: u32,
+    max: u32,
+    counts: &mut [u32],
+    out: &mut [u16],
+) -> Spent
     requires { ⌜ FromAsks clip pixels min max (now counts) (length (now out)) ⌝ }
-    ensures { λ _. ⌜ (now (counts .exit) ≡ clippedBy clip pixels (now (counts .entry))) × (now (out .exit) ≡ onto (now (out .entry)) (countsMapping min max clip pixels (now (counts .entry)))) ⌝ }
+    ensures { λ r. ⌜ FromMapped clip pixels min max (now (counts .entry)) (now (counts .exit)) (now (out .entry)) (now (out .exit)) r ⌝ }
 {
-    clip_by(clip, pixels, counts);
+    let spent = clip_by(clip, pixels, counts);
     map(counts, pixels, min, max, out);
+    spent
 }
 
-// A tile's mapping from its pixels: counted, clipped, mapped. The counts stay in the front of the scratch.
+// A tile's mapping from its pixels: counted, clipped, mapped. The counts stay in the front of the scratch. The answer is what clipping took.
 pub fn mapping(
     picture: &[u16],
     stride: usize,
@@ -57,12 +69,12 @@ pub fn mapping(
     clip: Clip,
     scratch: &mut [u32],
     out: &mut [u16],
-)
+) -> Spent
     requires { ⌜ TileAsks (now picture) stride rect min max bins clip (length (now scratch)) (length (now out)) ⌝ }
-    ensures { λ _. ⌜ TileMapped min max bins clip (greysOf (now (picture .entry)) stride rect) (now (scratch .entry)) (now (scratch .exit)) (now (out .entry)) (now (out .exit)) ⌝ }
+    ensures { λ r. ⌜ TileMapped min max bins clip (greysOf (now (picture .entry)) stride rect) (now (scratch .entry)) (now (scratch .exit)) (now (out .entry)) (now (out .exit)) r ⌝ }
 {
     let pixels = (rect.width * rect.height) as u32;
     let entries = bins as usize;
     tally::count(picture, stride, rect, min, max, bins, scratch);
-    from_counts(clip, pixels, min, max, &mut scratch[..entries], out);
+    from_counts(clip, pixels, min, max, &mut scratch[..entries], out)
 }

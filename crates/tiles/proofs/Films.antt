@@ -21,6 +21,7 @@ use Rattle.limit.proofs.Laws.{limit-holds}
 use Rattle.tally.specs.declared.Rect.{Rect}
 use Rattle.scan.specs.Scan.{within}
 use Rattle.tally.specs.Tally.{greysOf, countsOf}
+use Rattle.clip.specs.declared.Spent.{Spent}
 use Rattle.tile.specs.Tile.{mappedOf, countsMapping, tileCounts, tileMapping, Holds, off, factor, TileMapped}
 use Rattle.tile.specs.Tile as tile
 use Rattle.tally.proofs.Greys.{greys-all}
@@ -28,7 +29,7 @@ use Rattle.tile.proofs.Tiles.{length-tile-counts, tile-mapping-from, length-til
 use Rattle.settings.specs.declared.Settings.{Settings}
 use Rattle.settings.specs.Settings.{binsOf, entriesOf, clipBad, clipOne, Ready}
 use Rattle.settings.proofs.Ready.{entries-small}
-use Rattle.tiles.specs.Tiles.{tileOf, pixelsIn, tileMap, mappings, TilesAsk, TileAsks, TileDone}
+use Rattle.tiles.specs.Tiles.{tileOf, pixelsIn, tileMap, mappings, spentIn, TilesAsk, TileAsks, TileDone}
 use Rattle.tiles.proofs.Tiles.{tile-area, length-tile-greys, tile-inside}
 
 -- ---- the limit has room for a tile's pixels
@@ -148,16 +149,19 @@ tile-asks m {w} {h} {pic} {s} {k} {scratch} asks {r} {b} p q =
 
 -- what it leaves
 pub tile-done : {w h : ℕ} {pic : List ℕ} {s : Settings} {k : ℕ} {m t : List ℕ} → TileAsks w h pic s k (length m) (length t)
-    → {r : Rect} {b : ℕ} {ys u : List ℕ} → r ≡ tileOf w h s k → b ≡ binsOf s
-    → TileMapped (s .min) (s .max) b (s .clip) (greysOf pic w r) t u (take (k * b + b - k * b) (drop (k * b) m)) ys
-    → TileDone w h pic s k m (putMid (k * b) (k * b + b - k * b) m ys) t u
-unfolding tileMap
+    → {r : Rect} {b : ℕ} {ys u : List ℕ} {took : Spent} → r ≡ tileOf w h s k → b ≡ binsOf s
+    → TileMapped (s .min) (s .max) b (s .clip) (greysOf pic w r) t u (take (k * b + b - k * b) (drop (k * b) m)) ys took
+    → TileDone w h pic s k m (putMid (k * b) (k * b + b - k * b) m ys) t u took
+unfolding tileMap spentIn
 tile-done {w} {h} {pic} {s} {k} {m} {t} asks {r} {b} {ys} {u} p q done =
     record {
-      map = over-part m (tileMapping (s .min) (s .max) b (s .clip) (greysOf pic w r)) (k * b) b (tile-room asks q) (length-tile-mapping _ _ b (s .clip) _) (done .mapping)
-          ∙ rw (p, q) refl;
-      behind = ap (drop (binsOf s)) (done .counts) ∙ drop-onto t (tileCounts (s .min) (s .max) b (s .clip) (greysOf pic w r)) (binsOf s) counts;
-      size = ap length (done .counts) ∙ length-onto t (tileCounts (s .min) (s .max) b (s .clip) (greysOf pic w r)) (omega (arith, counts, asks .film .work .bins));
+      placed = record {
+        map = over-part m (tileMapping (s .min) (s .max) b (s .clip) (greysOf pic w r)) (k * b) b (tile-room asks q) (length-tile-mapping _ _ b (s .clip) _) (done .mapping)
+            ∙ rw (p, q) refl;
+        behind = ap (drop (binsOf s)) (done .counts) ∙ drop-onto t (tileCounts (s .min) (s .max) b (s .clip) (greysOf pic w r)) (binsOf s) counts;
+        size = ap length (done .counts) ∙ length-onto t (tileCounts (s .min) (s .max) b (s .clip) (greysOf pic w r)) (omega (arith, counts, asks .film .work .bins));
+      };
+      spent = done .spent ∙ rw (p, q) refl;
     }
   where
     counts : length (tileCounts (s .min) (s .max) b (s .clip) (greysOf pic w r)) ≡ binsOf s

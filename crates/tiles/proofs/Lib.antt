@@ -3,3 +3,5 @@ pub mod Footers
 pub mod Films
 pub mod Turns
 pub mod Like
+pub mod Spents
+pub mod Bounds

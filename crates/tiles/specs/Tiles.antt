@@ -1,10 +1,10 @@
 -- Document 01, "From pixels to mappings" for all tiles of a film, and the footer of "What each call hands back".
 -- w and h are the film's width and height, pic its pixels.
 -- Assumes nothing.
-use Prim.Native.Nat.{ℕ, _*_, _/_, _%_, _≤_, _<_}
+use Prim.Native.Nat.{ℕ, _+_, _*_, _/_, _%_, _≤_, _<_}
 use mathlib.Core.Path.{_≡_}
 use mathlib.Core.Bool.{true, false, cond}
-use mathlib.Core.List.{List}
+use mathlib.Core.List.{List, [], _∷_}
 use lib.IntN.{pos}
 use lib.Ieee.{Float, fin}
 use lib.ListN.{length, drop}
@@ -16,7 +16,8 @@ use Rattle.grid.specs.Grid.{edgeOf, sizeOf, Fits}
 use Rattle.tally.specs.declared.Rect.{Rect}
 use Rattle.scan.specs.Scan.{within}
 use Rattle.tally.specs.Tally.{greysOf}
-use Rattle.tile.specs.Tile.{tileMapping}
+use Rattle.clip.specs.declared.Spent.{Spent}
+use Rattle.tile.specs.Tile.{tileMapping, tileSpent}
 use Rattle.settings.specs.declared.Settings.{Settings}
 use Rattle.settings.specs.declared.Footer.{Footer}
 use Rattle.settings.specs.Settings.{binsOf, clipBad, clipOne, Tiled, Ready}
@@ -50,6 +51,24 @@ tileMap w h pic s k = tileMapping (s .min) (s .max) (binsOf s) (s .clip) (greysO
 -- "the mappings, tiles row by row, bins upward"
 unfoldable pub mappings : ℕ → ℕ → List ℕ → Settings → List ℕ
 mappings w h pic s = joined (s .across * s .down) (tileMap w h pic s)
+
+-- ---- order 7: how long the leftover walk is
+
+-- "E, and the number of looks" of tile k, from that tile's own pixels
+unfoldable pub spentIn : ℕ → ℕ → List ℕ → Settings → ℕ → Spent
+spentIn w h pic s k = tileSpent (s .min) (s .max) (binsOf s) (s .clip) (greysOf pic w (tileOf w h s k))
+
+-- the "two entries" of a tile
+abbrev pub spentPair : Spent → List ℕ
+spentPair p = p .excess ∷ p .looks ∷ []
+
+-- the list "in which each tile in row order has two entries"
+unfoldable pub spents : ℕ → ℕ → List ℕ → Settings → List ℕ
+spents w h pic s = joined (s .across * s .down) (λ k. spentPair (spentIn w h pic s k))
+
+-- its entries: "twice the number of tiles"
+abbrev pub spentEntries : Settings → ℕ
+spentEntries s = 2 * (s .across * s .down)
 
 -- ---- the footer
 
@@ -92,16 +111,26 @@ pub record FooterAsks (clip : Clip) (n b : ℕ) : Type 0 where
   pub least : 2 ≤ b
   pub most : b ≤ 4096
 
+-- what `put_spent` asks: tile k of a film's, and a list with room for its two entries
+pub record SpentAsks (k list : ℕ) : Type 0 where
+  pub tile : k < 256
+  pub room : k * 2 + 2 ≤ list
+
 -- what a call knows once none of the rows 1 to 13 and 31 applies
 pub record Work (w h : ℕ) (pic : List ℕ) (s : Settings) (room scratch : ℕ) : Type 0 where
   pub ready : Ready w h (length pic) s room
   pub bins : binsOf s ≤ scratch
   pub greys : all (within (s .min) (s .max)) pic ≡ true
 
--- what `map_tiles` asks: that, and a factor that is not 1.0
+-- what `map_tile` knows of the film: that, and a factor that is not 1.0
 pub record TilesAsk (w h : ℕ) (pic : List ℕ) (s : Settings) (room scratch : ℕ) : Type 0 where
   pub work : Work w h pic s room scratch
   pub changes : clipOne (s .clip) ≡ false
+
+-- what `map_tiles` asks: that, and a list with two entries for each tile
+pub record ListAsks (w h : ℕ) (pic : List ℕ) (s : Settings) (room scratch list : ℕ) : Type 0 where
+  pub film : TilesAsk w h pic s room scratch
+  pub pairs : spentEntries s ≤ list
 
 -- what `map_tile` asks: that, of one of the tiles
 pub record TileAsks (w h : ℕ) (pic : List ℕ) (s : Settings) (k room scratch : ℕ) : Type 0 where
@@ -114,15 +143,17 @@ pub record Placed (s : Settings) (k : ℕ) (mapping m₀ m t₀ t : List ℕ) : 
   pub behind : drop (binsOf s) t ≡ drop (binsOf s) t₀
   pub size : length t ≡ length t₀
 
--- what laying down all of them leaves: the mappings in front, and the scratch's first B entries zero
-pub record AllPlaced (s : Settings) (mapped m₀ m t₀ t : List ℕ) : Type 0 where
+-- what laying down all of them leaves: the mappings in front, the scratch's first B entries zero, and the tiles' pairs in the front of the list
+pub record AllPlaced (s : Settings) (mapped pairs m₀ m t₀ t n₀ n : List ℕ) : Type 0 where
   pub map : m ≡ onto m₀ mapped
   pub scratch : t ≡ filled (λ k. 0) t₀ (binsOf s)
+  pub list : n ≡ onto n₀ pairs
 
--- what `map_tile` leaves
-abbrev pub TileDone : ℕ → ℕ → List ℕ → Settings → ℕ → List ℕ → List ℕ → List ℕ → List ℕ → Type 0
-TileDone w h pic s k = Placed s k (tileMap w h pic s k)
+-- what `map_tile` leaves and answers
+pub record TileDone (w h : ℕ) (pic : List ℕ) (s : Settings) (k : ℕ) (m₀ m t₀ t : List ℕ) (took : Spent) : Type 0 where
+  pub placed : Placed s k (tileMap w h pic s k) m₀ m t₀ t
+  pub spent : took ≡ spentIn w h pic s k
 
 -- what `map_tiles` leaves
-abbrev pub TilesDone : ℕ → ℕ → List ℕ → Settings → List ℕ → List ℕ → List ℕ → List ℕ → Type 0
-TilesDone w h pic s = AllPlaced s (mappings w h pic s)
+abbrev pub TilesDone : ℕ → ℕ → List ℕ → Settings → List ℕ → List ℕ → List ℕ → List ℕ → List ℕ → List ℕ → Type 0
+TilesDone w h pic s = AllPlaced s (mappings w h pic s) (spents w h pic s)

@@ -2,8 +2,10 @@
 ghost use mathlib.Core.Path.{_≡_};
 ghost use Prim.Native.Nat.{_<_, _*_};
 ghost use lib.ListN.{length};
+ghost use Rattle.lists.specs.Lists.{over};
 ghost use Rattle.settings.specs.Settings.{Tiled};
-ghost use Rattle.tiles.specs.Tiles.{footerOf, footOf, tileRect, pixelsIn, RectAsks, FilmAsks, FooterAsks, TileAsks, TilesAsk, TileDone, TilesDone};
+ghost use Rattle.tiles.specs.Tiles.{footerOf, footOf, tileRect, pixelsIn, spentPair, RectAsks, FilmAsks, FooterAsks, SpentAsks, TileAsks, ListAsks, TileDone, TilesDone};
+use clip::Spent;
 use limit::Clip;
 use settings::Footer;
 use settings::Settings;
@@ -78,7 +80,17 @@ pub fn foot(width: u32, height: u32, s: Settings) -> Footer
     footer(clip, pixels, settings::bins(s))
 }
 
-// Makes the mapping of tile k, in its place in the map buffer.
+// Lays the two entries of tile k down in the list: its excess, and the looks of its leftover walk.
+pub fn put_spent(list: &mut [u64], k: usize, spent: Spent)
+    requires { ⌜ SpentAsks k (length (now list)) ⌝ }
+    ensures { λ _. ⌜ now (list .exit) ≡ over (now (list .entry)) (k * 2) (spentPair spent) ⌝ }
+{
+    let at = k * 2;
+    list[at] = spent.excess;
+    list[at + 1] = spent.looks;
+}
+
+// Makes the mapping of tile k, in its place in the map buffer. The answer is what clipping took.
 fn map_tile(
     picture: &[u16],
     width: u32,
@@ -87,9 +99,9 @@ fn map_tile(
     k: usize,
     map: &mut [u16],
     scratch: &mut [u32],
-)
+) -> Spent
     requires { ⌜ TileAsks width height (now picture) s k (length (now map)) (length (now scratch)) ⌝ }
-    ensures { λ _. ⌜ TileDone width height (now (picture .entry)) s k (now (map .entry)) (now (map .exit)) (now (scratch .entry)) (now (scratch .exit)) ⌝ }
+    ensures { λ r. ⌜ TileDone width height (now (picture .entry)) s k (now (map .entry)) (now (map .exit)) (now (scratch .entry)) (now (scratch .exit)) r ⌝ }
 {
     let rect = tile_rect(width, height, s.across, s.down, k);
     let clip = s.clip;
@@ -107,10 +119,10 @@ fn map_tile(
         clip,
         scratch,
         &mut map[a..e],
-    );
+    )
 }
 
-// Makes the mappings of all tiles; the scratch is left zero.
+// Makes the mappings of all tiles, and lays down what clipping each took; the scratch is left zero.
 pub fn map_tiles(
     picture: &[u16],
     width: u32,
@@ -118,14 +130,16 @@ pub fn map_tiles(
     s: Settings,
     map: &mut [u16],
     scratch: &mut [u32],
+    list: &mut [u64],
 )
-    requires { ⌜ TilesAsk width height (now picture) s (length (now map)) (length (now scratch)) ⌝ }
-    ensures { λ _. ⌜ TilesDone width height (now (picture .entry)) s (now (map .entry)) (now (map .exit)) (now (scratch .entry)) (now (scratch .exit)) ⌝ }
+    requires { ⌜ ListAsks width height (now picture) s (length (now map)) (length (now scratch)) (length (now list)) ⌝ }
+    ensures { λ _. ⌜ TilesDone width height (now (picture .entry)) s (now (map .entry)) (now (map .exit)) (now (scratch .entry)) (now (scratch .exit)) (now (list .entry)) (now (list .exit)) ⌝ }
 {
     let tiles = (s.across * s.down) as usize;
     let mut k = 0;
     while k < tiles {
-        map_tile(picture, width, height, s, k, map, scratch);
+        let spent = map_tile(picture, width, height, s, k, map, scratch);
+        put_spent(list, k, spent);
         k += 1;
     }
     let each = settings::bins(s) as usize;

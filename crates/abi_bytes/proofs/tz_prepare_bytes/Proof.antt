@@ -25,8 +25,11 @@ same-length c = search needs
 same-length-2 : tie.Need-same-length-2
 same-length-2 c = search needs
 
+same-length-3 : tie.Need-same-length-3
+same-length-3 c = search needs
+
 returns : tie.Need-returns
-returns c = rw (← c .before .before .before .before .before .before .before .before .before .before .before .before .before .before .before .before .before .settings-from .ensures) (prepared-handed _ _ (c .before .before .before .before .before .before .before .before .before .before .before .before .before .before .prepare-bytes .ensures) (c .put-prepared .ensures))
+returns c = rw (← c .before .before .before .before .before .before .before .before .before .before .before .before .before .before .before .before .before .before .before .before .settings-from .ensures) (prepared-handed _ _ (c .before .before .before .before .before .before .before .before .before .before .before .before .before .before .before .before .prepare-bytes .ensures) (c .put-prepared .ensures))
 
 pub tz-prepare-bytes-spec : {M : Type 1} → statement M
 tz-prepare-bytes-spec =
@@ -37,4 +40,5 @@ tz-prepare-bytes-spec =
     put-prepared-requires
     same-length
     same-length-2
+    same-length-3
     returns)

@@ -25,8 +25,11 @@ same-length c = search needs
 same-length-2 : tie.Need-same-length-2
 same-length-2 c = search needs
 
+same-length-3 : tie.Need-same-length-3
+same-length-3 c = search needs
+
 returns : tie.Need-returns
-returns c = rw (← c .before .before .before .before .before .before .before .before .before .before .before .before .before .before .before .before .before .settings-from .ensures) (prepared-handed _ _ (c .before .before .before .before .before .before .before .before .before .before .before .before .before .before .map-counts .ensures) (c .put-prepared .ensures))
+returns c = rw (← c .before .before .before .before .before .before .before .before .before .before .before .before .before .before .before .before .before .before .before .before .settings-from .ensures) (prepared-handed _ _ (c .before .before .before .before .before .before .before .before .before .before .before .before .before .before .before .before .map-counts .ensures) (c .put-prepared .ensures))
 
 pub tz-map-spec : {M : Type 1} → statement M
 tz-map-spec =
@@ -37,4 +40,5 @@ tz-map-spec =
     put-prepared-requires
     same-length
     same-length-2
+    same-length-3
     returns)

@@ -27,7 +27,7 @@ same-length : tie.Need-same-length
 same-length c = search needs
 
 returns : tie.Need-returns
-returns c = clip-ends _ (c .before .before .before .before .before .before .before .before .excess .ensures) (c .before .before .before .before .before .before .share-out .ensures) (c .before .before .hand-out .ensures)
+returns c = clip-ends _ _ (c .before .before .before .before .before .before .before .before .excess .ensures) (c .before .before .before .before .before .before .share-out .ensures) (c .before .before .hand-out .ensures)
 
 pub clip-spec : {M : Type 1} → statement M
 clip-spec =

@@ -1,4 +1,4 @@
--- `map_one` lays the mapping of tile k in its place.
+-- `map_one` lays the mapping of tile k in its place, and answers what clipping took.
 -- Assumes nothing.
 use native.Mathlib.Omega.{arith}
 use Rattle.counting.proofs.Tiles.{block-room, block-small}
@@ -59,7 +59,7 @@ same-length-2 : tie.Need-same-length-2
 same-length-2 c = search needs
 
 returns : tie.Need-returns
-returns c = one-mapped (c .before .before .before .before .before .before .before .before .before .before .before .before .before .before .before .before .args .map .now) (c .before .before .before .before .before .before .before .before .before .before .before .before .before .before .before .before .args .scratch .now) (c .before .before .before .before .before .before .before .before .before .before .before .before .before .before .before .before .pre) (c .before .before .before .before .before .before .before .before .before .before .before .bins .ensures) (c .before .before .before .before .before .before .before .before .before .copy-tile .ensures) (c .before .before .before .before .before .before .before .before .before .before .before .before .tile-pixels .ensures) (c .before .before .before .before .from-counts .ensures .0) (c .before .before .before .before .from-counts .ensures .1)
+returns c = one-mapped (c .before .before .before .before .before .before .before .before .before .before .before .before .before .before .before .before .args .map .now) (c .before .before .before .before .before .before .before .before .before .before .before .before .before .before .before .before .args .scratch .now) (c .before .before .before .before .before .before .before .before .before .before .before .before .before .before .before .before .pre) (c .before .before .before .before .before .before .before .before .before .before .before .bins .ensures) (c .before .before .before .before .before .before .before .before .before .copy-tile .ensures) (c .before .before .before .before .before .before .before .before .before .before .before .before .tile-pixels .ensures) (c .before .before .before .before .from-counts .ensures .counts) (c .before .before .before .before .from-counts .ensures .mapping) (c .before .before .before .before .from-counts .ensures .spent)
 
 pub map-one-spec : {M : Type 1} → statement M
 map-one-spec =

@@ -36,21 +36,21 @@ all-add-up-requires : tie.Need-all-add-up-requires
 all-add-up-requires c κs =
     record {
       tiled = tiling-tiled _ _ _ (sym (c .before .before .before .tiling-refusal .ensures) ∙ c .before .before .if1 .left) .0;
-      fitting = lent-fits _ _ _ _ (sym (c .before .lent-refusal .ensures) ∙ c .if2 .left) .2;
+      fitting = lent-fits _ _ _ _ _ (sym (c .before .lent-refusal .ensures) ∙ c .if2 .left) .3;
     }
 
 returns-3 : tie.Need-returns-3
 unfolding mapRows
 returns-3 c =
     behind _ _ (tiling-numbered _ _ _) (c .before .before .before .before .before .tiling-refusal .ensures) (c .before .before .before .before .if1 .left)
-    (behind _ _ (lent-numbered _ _ _ _) (c .before .before .before .lent-refusal .ensures) (c .before .before .if2 .left)
+    (behind _ _ (lent-numbered _ _ _ _ _) (c .before .before .before .lent-refusal .ensures) (c .before .before .if2 .left)
     (sum-row _ _ _ _ false (sym (not-true _ (c .if3 .taken)) ∙ c .before .all-add-up .ensures)))
 
 returns-4 : tie.Need-returns-4
 unfolding mapRows
 returns-4 c =
     behind _ _ (tiling-numbered _ _ _) (c .before .before .before .before .before .tiling-refusal .ensures) (c .before .before .before .before .if1 .left)
-    (behind _ _ (lent-numbered _ _ _ _) (c .before .before .before .lent-refusal .ensures) (c .before .before .if2 .left)
+    (behind _ _ (lent-numbered _ _ _ _ _) (c .before .before .before .lent-refusal .ensures) (c .before .before .if2 .left)
     (sum-row _ _ _ _ true (sym (not-false _ (c .if3 .left)) ∙ c .before .all-add-up .ensures)))
 
 pub map-refusal-spec : {M : Type 1} → statement M

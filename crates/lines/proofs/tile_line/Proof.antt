@@ -1,4 +1,4 @@
--- Seven numbers in a line. Assumes nothing.
+-- Eight numbers in a line. Assumes nothing.
 use Prim.Native.Nat.{_+_, _*_}
 use native.Mathlib.Omega.{arith}
 use Rattle.lines.proofs.Lines.{short-none, short-more}
@@ -9,56 +9,56 @@ use Rattle.lines.proofs.tile_line.Tie as tie
 mul-a : tie.Need-mul-a
 mul-a c = search needs
 
-cast-t9 : tie.Need-cast-t9
-cast-t9 c = search needs
+cast-t10 : tie.Need-cast-t10
+cast-t10 c = search needs
 
-cast-t11 : tie.Need-cast-t11
-cast-t11 c = search needs
+cast-t12 : tie.Need-cast-t12
+cast-t12 c = search needs
 
-mul-t12 : tie.Need-mul-t12
-mul-t12 c = search needs
+mul-t13 : tie.Need-mul-t13
+mul-t13 c = search needs
 
-shared-slice-read-t14 : tie.Need-shared-slice-read-t14
-shared-slice-read-t14 c = search needs
+shared-slice-read-t15 : tie.Need-shared-slice-read-t15
+shared-slice-read-t15 c = search needs
 
-cast-t15 : tie.Need-cast-t15
-cast-t15 c = omega (arith, c .shared-slice-known2 .given (c .before .before .before .args .k * 4))
+cast-t16 : tie.Need-cast-t16
+cast-t16 c = omega (arith, c .shared-slice-known2 .given (c .before .before .before .args .k * 4))
 
-add-t16 : tie.Need-add-t16
-add-t16 c = search needs
+add-t17 : tie.Need-add-t17
+add-t17 c = search needs
 
-mul-t17 : tie.Need-mul-t17
-mul-t17 c = search needs
+mul-t18 : tie.Need-mul-t18
+mul-t18 c = search needs
 
-shared-slice-read-t19 : tie.Need-shared-slice-read-t19
-shared-slice-read-t19 c = search needs
+shared-slice-read-t20 : tie.Need-shared-slice-read-t20
+shared-slice-read-t20 c = search needs
 
-cast-t20 : tie.Need-cast-t20
-cast-t20 c = omega (arith, c .shared-slice-known3 .given (c .before .before .before .before .args .k * 4 + 1))
+cast-t21 : tie.Need-cast-t21
+cast-t21 c = omega (arith, c .shared-slice-known3 .given (c .before .before .before .before .args .k * 4 + 1))
 
-add-t21 : tie.Need-add-t21
-add-t21 c = search needs
+add-t22 : tie.Need-add-t22
+add-t22 c = search needs
 
-mul-t22 : tie.Need-mul-t22
-mul-t22 c = search needs
+mul-t23 : tie.Need-mul-t23
+mul-t23 c = search needs
 
-shared-slice-read-t24 : tie.Need-shared-slice-read-t24
-shared-slice-read-t24 c = search needs
+shared-slice-read-t25 : tie.Need-shared-slice-read-t25
+shared-slice-read-t25 c = search needs
 
-cast-t25 : tie.Need-cast-t25
-cast-t25 c = omega (arith, c .shared-slice-known4 .given (c .before .before .before .before .before .args .k * 4 + 2))
+cast-t26 : tie.Need-cast-t26
+cast-t26 c = omega (arith, c .shared-slice-known4 .given (c .before .before .before .before .before .args .k * 4 + 2))
 
-add-t26 : tie.Need-add-t26
-add-t26 c = search needs
+add-t27 : tie.Need-add-t27
+add-t27 c = search needs
 
-mul-t27 : tie.Need-mul-t27
-mul-t27 c = search needs
+mul-t28 : tie.Need-mul-t28
+mul-t28 c = search needs
 
-shared-slice-read-t29 : tie.Need-shared-slice-read-t29
-shared-slice-read-t29 c = search needs
+shared-slice-read-t30 : tie.Need-shared-slice-read-t30
+shared-slice-read-t30 c = search needs
 
-cast-t30 : tie.Need-cast-t30
-cast-t30 c = omega (arith, c .shared-slice-known5 .given (c .before .before .before .before .before .before .args .k * 4 + 3))
+cast-t31 : tie.Need-cast-t31
+cast-t31 c = omega (arith, c .shared-slice-known5 .given (c .before .before .before .before .before .before .args .k * 4 + 3))
 
 slice-aggregate-write-line : tie.Need-slice-aggregate-write-line
 slice-aggregate-write-line c = search needs
@@ -67,7 +67,7 @@ write-line-requires : tie.Need-write-line-requires
 write-line-requires c κs =
     record {
       some = omega arith;
-      small = short-more _ _ (omega arith) (short-more _ _ (omega arith) (short-more _ _ (omega arith) (short-more _ _ (omega (arith, (c .before .before .shared-slice-known5 .given (c .before .before .before .before .before .before .before .before .args .k * 4)))) (short-more _ _ (omega (arith, (c .before .before .shared-slice-known5 .given (c .before .before .before .before .before .before .before .before .args .k * 4 + 1)))) (short-more _ _ (omega (arith, (c .before .before .shared-slice-known5 .given (c .before .before .before .before .before .before .before .before .args .k * 4 + 2)))) (short-more _ _ (omega (arith, (c .before .before .shared-slice-known5 .given (c .before .before .before .before .before .before .before .before .args .k * 4 + 3)))) short-none))))));
+      small = short-more _ _ (omega arith) (short-more _ _ (omega arith) (short-more _ _ (omega arith) (short-more _ _ (omega arith) (short-more _ _ (omega (arith, (c .before .before .shared-slice-known5 .given (c .before .before .before .before .before .before .before .before .args .k * 4)))) (short-more _ _ (omega (arith, (c .before .before .shared-slice-known5 .given (c .before .before .before .before .before .before .before .before .args .k * 4 + 1)))) (short-more _ _ (omega (arith, (c .before .before .shared-slice-known5 .given (c .before .before .before .before .before .before .before .before .args .k * 4 + 2)))) (short-more _ _ (omega (arith, (c .before .before .shared-slice-known5 .given (c .before .before .before .before .before .before .before .before .args .k * 4 + 3)))) short-none)))))));
       fitting = omega arith;
     }
 
@@ -82,23 +82,23 @@ tile-line-spec =
     tie.close
     (tie.spec
     mul-a
-    cast-t9
-    cast-t11
-    mul-t12
-    shared-slice-read-t14
-    cast-t15
-    add-t16
-    mul-t17
-    shared-slice-read-t19
-    cast-t20
-    add-t21
-    mul-t22
-    shared-slice-read-t24
-    cast-t25
-    add-t26
-    mul-t27
-    shared-slice-read-t29
-    cast-t30
+    cast-t10
+    cast-t12
+    mul-t13
+    shared-slice-read-t15
+    cast-t16
+    add-t17
+    mul-t18
+    shared-slice-read-t20
+    cast-t21
+    add-t22
+    mul-t23
+    shared-slice-read-t25
+    cast-t26
+    add-t27
+    mul-t28
+    shared-slice-read-t30
+    cast-t31
     slice-aggregate-write-line
     write-line-requires
     same-length

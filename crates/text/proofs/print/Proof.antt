@@ -12,11 +12,11 @@ least-requires c κs = search needs
 
 array-share-prefix-bytes : tie.Need-array-share-prefix-bytes
 array-share-prefix-bytes c =
-    let h : length (c .before .before .args .t .bytes) ≡ 768 = sym (length-map (c .before .before .args .t .bytes) (λ v. v)) ∙ c .before .before .good .0 .1 .1 .0 .1 .0 .1 in omega (arith, c .before .least .ensures)
+    let h : length (c .before .before .args .t .bytes) ≡ 1368 = sym (length-map (c .before .before .args .t .bytes) (λ v. v)) ∙ c .before .before .good .0 .1 .1 .0 .1 .0 .1 in omega (arith, c .before .least .ensures)
 
 slice-aggregate-write-all : tie.Need-slice-aggregate-write-all
 slice-aggregate-write-all c =
-    let h : length (c .before .before .before .args .t .bytes) ≡ 768 = sym (length-map (c .before .before .before .args .t .bytes) (λ v. v)) ∙ c .before .before .before .good .0 .1 .1 .0 .1 .0 .1 in
+    let h : length (c .before .before .before .args .t .bytes) ≡ 1368 = sym (length-map (c .before .before .before .args .t .bytes) (λ v. v)) ∙ c .before .before .before .good .0 .1 .1 .0 .1 .0 .1 in
     sym (length-take-le (c .before .before .least .result) (c .before .before .before .args .t .bytes) (omega (arith, c .before .before .least .ensures)))
 
 write-all-requires : tie.Need-write-all-requires

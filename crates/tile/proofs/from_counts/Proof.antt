@@ -9,7 +9,7 @@ clip-by-requires : tie.Need-clip-by-requires
 clip-by-requires c κs = search needs
 
 map-requires : tie.Need-map-requires
-map-requires c κs = from-map-asks (c .before .before .before .before .before .before .before .before .pre) (c .before .before .before .before .clip-by .ensures)
+map-requires c κs = from-map-asks (c .before .before .before .before .before .before .before .before .pre) (c .before .before .before .before .clip-by .ensures .0)
 
 same-length : tie.Need-same-length
 same-length c = search needs
@@ -18,7 +18,13 @@ same-length-2 : tie.Need-same-length-2
 same-length-2 c = search needs
 
 returns : tie.Need-returns
-returns c = (c .before .before .before .before .before .before .before .clip-by .ensures, from-mapped (c .before .before .before .before .before .before .before .before .before .before .before .pre) (c .before .before .before .before .before .before .before .clip-by .ensures) _ (c .before .before .map .ensures))
+returns c =
+    let clipped = c .before .before .before .before .before .before .before .clip-by .ensures in
+    record {
+      counts = clipped .0;
+      mapping = from-mapped (c .before .before .before .before .before .before .before .before .before .before .before .pre) (clipped .0) _ (c .before .before .map .ensures);
+      spent = clipped .1;
+    }
 
 pub from-counts-spec : {M : Type 1} → statement M
 from-counts-spec =

@@ -1,4 +1,4 @@
--- `count_films::film::turns` is safe and ends: map and scratch keep their lengths. The measure is the turns left. Assumes nothing.
+-- `count_films::film::turns` is safe and ends: map, scratch and list keep their lengths. The measure is the turns left. Assumes nothing.
 use borrow.Author.Needs.{needs}
 use Prim.Native.Nat.{_≤_, _-_}
 use mathlib.Core.Path.{_≡_}
@@ -7,10 +7,10 @@ use Rattle.count_films.proofs.film.turns.Statement.{statement}
 use Rattle.count_films.proofs.film.turns.Tie as tie
 
 abbrev Inv-loop : tie.InvT-loop
-Inv-loop row count lent m₀ s₀ i₀ m s i = (length m ≡ length m₀) × (length s ≡ length s₀) × (i ≤ count)
+Inv-loop row count lent m₀ s₀ l₀ i₀ m s l i = (length m ≡ length m₀) × (length s ≡ length s₀) × (length l ≡ length l₀) × (i ≤ count)
 
 abbrev μ-loop : tie.MeasureT-loop
-μ-loop row count lent m₀ s₀ i₀ m s i = count - i
+μ-loop row count lent m₀ s₀ l₀ i₀ m s l i = count - i
 
 loop-holds : tie.Need-loop-holds Inv-loop μ-loop
 loop-holds c = search needs
@@ -36,6 +36,9 @@ same-length c = search needs
 same-length-2 : tie.Need-same-length-2 Inv-loop μ-loop
 same-length-2 c = search needs
 
+same-length-3 : tie.Need-same-length-3 Inv-loop μ-loop
+same-length-3 c = search needs
+
 returns : tie.Need-returns Inv-loop μ-loop
 returns c = search needs
 
@@ -53,4 +56,5 @@ turns-spec =
     loop-again
     same-length
     same-length-2
+    same-length-3
     returns)
