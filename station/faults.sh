@@ -2,7 +2,7 @@
 # station/faults.sh [PROGRAM]: tries what can go wrong around the command line program, and prints what it saw. PROGRAM is
 # another build of it, one with sanitizers for instance; then the limits on memory are left out, as it may want more.
 #
-# In every trial OUT holds a text beforehand. A trial is as expected where the exit status is the one named, OUT is as it
+# In every trial OUT holds a text beforehand, and --force permits its being replaced. A trial is as expected where the exit status is the one named, OUT is as it
 # was (or, after status 0, a whole film), and no file is left beside it; a kill that comes too late finds the whole film
 # there. The last line counts the trials. What cannot be tried on this machine or as this user is named and not counted.
 set -u
@@ -72,11 +72,19 @@ judge() { # WHAT WANTED SAW
     no_leftover out || ok=no
     report "$ok" "$1" "status $3: $(head -n 1 said | cut -c 1-90)"
 }
+over() { # COMMAND WORDS..: as a command that may replace what is there
+    command=$1
+    shift
+    timeout 120 "$tz" "$command" --force "$@"
+}
 try() { # WHAT WANTED WORDS..
     what=$1 wanted=$2
     shift 2
     cp before "$out"
-    timeout 120 "$tz" "$@" >wrote 2>said
+    case ${1:-} in
+    enhance | window) over "$@" >wrote 2>said ;;
+    *) timeout 120 "$tz" "$@" >wrote 2>said ;;
+    esac
     judge "$what" "$wanted" $?
 }
 
@@ -216,7 +224,7 @@ told='A sample is above'
 try 'a sample above maxval' 26 enhance above.pgm "$out"
 largest 65536 >white.pgm
 "$tz" enhance big.pgm whole.pgm 2>said
-"$tz" enhance white.pgm "$out" 2>said
+over enhance white.pgm "$out" 2>said
 saw=$?
 if [ "$saw" -eq 0 ] && cmp -s whole.pgm "$out" && no_leftover out; then ok=yes; else ok=no; fi
 report "$ok" 'a header of 64 KiB before the largest film: rendered' "status $saw"
@@ -229,15 +237,15 @@ try 'a header of 99,999 bytes, a window' 65 window white.pgm "$out" --at 0,0 --s
 rm white.pgm
 cp before "$out"
 told='standard input is longer'
-{ printf 'P5'; tr '\0' ' ' </dev/zero; } 2>/dev/null | timeout 120 "$tz" enhance - "$out" >wrote 2>said
+{ printf 'P5'; tr '\0' ' ' </dev/zero; } 2>/dev/null | timeout 120 "$tz" enhance --force - "$out" >wrote 2>said
 judge 'white space without end, through a pipe' 65 $?
 told='is longer than 33619968 bytes'
 try 'an input without end' 65 enhance /dev/zero "$out"
 cp before "$out"
-{ printf 'P5\n9999 9999\n4095\n'; cat /dev/zero; } 2>/dev/null | timeout 120 "$tz" enhance - "$out" >wrote 2>said
+{ printf 'P5\n9999 9999\n4095\n'; cat /dev/zero; } 2>/dev/null | timeout 120 "$tz" enhance --force - "$out" >wrote 2>said
 judge 'too large a film without end, through a pipe' 22 $?
 cp before "$out"
-{ printf 'P5\n4096 4096\n4095\n'; cat /dev/zero; } 2>/dev/null | timeout 120 "$tz" enhance - "$out" >wrote 2>said
+{ printf 'P5\n4096 4096\n4095\n'; cat /dev/zero; } 2>/dev/null | timeout 120 "$tz" enhance --force - "$out" >wrote 2>said
 judge 'a raster without end, through a pipe' 25 $?
 try 'no such file' 66 enhance nowhere.pgm "$out"
 try 'an input that is a folder' 66 enhance out "$out"
@@ -251,7 +259,7 @@ try 'a listing of a film of three greys' 31 listing three.pgm
 
 # ---- standard input and output
 cp before "$out"
-"$tz" enhance - "$out" <&- >wrote 2>said
+"$tz" enhance --force - "$out" <&- >wrote 2>said
 judge 'standard input closed' 74 $?
 "$tz" enhance film.pgm - >&- 2>said
 judge 'standard output closed' 74 $?
@@ -266,18 +274,18 @@ bare='mount -t tmpfs tmpfs /dev && [ -x "$0" ]' # a machine without /dev/null
 if [ "$(id -u)" -eq 0 ] && unshare -m --propagation private sh -c "$bare" "$tz" 2>/dev/null; then
     told='a standard stream is closed'
     # shellcheck disable=SC2016
-    unshare -m --propagation private sh -c "$bare"' && exec "$0" enhance - "$1" <&-' "$tz" "$out" >wrote 2>said
+    unshare -m --propagation private sh -c "$bare"' && exec "$0" enhance --force - "$1" <&-' "$tz" "$out" >wrote 2>said
     judge 'standard input closed, and no /dev/null' 74 $?
 else
     skip 'a closed standard stream without /dev/null: /dev cannot be hidden here'
 fi
 : >said
-"$tz" enhance film.pgm "$out" 2>&-
+"$tz" enhance --force film.pgm "$out" 2>&-
 saw=$?
 if [ "$saw" -eq 0 ] && whole "$out"; then ok=yes; else ok=no; fi
 report "$ok" 'standard error closed: the film is whole' "status $saw"
 cp before "$out"
-"$tz" enhance film.pgm "$out" <&- >&- 2>&-
+"$tz" enhance --force film.pgm "$out" <&- >&- 2>&-
 saw=$?
 if [ "$saw" -eq 0 ] && whole "$out"; then ok=yes; else ok=no; fi
 report "$ok" 'all three closed: the film is whole' "status $saw"
@@ -286,30 +294,22 @@ report "$ok" 'all three closed: the film is whole' "status $saw"
 try 'an output that is a folder' 73 enhance film.pgm out
 try 'an output in no folder' 73 enhance film.pgm nowhere/film.pgm
 try 'an output with an empty name' 73 enhance film.pgm ''
-ln -s nowhere.pgm dangling.pgm
-try 'an output that is a link to nothing' 73 enhance film.pgm dangling.pgm
 try 'an output on a full device' 74 enhance film.pgm /dev/full
 cp before "$out"
-(ulimit -f 64; exec "$tz" enhance film.pgm "$out") >wrote 2>said
+(ulimit -f 64; exec "$tz" enhance --force film.pgm "$out") >wrote 2>said
 judge 'a file that may not grow beyond 32 or 64 KiB' 74 $?
-cp film.pgm out/same.pgm
-"$tz" enhance out/same.pgm out/same.pgm 2>said
-saw=$?
-if [ "$saw" -eq 0 ] && whole out/same.pgm && ! cmp -s film.pgm out/same.pgm && no_leftover out; then ok=yes; else ok=no; fi
-report "$ok" 'input and output the same file: rendered' "status $saw"
-ln -sf film.pgm out/link.pgm
 cp before "$out"
 chmod 640 "$out"
-"$tz" enhance film.pgm out/link.pgm 2>said
+over enhance film.pgm "$out" 2>said
 saw=$?
 # shellcheck disable=SC2012
 mode=$(ls -l "$out" | cut -c 1-10)
-if [ "$saw" -eq 0 ] && whole "$out" && [ -L out/link.pgm ] && [ "$mode" = -rw-r----- ]; then ok=yes; else ok=no; fi
-report "$ok" 'an output that is a link: the file behind it, its mode kept' "status $saw, mode $mode"
+if [ "$saw" -eq 0 ] && whole "$out" && [ "$mode" = -rw-r----- ]; then ok=yes; else ok=no; fi
+report "$ok" 'an output that is replaced: its mode kept' "status $saw, mode $mode"
 if [ "$(id -u)" -eq 0 ]; then
     cp before "$out"
     chmod 0 "$out"
-    "$tz" enhance film.pgm "$out" 2>said
+    over enhance film.pgm "$out" 2>said
     saw=$?
     # shellcheck disable=SC2012
     mode=$(ls -l "$out" | cut -c 1-10)
@@ -318,7 +318,10 @@ if [ "$(id -u)" -eq 0 ]; then
 else
     skip 'an output of mode 000: only root may replace it'
 fi
-rm -f out/same.pgm out/link.pgm "$out"
+rm -f "$out"
+
+# ---- scans are never overwritten
+. "$top/station/faults/scans.sh"
 
 # ---- as a user who may not
 drop=''
@@ -328,7 +331,7 @@ if $drop "$tz" --help >wrote 2>said; then
     cp film.pgm locked.pgm
     chmod 0 locked.pgm
     cp before "$out"
-    $drop "$tz" enhance locked.pgm "$out" >wrote 2>said
+    $drop "$tz" enhance --force locked.pgm "$out" >wrote 2>said
     judge 'an unreadable file' 66 $?
     mkdir -m 555 shut
     $drop "$tz" enhance film.pgm shut/new.pgm >wrote 2>said
@@ -336,7 +339,7 @@ if $drop "$tz" --help >wrote 2>said; then
     mkdir -m 777 open
     cp before open/film.pgm
     chmod 444 open/film.pgm
-    $drop "$tz" enhance film.pgm open/film.pgm >wrote 2>said
+    $drop "$tz" enhance --force film.pgm open/film.pgm >wrote 2>said
     saw=$?
     if [ "$saw" -eq 73 ] && cmp -s before open/film.pgm && no_leftover open; then ok=yes; else ok=no; fi
     report "$ok" 'a write-protected output' "status $saw: $(head -n 1 said)"
@@ -356,7 +359,7 @@ mkdir disk
 if [ "$(id -u)" -eq 0 ] && mount -t tmpfs -o size=256k tmpfs "$room/disk" 2>/dev/null; then
     disk=$room/disk
     cp before disk/film.pgm
-    "$tz" enhance film.pgm disk/film.pgm >wrote 2>said
+    "$tz" enhance --force film.pgm disk/film.pgm >wrote 2>said
     saw=$?
     if [ "$saw" -eq 74 ] && cmp -s before disk/film.pgm && no_leftover disk; then ok=yes; else ok=no; fi
     report "$ok" 'a full disk (256 KiB, the film has 384)' "status $saw: $(head -n 1 said)"
@@ -371,7 +374,7 @@ kib=8192 steps=0 before_us=0 odd='' saw=71
 cp before "$out"
 # shellcheck disable=SC3045
 while [ $# -eq 0 ] && [ "$kib" -lt 1000000 ] && [ "$saw" -ne 0 ]; do
-    (ulimit -v "$kib" && exec timeout 120 "$tz" enhance big.pgm "$out") >wrote 2>said
+    (ulimit -v "$kib" && exec timeout 120 "$tz" enhance --force big.pgm "$out") >wrote 2>said
     saw=$?
     if [ "$saw" -eq 71 ] && cmp -s before "$out" && no_leftover out; then
         steps=$((steps + 1))
@@ -400,7 +403,7 @@ undo=''
 ulimit -c 0 2>/dev/null # QUIT and XCPU would leave cores
 kill_in_the_middle() { # SIGNAL STATUS
     cp before "$out"
-    $undo "$tz" enhance big.pgm "$out" >wrote 2>said &
+    $undo "$tz" enhance --force big.pgm "$out" >wrote 2>said &
     child=$!
     while no_leftover out && kill -0 "$child" 2>/dev/null; do :; done
     kill -s "$1" "$child" 2>/dev/null
@@ -438,7 +441,7 @@ done
 # ---- station/render
 render() { # WHAT WANTED FILM
     cp before "$out"
-    "$top/station/render" "$3" "$out" >wrote 2>built
+    "$top/station/render" "$3" "$out" --force >wrote 2>built
     saw=$?
     tail -n 1 built >said
     judge "$1" "$2" "$saw"

@@ -1,4 +1,4 @@
-#define _XOPEN_SOURCE 700
+#define _GNU_SOURCE
 #include "files.h"
 
 #include <errno.h>
@@ -11,60 +11,6 @@
 #include <unistd.h>
 
 #include "messages.h"
-
-/* ---- names ---- */
-
-int is_dash(const char *name) { return strcmp(name, "-") == 0; }
-
-const char *input_name(const char *name) { return is_dash(name) ? "standard input" : name; }
-
-const char *output_name(const char *name) { return is_dash(name) ? "standard output" : name; }
-
-/* How many bytes of a path are its folder, the slash included. */
-static size_t folder_length(const char *path)
-{
-    const char *slash = strrchr(path, '/');
-    return slash == NULL ? 0 : (size_t)(slash - path) + 1;
-}
-
-/* The folder of a path, with room for `more` bytes behind it. */
-static char *folder_of(const char *path, size_t more)
-{
-    size_t length = folder_length(path);
-    const char *from = length == 0 ? "./" : path;
-    if (length == 0)
-        length = 2;
-    char *folder = malloc(length + more + 1);
-    if (folder != NULL) {
-        memcpy(folder, from, length);
-        folder[length] = '\0';
-    }
-    return folder;
-}
-
-static int same_folder(const char *a, const char *b)
-{
-    struct stat one, other;
-    char *first = folder_of(a, 0), *second = folder_of(b, 0);
-    int same = first != NULL && second != NULL && stat(first, &one) == 0 && stat(second, &other) == 0 &&
-               one.st_dev == other.st_dev && one.st_ino == other.st_ino;
-    free(first);
-    free(second);
-    return same;
-}
-
-int same_place(const char *a, const char *b)
-{
-    struct stat one, other;
-    if (is_dash(a) || is_dash(b))
-        return is_dash(a) && is_dash(b);
-    int there = stat(a, &one) == 0;
-    if (there != (stat(b, &other) == 0))
-        return 0;
-    if (there)
-        return S_ISREG(one.st_mode) && one.st_dev == other.st_dev && one.st_ino == other.st_ino;
-    return strcmp(a + folder_length(a), b + folder_length(b)) == 0 && same_folder(a, b);
-}
 
 /* ---- bytes in ---- */
 
@@ -214,7 +160,7 @@ static int open_beside(struct output *out, int which, int *to)
         out->part = name_beside(out->path, attempt);
         if (out->part == NULL)
             return no_memory();
-        *to = make_beside(which, out->part, out->fresh ? 0666 : 0600);
+        *to = make_beside(which, out->part, out->has_mode ? 0600 : 0666);
         if (*to >= 0)
             return 0;
         int why = errno;
@@ -227,33 +173,57 @@ static int open_beside(struct output *out, int which, int *to)
     return fault(CANNOT_CREATE, "cannot create a new file beside", out->name);
 }
 
-/* A file that is there: a link stays a link, and the file that it leads to is replaced. */
+/* A file is there, and nobody said that it may be replaced. */
+static int there_already(const struct output *out)
+{
+    say("%s is there already, and is left as it was", out->name);
+    say_more("Give another name, or say --force to have it replaced.");
+    return BAD_WORDS;
+}
+
+/* A file that is there keeps its mode. */
 static int place_over(struct output *out, const struct stat *there)
 {
-    if (S_ISDIR(there->st_mode)) {
-        errno = EISDIR;
-        return fault(CANNOT_CREATE, "cannot replace", out->name);
-    }
-    if (!S_ISREG(there->st_mode))
-        return 0;
+    if (!out->replace)
+        return there_already(out);
     if (access(out->name, W_OK) != 0)
         return fault(CANNOT_CREATE, "cannot write", out->name);
+    out->has_mode = 1;
     out->mode = (unsigned)there->st_mode & 0777;
-    out->path = realpath(out->name, NULL);
-    return out->path == NULL ? fault(CANNOT_CREATE, "cannot find", out->name) : 0;
+    return 0;
+}
+
+/* A link is not followed: the film takes its own place, and what it led to is as it was. The system's own links lead to
+   files that are open. */
+static int place_over_link(const struct output *out)
+{
+    if (!out->replace)
+        return there_already(out);
+    if (in_system_folder(out->name))
+        return bad_words("this is a link of the system's own, and no file is put in its place", out->name);
+    return 0;
 }
 
 /* Where an output will stand. */
 static int find_place(struct output *out)
 {
-    struct stat there;
-    if (is_dash(out->name))
+    struct stat there, behind;
+    if (is_standard_output(out->name))
         return 0;
-    if (stat(out->name, &there) == 0)
-        return place_over(out, &there);
-    if (errno != ENOENT || out->name[0] == '\0' || lstat(out->name, &there) == 0)
+    int is_there = lstat(out->name, &there) == 0;
+    if (!is_there && (errno != ENOENT || out->name[0] == '\0'))
         return fault(CANNOT_CREATE, "cannot create", out->name[0] == '\0' ? "a file without a name" : out->name);
-    out->fresh = 1;
+    int leads = is_there && stat(out->name, &behind) == 0;
+    if (leads && S_ISDIR(behind.st_mode)) {
+        errno = EISDIR;
+        return fault(CANNOT_CREATE, "cannot replace", out->name);
+    }
+    if (leads && !S_ISREG(behind.st_mode)) /* a device or a pipe, by a link or not */
+        return 0;
+    int code = !is_there ? 0 : S_ISREG(there.st_mode) ? place_over(out, &there) : place_over_link(out);
+    if (code != 0)
+        return code;
+    out->fresh = !is_there;
     out->path = strdup(out->name);
     return out->path == NULL ? no_memory() : 0;
 }
@@ -270,23 +240,40 @@ static int lay_beside(struct output *out, int which)
     if (code != 0)
         return code;
     int ok = write_all(to, out->bytes, out->count) && fsync(to) == 0;
-    if (ok && !out->fresh)
+    if (ok && out->has_mode)
         (void)fchmod(to, (mode_t)out->mode); /* some file systems keep no modes: the film counts more */
     return close_after(ok, to) ? 0 : fault(IO_FAULT, "cannot write", out->name);
+}
+
+/* Gives the new file its name. Where nothing may be replaced, a file that came there meanwhile is not: the system sees to
+   that in one step, but for file systems that cannot. */
+static int take_name(const struct output *out)
+{
+    struct stat there;
+    if (out->replace)
+        return rename(out->part, out->path);
+    int code = renameat2(AT_FDCWD, out->part, AT_FDCWD, out->path, RENAME_NOREPLACE);
+    if (code == 0 || (errno != EINVAL && errno != ENOSYS))
+        return code;
+    if (lstat(out->path, &there) == 0) {
+        errno = EEXIST;
+        return -1;
+    }
+    return rename(out->part, out->path);
 }
 
 /* Gives an output its place. */
 static int put_in_place(struct output *out, int which)
 {
-    if (is_dash(out->name))
+    if (is_standard_output(out->name))
         return put_straight(STDOUT_FILENO, output_name(out->name), out->bytes, out->count);
     if (out->path == NULL) {
         int to = open(out->name, O_WRONLY | O_CLOEXEC);
         return to < 0 ? fault(CANNOT_CREATE, "cannot open", out->name)
                       : put_straight(to, out->name, out->bytes, out->count);
     }
-    if (rename(out->part, out->path) != 0)
-        return fault(CANNOT_CREATE, "cannot give its name to", out->name);
+    if (take_name(out) != 0)
+        return errno == EEXIST ? there_already(out) : fault(CANNOT_CREATE, "cannot give its name to", out->name);
     beside[which] = NULL;
     return 0;
 }

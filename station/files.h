@@ -5,6 +5,7 @@
 #include <stddef.h>
 #include <stdint.h>
 
+#include "places.h"
 #include "tzofnadir.h"
 
 /* The largest film at two bytes a sample, and 64 KiB of header. White space in a header may be of any length, so
@@ -22,22 +23,15 @@ struct output {
     const char *name;
     const uint8_t *bytes;
     size_t count;
-    char *path;     /* the file that it becomes, links followed; null for standard output, a device or a pipe */
+    int replace;    /* it may take the place of a file that is there */
+    char *path;     /* the file that it becomes; null for standard output, a device or a pipe */
     char *part;     /* the new file beside it */
-    int fresh;      /* there was no such file before, */
-    unsigned mode;  /* or it had this mode */
+    int fresh;      /* nothing stood there before */
+    int has_mode;   /* a file did, of this mode */
+    unsigned mode;
 };
 
 #define MOST_OUTPUTS 2
-
-int is_dash(const char *name);
-
-/* The name, or what '-' stands for. */
-const char *input_name(const char *name);
-const char *output_name(const char *name);
-
-/* True where both names lead to one file, or would once it is there. */
-int same_place(const char *a, const char *b);
 
 /* The functions below return 0, or the status of a message. */
 

@@ -15,33 +15,6 @@
 /* The most bins that are taken where none are asked for. */
 #define MOST_CHOSEN_BINS 1024u
 
-/* ---- greys ---- */
-
-struct span span_of(const uint16_t *picture, size_t pixels)
-{
-    struct span s = {picture[0], picture[0]};
-    for (size_t i = 1; i < pixels; i++) {
-        if (picture[i] < s.least)
-            s.least = picture[i];
-        if (picture[i] > s.greatest)
-            s.greatest = picture[i];
-    }
-    return s;
-}
-
-/* Refusals 5 and 6, the other way round. */
-static int fits(uint32_t side, uint32_t tiles) { return side >= tiles; }
-
-void grids_that_fit(uint32_t side, char *text, size_t room)
-{
-    size_t at = 0;
-    for (uint32_t tiles = TZ_LEAST_GRID; tiles <= TZ_MOST_GRID; tiles++)
-        if (fits(side, tiles) && at < room)
-            at += (size_t)snprintf(text + at, room - at, at == 0 ? "%u" : " %u", (unsigned)tiles);
-    if (at == 0)
-        snprintf(text, room, "none");
-}
-
 /* ---- the film ---- */
 
 static void doing(const struct run *run, const char *what)
@@ -182,15 +155,15 @@ static void tell_footer(const struct run *run)
 static int put_film(struct run *run, const tz_sizes *sizes, size_t count)
 {
     struct output outs[MOST_OUTPUTS];
-    int many = 0;
+    int many = 0, replace = (run->job->given & FORCE) != 0;
     if (run->task.record != NULL) {
         run->record = record_text(run, sizes, run->file, count);
         if (run->record == NULL)
             return no_memory();
         outs[many++] = (struct output){.name = run->task.record, .bytes = (const uint8_t *)run->record,
-                                       .count = strlen(run->record)};
+                                       .count = strlen(run->record), .replace = replace};
     }
-    outs[many++] = (struct output){.name = run->task.out, .bytes = run->file, .count = count};
+    outs[many++] = (struct output){.name = run->task.out, .bytes = run->file, .count = count, .replace = replace};
     return put_outputs(outs, many);
 }
 
@@ -358,20 +331,11 @@ static void let_go(struct run *run)
     free(run->record);
 }
 
-/* A record would replace a film. */
-static int wrong_record(const struct task *task)
-{
-    return task->record != NULL && (same_place(task->record, task->out) ||
-                                    (!is_dash(task->in) && same_place(task->record, task->in)));
-}
-
 int run_film(const struct job *job, const struct task *task)
 {
     static int (*const commands[])(struct run *) = {
         [ENHANCE] = enhance, [WINDOW] = window, [LISTING] = listing, [INFO] = info};
     struct run run = {.job = job, .task = *task, .settings = job->settings};
-    if (wrong_record(task))
-        return bad_words("the record would take a film's place", task->record);
     int code = commands[job->command](&run);
     end_progress();
     let_go(&run);

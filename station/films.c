@@ -1,11 +1,12 @@
-/* Several films in one call. */
-#include <errno.h>
+#include "films.h"
+
 #include <stdio.h>
 #include <stdlib.h>
 #include <string.h>
 #include <sys/stat.h>
 
 #include "film.h"
+#include "guard.h"
 #include "messages.h"
 
 /* FOLDER/NAME, and an end behind it; to be freed. */
@@ -29,32 +30,36 @@ static int check_folder(const char *folder)
     return CANNOT_CREATE;
 }
 
-/* A scan is not to be replaced by its rendering for the mere name of a folder. */
-static int check_scans(const struct job *job)
+/* ---- what is asked of each film ---- */
+
+static void let_go(struct task *tasks, int count)
 {
-    int code = 0;
-    for (int i = 0; i < job->count && code == 0; i++) {
-        char *out = path_in(job->into, last_part(job->names[i]), "");
-        if (out == NULL)
-            code = no_memory();
-        else if (same_place(job->names[i], out))
-            code = bad_words("the rendering would take the scan's place", job->names[i]);
-        free(out);
+    for (int i = 0; tasks != NULL && i < count; i++) {
+        free((char *)tasks[i].out);
+        free((char *)tasks[i].record);
     }
-    return code;
+    free(tasks);
 }
 
-static int run_one(const struct job *job, int i)
+/* A task for each film; to be let go. Null where there is no memory. */
+static struct task *tasks_of(const struct job *job)
 {
-    char *out = path_in(job->into, last_part(job->names[i]), "");
-    char *record = (job->given & RECORDS) != 0 ? path_in(job->into, last_part(job->names[i]), ".json") : NULL;
-    struct task task = {job->names[i], out, record, i + 1, job->count};
-    int ready = out != NULL && (record != NULL || (job->given & RECORDS) == 0);
-    int code = ready ? run_film(job, &task) : no_memory();
-    free(record);
-    free(out);
-    return code;
+    int records = (job->given & RECORDS) != 0;
+    struct task *tasks = calloc((size_t)job->count, sizeof *tasks);
+    for (int i = 0; tasks != NULL && i < job->count; i++) {
+        const char *name = last_part(job->names[i]);
+        tasks[i] = (struct task){.in = job->names[i], .out = path_in(job->into, name, ""), .which = i + 1, .of = job->count};
+        if (records)
+            tasks[i].record = path_in(job->into, name, ".json");
+        if (tasks[i].out == NULL || (records && tasks[i].record == NULL)) {
+            let_go(tasks, i + 1);
+            return NULL;
+        }
+    }
+    return tasks;
 }
+
+/* ---- the films ---- */
 
 static void say_failed(const struct job *job, const unsigned char *codes, int failed)
 {
@@ -68,18 +73,14 @@ static void say_failed(const struct job *job, const unsigned char *codes, int fa
             say_more("%s (status %d)", job->names[i], codes[i]);
 }
 
-int run_films(const struct job *job)
+static int run_all(const struct job *job, const struct task *tasks)
 {
-    int first = check_folder(job->into), failed = 0;
-    if (first == 0)
-        first = check_scans(job);
-    if (first != 0)
-        return first;
+    int first = 0, failed = 0;
     unsigned char *codes = calloc((size_t)job->count, sizeof *codes);
     if (codes == NULL)
         return no_memory();
     for (int i = 0; i < job->count; i++) {
-        codes[i] = (unsigned char)run_one(job, i);
+        codes[i] = (unsigned char)run_film(job, &tasks[i]);
         failed += codes[i] != 0;
         if (first == 0)
             first = codes[i];
@@ -87,4 +88,17 @@ int run_films(const struct job *job)
     say_failed(job, codes, failed);
     free(codes);
     return first;
+}
+
+int run_films(const struct job *job)
+{
+    int code = check_folder(job->into);
+    if (code != 0)
+        return code;
+    struct task *tasks = tasks_of(job);
+    code = tasks == NULL ? no_memory() : guard(tasks, job->count, (job->given & FORCE) != 0);
+    if (code == 0)
+        code = run_all(job, tasks);
+    let_go(tasks, job->count);
+    return code;
 }

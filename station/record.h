@@ -2,7 +2,7 @@
 #ifndef TZ_RECORD_H
 #define TZ_RECORD_H
 
-#include "film.h"
+#include "run.h"
 
 /* The text of the record of a rendering of these sizes that was laid down in `file`; to be freed. Null where there is no
    memory. */

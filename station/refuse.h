@@ -2,7 +2,7 @@
 #ifndef TZ_REFUSE_H
 #define TZ_REFUSE_H
 
-#include "film.h"
+#include "run.h"
 
 /* Says it, and returns the refusal's number as the status. */
 int refuse(uint32_t refusal, const struct run *run);

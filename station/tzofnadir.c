@@ -2,14 +2,17 @@
  * tzofnadir: the command line over tzofnadir.h. usage.c has its words.
  *
  * Whatever the proved library checks is left to it: the command line only tells words from numbers (words.c), fetches
- * bytes and puts bytes away (files.c), runs the calls on a film (film.c) or on several (films.c), writes down what was
- * done (record.c, sha256.c) and says what came of it (refuse.c, messages.c).
+ * bytes and puts bytes away (files.c, places.c), sees that no scan is overwritten (guard.c), runs the calls on a film
+ * (film.c, run.c) or on several (films.c), writes down what was done (record.c, sha256.c) and says what came of it
+ * (refuse.c, messages.c).
  */
 #include <string.h>
 #include <unistd.h>
 
 #include "files.h"
 #include "film.h"
+#include "films.h"
+#include "guard.h"
 #include "messages.h"
 #include "words.h"
 
@@ -37,5 +40,6 @@ int main(int argc, char **argv)
     if ((job.given & INTO) != 0)
         return run_films(&job);
     struct task task = {job.names[0], job.count > 1 ? job.names[1] : NULL, job.record, 1, 1};
-    return run_film(&job, &task);
+    code = guard(&task, 1, (job.given & FORCE) != 0);
+    return code != 0 ? code : run_film(&job, &task);
 }

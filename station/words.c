@@ -71,6 +71,7 @@ static int value(enum given which, const char *word, struct job *job)
     case BYTES: /* these have none */
     case RECORDS:
     case QUIET:
+    case FORCE:
         return 1;
     }
     return 0;
@@ -86,6 +87,7 @@ static const struct option {
     {"--grid", GRID, 1},     {"--bins", BINS, 1},     {"--range", RANGE, 1}, {"--clip", CLIP, 1},
     {"--at", AT, 1},         {"--size", SIZE, 1},     {"--bytes", BYTES, 0}, {"--record", RECORD, 1},
     {"--into", INTO, 1},     {"--records", RECORDS, 0}, {"--quiet", QUIET, 0},
+    {"--force", FORCE, 0},
 };
 
 /* The option that a word names, alone or with `=value` behind it. */
@@ -102,7 +104,7 @@ static const struct option *option_of(const char *word)
 /* Which options a command takes. */
 static unsigned taken(enum command command)
 {
-    unsigned settings = GRID | BINS | RANGE | CLIP | BYTES | RECORD;
+    unsigned settings = GRID | BINS | RANGE | CLIP | BYTES | RECORD | FORCE;
     unsigned of_command = command == ENHANCE ? settings | INTO | RECORDS : command == WINDOW ? settings | AT | SIZE : 0;
     return of_command | QUIET;
 }

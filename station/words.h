@@ -9,7 +9,7 @@ enum command { ENHANCE, WINDOW, LISTING, INFO, HELP, VERSION };
 /* The options, each a bit. */
 enum given {
     GRID = 1, BINS = 2, RANGE = 4, CLIP = 8, AT = 16, SIZE = 32, BYTES = 64, RECORD = 128, INTO = 256, RECORDS = 512,
-    QUIET = 1024
+    QUIET = 1024, FORCE = 2048
 };
 
 struct job {

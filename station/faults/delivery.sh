@@ -55,7 +55,7 @@ if [ "$(uname -m)" != x86_64 ]; then
         installed 'station/install --native' 0 'is in' "$top/station/install" --native "$prefix"
     fi
 fi
-"$tz" enhance film.pgm alone.pgm 2>said
+over enhance film.pgm alone.pgm 2>said
 if [ -n "$prefix" ] && command -v cc >/dev/null; then
     # shellcheck disable=SC2016
     sed -n '/^```c$/,/^```$/p' "$top/README.md" | sed '/^```/d' >render.c

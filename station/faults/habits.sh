@@ -24,7 +24,7 @@ prints 'station/build --help, and no toolchain' 'station/build: builds' env RATT
 judge 'help on a full device' 74 $?
 
 "$tz" enhance film.pgm spaced.pgm --clip 2.5 --bins 256 2>spaced
-"$tz" enhance film.pgm "$out" --clip=2.5 --bins=256 2>said
+over enhance film.pgm "$out" --clip=2.5 --bins=256 2>said
 saw=$?
 if [ "$saw" -eq 0 ] && cmp -s spaced.pgm "$out" && cmp -s spaced said; then ok=yes; else ok=no; fi
 report "$ok" '--clip=2.5 as --clip 2.5' "status $saw: $(head -n 1 said)"
@@ -37,11 +37,11 @@ told='bins 256, chosen by the range 100 to 355'
 { printf 'P5\n16 16\n4095\n'; head -c 512 /dev/zero | tr '\0' '\1'; } >flat.pgm
 try 'no bins: a grey each in a short range' 0 enhance flat.pgm "$out" --range 100:355
 "$tz" enhance film.pgm usual.pgm --bins 128 2>said
-"$tz" enhance film.pgm "$out" --bins 0 2>said
+over enhance film.pgm "$out" --bins 0 2>said
 saw=$?
 if [ "$saw" -eq 0 ] && cmp -s usual.pgm "$out" && grep -q '^limit 72,' said && ! grep -q '^bins' said; then ok=yes; else ok=no; fi
 report "$ok" '--bins 0 is --bins 128' "status $saw: $(head -n 1 said)"
-"$tz" enhance film.pgm "$out" --quiet >wrote 2>said
+over enhance film.pgm "$out" --quiet >wrote 2>said
 saw=$?
 if [ "$saw" -eq 0 ] && whole "$out" && [ ! -s said ] && [ ! -s wrote ]; then ok=yes; else ok=no; fi
 report "$ok" '--quiet: the film, and not a word' "status $saw"
@@ -62,7 +62,7 @@ cp film.pgm films/a.pgm
 cp cut.pgm films/b.pgm
 cp shallow.pgm films/c.pgm
 cp short.pgm films/d.pgm
-"$tz" enhance film.pgm alone.pgm 2>said
+over enhance film.pgm alone.pgm 2>said
 several() { # WHAT WANTED TOLD WORDS..
     what=$1 wanted=$2 told=$3
     shift 3
@@ -94,7 +94,7 @@ try '--records without --into' 64 enhance film.pgm "$out" --records
 try '--into of a window' 64 window --into out film.pgm --at 0,0 --size 8x8
 try '--into no folder' 73 enhance --into nowhere film.pgm
 try '--into a file' 73 enhance --into film.pgm films/a.pgm
-told='the rendering would take the scan'
+told='the rendering would take a scan'
 cp film.pgm more/a.pgm
 try '--into the folder of the scans' 64 enhance --into more films/c.pgm ./more/a.pgm
 if cmp -s film.pgm more/a.pgm && [ ! -e more/c.pgm ]; then ok=yes; else ok=no; fi
@@ -104,10 +104,10 @@ try 'three names and no --into' 64 enhance film.pgm "$out" films/a.pgm
 
 # ---- a terminal: script makes one
 if command -v script >/dev/null; then
-    script -qec "'$tz' enhance --into many_out films/a.pgm films/c.pgm" typed </dev/null >/dev/null 2>&1
+    script -qec "'$tz' enhance --force --into many_out films/a.pgm films/c.pgm" typed </dev/null >/dev/null 2>&1
     if grep -qF '2 of 2: films/c.pgm: rendering' typed && grep -q 'films/c.pgm: limit' typed; then ok=yes; else ok=no; fi
     report "$ok" 'progress on a terminal' "$(tr '\r' '\n' <typed | grep -c rendering) lines written over"
-    script -qec "'$tz' enhance --quiet --into many_out films/a.pgm films/c.pgm" typed </dev/null >/dev/null 2>&1
+    script -qec "'$tz' enhance --force --quiet --into many_out films/a.pgm films/c.pgm" typed </dev/null >/dev/null 2>&1
     if grep -q rendering typed; then ok=no; else ok=yes; fi
     report "$ok" 'no progress with --quiet' ''
 else

@@ -41,7 +41,7 @@ done
 bad=''
 for length in 1 2 3 9 10 11 55 56 57 63 64 65 119 120; do
     { printf 'P5'; head -c "$length" /dev/zero | tr '\0' ' '; printf '2 2\n255\nabcd'; } >small.pgm
-    "$tz" enhance small.pgm "$out" --grid 2x2 --record "$record" 2>said
+    over enhance small.pgm "$out" --grid 2x2 --record "$record" 2>said
     [ "$(field sha256 "$record")" = "$(digest small.pgm) $(digest "$out") " ] || bad="$bad $length"
 done
 if [ -z "$bad" ]; then ok=yes; else ok=no; fi
@@ -50,7 +50,7 @@ report "$ok" 'a record: digests of 14 lengths' "wrong: ${bad:-none}"
 # Names that JSON cannot hold as they are, and standard input and output.
 odd=$(printf 'odd "name"\\ \t\303\266\377.pgm')
 cp film.pgm "$odd"
-"$tz" enhance "$odd" - --record "$record" --clip off <film.pgm >wrote 2>said
+over enhance "$odd" - --record "$record" --clip off <film.pgm >wrote 2>said
 saw=$?
 ok=no
 if command -v python3 >/dev/null; then
@@ -68,7 +68,7 @@ END
 else
     skip 'a record of a name of odd bytes: there is no python3 here'
 fi
-"$tz" window film.pgm "$out" --at 10,20 --size 30x40 --record "$record" --bins 0 2>said
+over window film.pgm "$out" --at 10,20 --size 30x40 --record "$record" --bins 0 2>said
 saw=$?
 if [ "$saw,$(field bins "$record")$(field width "$record")" = '0,128 512 30 ' ] &&
     grep -qF '"window": {"left": 10, "top": 20, "width": 30, "height": 40}' "$record"; then ok=yes; else ok=no; fi
@@ -81,7 +81,7 @@ pair() { # WHAT WANTED WORDS..: OUT and record have to be as they were
     shift 2
     cp before "$out"
     cp before "$record"
-    "$tz" "$@" >wrote 2>said
+    over "$@" >wrote 2>said
     saw=$?
     if [ "$saw" -eq "$wanted" ] && cmp -s before "$out" && cmp -s before "$record" && no_leftover out && [ -s said ]; then
         ok=yes
@@ -113,7 +113,7 @@ if [ "$(id -u)" -eq 0 ] && $drop true 2>/dev/null; then
     mkdir -m 1777 sticky
     cp before sticky/film.pgm
     chmod 666 sticky/film.pgm
-    $drop "$tz" enhance film.pgm sticky/film.pgm --record sticky/film.json 2>said
+    $drop "$tz" enhance --force film.pgm sticky/film.pgm --record sticky/film.json 2>said
     saw=$?
     if [ "$saw" -eq 73 ] && cmp -s before sticky/film.pgm && [ ! -e sticky/film.json ] && no_leftover sticky; then ok=yes; else ok=no; fi
     report "$ok" "another's film in a shared folder: no record is left" "status $saw: $(head -n 1 said)"

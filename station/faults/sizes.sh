@@ -58,7 +58,7 @@ told='limit 1, factor asked 3, factor used 2.5600000000000001 (of tile 0, 0; som
 try '81 by 80: whose limit it is' 0 enhance wider.pgm "$out"
 for words in 'small.pgm' 'wider.pgm --clip off' 'wider.pgm --clip 1'; do
     # shellcheck disable=SC2086
-    "$tz" enhance $words "$out" 2>said
+    over enhance $words "$out" 2>said
     saw=$?
     if [ "$saw" -eq 0 ] && grep -q '^limit' said && ! grep -qF 'tile 0, 0' said; then ok=yes; else ok=no; fi
     report "$ok" "$words: one limit or none" "status $saw: $(tail -n 1 said)"

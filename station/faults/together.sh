@@ -4,7 +4,7 @@
 clone=$room/clone
 mkdir "$clone" "$clone/target"
 (cd "$top" && cp -a VERSION crates crates.txt docs station toolchain "$clone" && cp -a target/lib target/station target/staticlib "$clone/target")
-"$tz" enhance film.pgm alone.pgm 2>said
+over enhance film.pgm alone.pgm 2>said
 
 # 8 at a time, each HOW_MANY times; all have to end with 0 and the same film.
 eight_render() { # WHAT HOW_MANY
@@ -73,7 +73,7 @@ if $drop "$clone/target/station/tzofnadir" --help >wrote 2>said; then
     chmod u+w "$clone/station/tzofnadir.c"
     touch "$clone/station/tzofnadir.c"
     cp before theirs/film.pgm
-    (cd "$clone" && $drop station/render "$room/film.pgm" "$room/theirs/film.pgm") 2>said
+    (cd "$clone" && $drop station/render "$room/film.pgm" "$room/theirs/film.pgm" --force) 2>said
     saw=$?
     if [ "$saw" -eq 69 ] && cmp -s before theirs/film.pgm; then ok=yes; else ok=no; fi
     report "$ok" 'a clone that may only be read, and something to be built' "status $saw: $(tail -n 1 said)"

@@ -8,4 +8,5 @@ int *__errno_location(void) __attribute__((const));
 #define EEXIST 17
 #define EISDIR 21
 #define EINVAL 22
+#define ENOSYS 38
 #endif

@@ -10,6 +10,7 @@
 #define O_DIRECTORY 0200000
 #define O_CLOEXEC 02000000
 #define F_GETFD 1
+#define AT_FDCWD (-100)
 int open(const char *path, int how, ...);
 int fcntl(int file, int what, ...);
 #endif

@@ -17,5 +17,7 @@ FILE *fopen(const char *path, const char *mode);
 char *fgets(char *line, int room, FILE *stream);
 size_t fwrite(const void *from, size_t size, size_t count, FILE *stream);
 int rename(const char *from, const char *to);
+#define RENAME_NOREPLACE 1u
+int renameat2(int from_folder, const char *from, int to_folder, const char *to, unsigned how);
 int fclose(FILE *stream);
 #endif

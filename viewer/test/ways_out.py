@@ -16,7 +16,7 @@ def rendered_by_the_station(person, name, words):
     with open(os.path.join(person.room, name), "rb") as file, open(os.path.join(room, name), "wb") as copy:
         copy.write(file.read())
     out, record = name[:-4] + "-rendered.pgm", name[:-4] + "-rendered.json"
-    done = subprocess.run([PROGRAM, name, out, "--record", record, *words], cwd=room, capture_output=True, check=False)
+    done = subprocess.run([PROGRAM, name, out, "--record", record, "--force", *words], cwd=room, capture_output=True, check=False)
     hold(done.returncode == 0, "station/render:", done.stderr.decode())
     return [open(os.path.join(room, each), "rb").read() for each in (out, record)]
 

@@ -14,6 +14,7 @@ struct stat {
 #define S_ISDIR(mode) (((mode) & 0170000) == 0040000)
 #define S_ISREG(mode) (((mode) & 0170000) == 0100000)
 int stat(const char *path, struct stat *out);
+int fstat(int file, struct stat *out);
 int lstat(const char *path, struct stat *out);
 int fchmod(int file, mode_t mode);
 #endif

@@ -1,0 +1,109 @@
+#define _XOPEN_SOURCE 700
+#include "guard.h"
+
+#include <stdlib.h>
+#include <sys/stat.h>
+
+#include "messages.h"
+
+/* How many of the files that are there are named; the others are counted. */
+#define MOST_NAMED 5
+
+/* ---- the inputs ---- */
+
+/* The files that a call reads, whatever their names, in the order of their numbers. */
+struct inputs {
+    struct stat *at;
+    size_t count;
+};
+
+static int by_number(const void *a, const void *b)
+{
+    const struct stat *one = a, *other = b;
+    if (one->st_dev != other->st_dev)
+        return one->st_dev < other->st_dev ? -1 : 1;
+    return one->st_ino < other->st_ino ? -1 : one->st_ino > other->st_ino;
+}
+
+/* Files alone: a device or a pipe may well be both ends. */
+static int know_inputs(const struct task *tasks, int count, struct inputs *inputs)
+{
+    inputs->at = calloc((size_t)count, sizeof *inputs->at);
+    inputs->count = 0;
+    if (inputs->at == NULL)
+        return no_memory();
+    for (int i = 0; i < count; i++) {
+        struct stat *there = &inputs->at[inputs->count];
+        if (input_at(tasks[i].in, there) && S_ISREG(there->st_mode))
+            inputs->count++;
+    }
+    qsort(inputs->at, inputs->count, sizeof *inputs->at, by_number);
+    return 0;
+}
+
+static int is_input(const struct inputs *inputs, const char *name)
+{
+    struct stat there;
+    return output_at(name, &there) && bsearch(&there, inputs->at, inputs->count, sizeof there, by_number) != NULL;
+}
+
+/* ---- the outputs ---- */
+
+static int check_scans(const struct task *task, const struct inputs *inputs)
+{
+    if (is_input(inputs, task->out))
+        return bad_words("the rendering would take a scan's place, which --force does not permit either", task->out);
+    if (task->record != NULL && is_input(inputs, task->record))
+        return bad_words("the record would take a scan's place, which --force does not permit either", task->record);
+    if (task->record != NULL && same_place(task->record, task->out))
+        return bad_words("the record would take the rendering's place", task->record);
+    return 0;
+}
+
+/* Whether a name is taken: by a file, or by a link that leads to one or to nothing. */
+static int is_taken(const char *name)
+{
+    struct stat there, behind;
+    if (name == NULL || is_standard_output(name) || lstat(name, &there) != 0)
+        return 0;
+    return stat(name, &behind) != 0 || S_ISREG(behind.st_mode);
+}
+
+static int name_taken(const char *name, int before)
+{
+    if (!is_taken(name))
+        return 0;
+    if (before == 0)
+        say("nothing was rendered, as what is there already is not replaced:");
+    if (before < MOST_NAMED)
+        say_more("%s", name);
+    return 1;
+}
+
+static int check_taken(const struct task *tasks, int count)
+{
+    int taken = 0;
+    for (int i = 0; i < count; i++) {
+        taken += name_taken(tasks[i].out, taken);
+        taken += name_taken(tasks[i].record, taken);
+    }
+    if (taken == 0)
+        return 0;
+    if (taken > MOST_NAMED)
+        say_more("and %d more", taken - MOST_NAMED);
+    say_more("Give another %s, or say --force to have %s replaced.%s", count > 1 ? "folder" : "name", taken == 1 ? "it" : "them",
+             count > 1 ? "" : " Several films want --into FOLDER.");
+    return BAD_WORDS;
+}
+
+int guard(const struct task *tasks, int count, int force)
+{
+    struct inputs inputs;
+    int code = know_inputs(tasks, count, &inputs);
+    for (int i = 0; i < count && code == 0; i++)
+        code = tasks[i].out == NULL ? 0 : check_scans(&tasks[i], &inputs);
+    free(inputs.at);
+    if (code == 0 && !force)
+        code = check_taken(tasks, count);
+    return code;
+}

@@ -1,0 +1,28 @@
+#include "run.h"
+
+#include <stdio.h>
+
+struct span span_of(const uint16_t *picture, size_t pixels)
+{
+    struct span s = {picture[0], picture[0]};
+    for (size_t i = 1; i < pixels; i++) {
+        if (picture[i] < s.least)
+            s.least = picture[i];
+        if (picture[i] > s.greatest)
+            s.greatest = picture[i];
+    }
+    return s;
+}
+
+/* Refusals 5 and 6, the other way round. */
+static int fits(uint32_t side, uint32_t tiles) { return side >= tiles; }
+
+void grids_that_fit(uint32_t side, char *text, size_t room)
+{
+    size_t at = 0;
+    for (uint32_t tiles = TZ_LEAST_GRID; tiles <= TZ_MOST_GRID; tiles++)
+        if (fits(side, tiles) && at < room)
+            at += (size_t)snprintf(text + at, room - at, at == 0 ? "%u" : " %u", (unsigned)tiles);
+    if (at == 0)
+        snprintf(text, room, "none");
+}
