@@ -1,4 +1,4 @@
-/* Bytes in and bytes out. An output is touched by one rename alone, once all of it lies flushed beside it. */
+/* Bytes in and bytes out. */
 #ifndef TZ_FILES_H
 #define TZ_FILES_H
 
@@ -18,36 +18,20 @@ struct input {
     int cut; /* it goes on behind MOST_BYTES */
 };
 
-/* What is to be put away: these bytes under this name. The rest is put_outputs' own. */
-struct output {
-    const char *name;
-    const uint8_t *bytes;
-    size_t count;
-    int replace;    /* it may take the place of a file that is there */
-    char *path;     /* the file that it becomes; null for standard output, a device or a pipe */
-    char *part;     /* the new file beside it */
-    int fresh;      /* nothing stood there before */
-    int has_mode;   /* a file did, of this mode */
-    unsigned mode;
-};
-
-#define MOST_OUTPUTS 2
-
-/* The functions below return 0, or the status of a message. */
+/* The functions below that return a status return 0, or that of a message. */
 
 int read_input(const char *name, struct input *in);
 
-/* Puts outputs away, in order. None gets its place before all of them lie flushed. Where one then fails, those behind it
-   are as they were, and those before it are gone again where nothing stood in their place. */
-int put_outputs(struct output *outs, int count);
+/* False where not all could be written; errno says why. */
+int write_all(int to, const uint8_t *bytes, size_t count);
+
+/* Closes, and says whether all went well so far; errno is that of the first fault. */
+int close_after(int ok, int to);
 
 /* To standard output, a device or a pipe, and closes it. */
 int put_straight(int to, const char *name, const uint8_t *bytes, size_t count);
 
 /* A standard stream that came closed would be the next file to be opened, and messages would land in a film. */
 int hold_streams(void);
-
-/* New files are removed when a signal asks this program to stop. */
-void watch_signals(void);
 
 #endif

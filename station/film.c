@@ -6,6 +6,7 @@
 #include <unistd.h>
 
 #include "messages.h"
+#include "outputs.h"
 #include "record.h"
 #include "refuse.h"
 

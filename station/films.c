@@ -97,8 +97,10 @@ int run_films(const struct job *job)
         return code;
     struct task *tasks = tasks_of(job);
     code = tasks == NULL ? no_memory() : guard(tasks, job->count, (job->given & FORCE) != 0);
-    if (code == 0)
+    if (code == 0) {
+        clear_beside(&tasks[0]);
         code = run_all(job, tasks);
+    }
     let_go(tasks, job->count);
     return code;
 }

@@ -5,6 +5,7 @@
 #include <sys/stat.h>
 
 #include "messages.h"
+#include "parts.h"
 
 /* How many of the files that are there are named; the others are counted. */
 #define MOST_NAMED 5
@@ -106,4 +107,12 @@ int guard(const struct task *tasks, int count, int force)
     if (code == 0 && !force)
         code = check_taken(tasks, count);
     return code;
+}
+
+void clear_beside(const struct task *task)
+{
+    if (task->out != NULL && !is_standard_output(task->out))
+        clear_parts(task->out);
+    if (task->record != NULL && !is_standard_output(task->record))
+        clear_parts(task->record);
 }

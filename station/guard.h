@@ -8,4 +8,7 @@
    record that of its film, or, unless `force`, either that of a file that is there. */
 int guard(const struct task *tasks, int count, int force);
 
+/* Clears what processes that were killed left behind in the folders of a task's outputs. */
+void clear_beside(const struct task *task);
+
 #endif

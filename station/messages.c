@@ -6,6 +6,9 @@
 #include <string.h>
 #include <unistd.h>
 
+/* The longest name that the system takes, and a sentence. */
+#define MOST_LINE 5120
+
 static int silent;   /* what is no message is left out */
 static int terminal; /* progress is shown */
 static int shown;    /* a line of it stands there */
@@ -21,10 +24,26 @@ void end_progress(void)
     shown = 0;
 }
 
+/* A name may hold bytes that steer a terminal: those below 32 and 127, and the characters U+0080 to U+009F. */
+static int steers(const unsigned char *at, const unsigned char *before)
+{
+    return *at < 0x20 || *at == 0x7f || (*at >= 0x80 && *at <= 0x9f && *before == 0xc2);
+}
+
+/* Copies text, such bytes as \ooo. One of the two bytes of U+0080 to U+009F is enough to break it. */
+static void escape(const char *text, char *to, size_t room)
+{
+    const unsigned char *at = (const unsigned char *)text, *before = (const unsigned char *)"";
+    size_t used = 0;
+    for (; *at != '\0' && used + 5 < room; before = at++)
+        used += (size_t)snprintf(to + used, room - used, steers(at, before) ? "\\%03o" : "%c", *at);
+    to[used] = '\0';
+}
+
 /* Cut to the width of a terminal: what goes on in a second line could not be taken back. */
 void progress(const char *form, ...)
 {
-    char text[80];
+    char text[80], safe[80];
     va_list rest;
     if (!terminal || silent)
         return;
@@ -32,16 +51,19 @@ void progress(const char *form, ...)
     va_start(rest, form);
     vsnprintf(text, sizeof text, form, rest);
     va_end(rest);
-    fputs(text, stderr);
+    escape(text, safe, sizeof safe);
+    fputs(safe, stderr);
     shown = 1;
 }
 
+/* The line goes out in one piece. It is cut where it is longer than the longest name and a sentence about it. */
 static void line(const char *before, const char *form, va_list rest)
 {
+    char text[MOST_LINE], safe[4 * MOST_LINE];
     end_progress();
-    fputs(before, stderr);
-    vfprintf(stderr, form, rest);
-    fputs("\n", stderr);
+    vsnprintf(text, sizeof text, form, rest);
+    escape(text, safe, sizeof safe);
+    fprintf(stderr, "%s%s\n", before, safe);
 }
 
 void tell(const char *form, ...)

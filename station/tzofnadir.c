@@ -2,7 +2,8 @@
  * tzofnadir: the command line over tzofnadir.h. usage.c has its words.
  *
  * Whatever the proved library checks is left to it: the command line only tells words from numbers (words.c), fetches
- * bytes and puts bytes away (files.c, places.c), sees that no scan is overwritten (guard.c), runs the calls on a film
+ * bytes and puts bytes away (files.c, places.c, outputs.c,
+ * parts.c, signals.c), sees that no scan is overwritten (guard.c), runs the calls on a film
  * (film.c, run.c) or on several (films.c), writes down what was done (record.c, sha256.c) and says what came of it
  * (refuse.c, messages.c).
  */
@@ -14,6 +15,7 @@
 #include "films.h"
 #include "guard.h"
 #include "messages.h"
+#include "signals.h"
 #include "words.h"
 
 static int print(const char *text)
@@ -41,5 +43,8 @@ int main(int argc, char **argv)
         return run_films(&job);
     struct task task = {job.names[0], job.count > 1 ? job.names[1] : NULL, job.record, 1, 1};
     code = guard(&task, 1, (job.given & FORCE) != 0);
-    return code != 0 ? code : run_film(&job, &task);
+    if (code != 0)
+        return code;
+    clear_beside(&task);
+    return run_film(&job, &task);
 }

@@ -109,12 +109,21 @@ static unsigned taken(enum command command)
     return of_command | QUIET;
 }
 
+/* It may be meant as a file's name. */
+static int no_option(const char *word)
+{
+    say("this command has no such option: %s", word);
+    say_more("A file whose name begins with a dash stands behind '--', or as ./%s", word);
+    say_more("'tzofnadir help' tells the words that are taken");
+    return BAD_WORDS;
+}
+
 /* Takes the option at word `at`, which is its last word then. */
 static int take_option(char **argv, int *at, struct job *job)
 {
     const struct option *option = option_of(argv[*at]);
     if (option == NULL || (option->which & taken(job->command)) == 0)
-        return bad_words("this command has no such option", argv[*at]);
+        return no_option(argv[*at]);
     if ((option->which & job->given) != 0)
         return bad_words("this option is given twice", option->name);
     job->given |= option->which;

@@ -55,6 +55,15 @@ if [ "$saw" -eq 0 ] && cmp -s usual.pgm ./-h; then ok=yes; else ok=no; fi
 report "$ok" 'files named --bins and -h behind --' "status $saw"
 rm -f ./--bins ./-h
 try 'no name behind --' 64 enhance film.pgm --
+told="A file whose name begins with a dash stands behind '--', or as ./-film.pgm"
+try 'a name that begins with a dash: told about --' 64 enhance -film.pgm "$out"
+
+# names that steer a terminal are shown, and steer nothing
+odd=$(printf 'red\033[31m\nand\302\233more\303\266.pgm')
+told=$(printf 'red\\033[31m\\012and\302\\233more\303\266.pgm')
+try 'control characters in a name: shown' 66 enhance "$odd" "$out"
+if [ "$(tr -d '\n' <said | tr -d '\040-\176\302\303\266' | wc -c)" -eq 0 ]; then ok=yes; else ok=no; fi
+report "$ok" 'control characters in a name: none is left' "$(head -n 1 said)"
 
 # ---- several films
 mkdir films many_out more

@@ -99,6 +99,15 @@ pair 'a record in the place of OUT' 64 enhance film.pgm "$out" --record "$out"
 pair 'a record in the place of OUT by another name' 64 enhance film.pgm "$out" --record out/../out/film.pgm
 pair 'a record in the place of IN' 64 enhance film.pgm "$out" --record ./film.pgm
 pair 'record and film both to standard output' 64 enhance film.pgm - --record -
+pair 'a record to /dev/stdout beside the film' 64 enhance film.pgm - --record /dev/stdout
+pair 'a film to /dev/stdout beside the record' 64 enhance film.pgm /dev/stdout --record -
+over enhance film.pgm - --record /dev/stdout 2>said | cat >wrote
+if [ ! -s wrote ] && grep -q "the record would take the rendering's place" said; then ok=yes; else ok=no; fi
+report "$ok" 'a record to /dev/stdout beside the film, a pipe' "$(head -n 1 said)"
+over enhance film.pgm - --record "$record" >/dev/full 2>said
+saw=$?
+if [ "$saw" -eq 74 ] && cmp -s before "$record" && no_leftover out; then ok=yes; else ok=no; fi
+report "$ok" 'standard output on a full device: the old record stays' "status $saw: $(head -n 1 said)"
 rm -f "$record"
 "$tz" enhance film.pgm /dev/full --record "$record" 2>said
 saw=$?

@@ -1,11 +1,12 @@
 # shellcheck shell=sh disable=SC2154,SC2034
 # station/faults.sh reads this: no scan is overwritten, and what is there already only where --force is said.
 scans=$room/scans
+{ printf 'P5\n80 80\n255\n'; head -c 6400 /dev/zero; } >little.pgm
 lay_scans() {
     rm -rf "$scans" kept
     mkdir "$scans" kept
     cp film.pgm "$scans/a.pgm"
-    cp small.pgm "$scans/b.pgm"
+    cp little.pgm "$scans/b.pgm"
     cp before "$scans/note.txt"
 }
 # All that lies in the folder of the scans, and where links lead, before and after.
@@ -59,7 +60,7 @@ report "$ok" 'IN is the file that standard output goes to' "status $saw: $(head 
 # A link in OUT's place is replaced itself, where --force is said; what it led to is as it was.
 (cd "$scans" && "$tz" enhance --force a.pgm other.pgm --record dangling.pgm) >wrote 2>said
 saw=$?
-if [ "$saw" -eq 0 ] && [ ! -L "$scans/other.pgm" ] && whole "$scans/other.pgm" && cmp -s small.pgm "$scans/b.pgm" &&
+if [ "$saw" -eq 0 ] && [ ! -L "$scans/other.pgm" ] && whole "$scans/other.pgm" && cmp -s little.pgm "$scans/b.pgm" &&
     [ ! -L "$scans/dangling.pgm" ] && grep -q '"sha256"' "$scans/dangling.pgm" && [ ! -e "$scans/nowhere.pgm" ]; then ok=yes; else ok=no; fi
 report "$ok" 'links in the place of OUT and record: replaced themselves' "status $saw"
 (cd "$scans" && "$tz" enhance a.pgm /dev/stdout) >kept/out.pgm 2>said
@@ -96,15 +97,39 @@ rm "$scans/out/a.pgm.json"
 ln -s ../b.pgm "$scans/out/a.pgm"
 (cd "$scans" && "$tz" enhance --force --into out a.pgm) >wrote 2>said
 saw=$?
-if [ "$saw" -eq 0 ] && whole "$scans/out/a.pgm" && [ ! -L "$scans/out/a.pgm" ] && cmp -s small.pgm "$scans/b.pgm"; then ok=yes; else ok=no; fi
+if [ "$saw" -eq 0 ] && whole "$scans/out/a.pgm" && [ ! -L "$scans/out/a.pgm" ] && cmp -s little.pgm "$scans/b.pgm"; then ok=yes; else ok=no; fi
 report "$ok" '--into over a link, --force: the link itself is replaced' "status $saw"
 untouched '--into: a rendering is there: nothing is begun' 64 'out/a.pgm' enhance --into out b.pgm a.pgm
-for i in 1 2 3 4 5 6 7; do cp small.pgm "$scans/$i.pgm" && cp before "$scans/out/$i.pgm"; done
+for i in 1 2 3 4 5 6 7; do cp little.pgm "$scans/$i.pgm" && cp before "$scans/out/$i.pgm"; done
 untouched '--into: eight renderings are there: five are named' 64 'and 3 more' enhance --into out 1.pgm 2.pgm 3.pgm 4.pgm 5.pgm 6.pgm 7.pgm a.pgm b.pgm
 (cd "$scans" && "$tz" enhance --force --into out 1.pgm 2.pgm a.pgm) >wrote 2>said
 saw=$?
 if [ "$saw" -eq 0 ] && whole "$scans/out/a.pgm" && [ "$(head -c 2 "$scans/out/2.pgm")" = P5 ] && cmp -s before "$scans/out/3.pgm"; then ok=yes; else ok=no; fi
 report "$ok" '--into what is there, --force: rendered again' "status $saw"
+
+# ---- new files that a killed process left behind
+rm -f out/*
+(exec >out/.tzofnadir-1-0.part)
+(exec >out/.tzofnadir-123456-12.part)
+: >out/.tzofnadir-7-7.part
+: >out/.tzofnadir-1-x.part
+: >out/.tzofnadir-1-0.part.pgm
+mkdir out/.tzofnadir-2-0.part
+ln -s "$room/film.pgm" out/.tzofnadir-3-0.part
+flock out/.tzofnadir-7-7.part sleep 3 &
+child=$!
+sleep 0.3
+"$tz" enhance film.pgm "$out" 2>said
+saw=$?
+left=$(cd out && echo .tzofnadir-*)
+wait "$child"
+if [ "$saw" -eq 0 ] && [ "$left" = '.tzofnadir-1-0.part.pgm .tzofnadir-1-x.part .tzofnadir-2-0.part .tzofnadir-3-0.part .tzofnadir-7-7.part' ]; then ok=yes; else ok=no; fi
+report "$ok" 'old new files: cleared, but for what is held or no such file' "status $saw: $left"
+"$tz" enhance --force film.pgm "$out" 2>said
+saw=$?
+if [ "$saw" -eq 0 ] && [ ! -e out/.tzofnadir-7-7.part ] && whole film.pgm; then ok=yes; else ok=no; fi
+report "$ok" 'an old new file that is held no more: cleared' "status $saw"
+rm -rf out/.tzofnadir-* "$out"
 
 # A file that comes into OUT's place while the film is rendered is left. strace holds the program before its rename.
 if command -v strace >/dev/null && strace -o trace -e trace=/^rename true 2>/dev/null; then

@@ -5,6 +5,8 @@ int *__errno_location(void) __attribute__((const));
 #define ENOENT 2
 #define EINTR 4
 #define EBADF 9
+#define EWOULDBLOCK 11
+#define EACCES 13
 #define EEXIST 17
 #define EISDIR 21
 #define EINVAL 22

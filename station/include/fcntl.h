@@ -10,7 +10,11 @@
 #define O_DIRECTORY 0200000
 #define O_CLOEXEC 02000000
 #define F_GETFD 1
+#define O_NONBLOCK 04000
+#define O_NOFOLLOW 0400000
+#define F_DUPFD_CLOEXEC 1030
 #define AT_FDCWD (-100)
 int open(const char *path, int how, ...);
+int openat(int folder, const char *path, int how, ...);
 int fcntl(int file, int what, ...);
 #endif

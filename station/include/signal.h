@@ -32,4 +32,5 @@ int sigemptyset(sigset_t *set);
 int sigaddset(sigset_t *set, int number);
 int sigismember(const sigset_t *set, int number);
 int raise(int number);
+int kill(int process, int number);
 #endif
