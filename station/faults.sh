@@ -350,12 +350,13 @@ fi
 # ---- records, and habits
 . "$top/station/faults/record.sh"
 . "$top/station/faults/habits.sh"
+. "$top/station/faults/batch.sh"
 
 # ---- flushing that fails
 . "$top/station/faults/flush.sh"
 
 # ---- a full disk
-mkdir disk
+mkdir -p disk
 if [ "$(id -u)" -eq 0 ] && mount -t tmpfs -o size=256k tmpfs "$room/disk" 2>/dev/null; then
     disk=$room/disk
     cp before disk/film.pgm

@@ -66,6 +66,13 @@ static void line(const char *before, const char *form, va_list rest)
     fprintf(stderr, "%s%s\n", before, safe);
 }
 
+void pass_on(const char *text, size_t length)
+{
+    end_progress();
+    if (length > 0)
+        fwrite(text, 1, length, stderr);
+}
+
 void tell(const char *form, ...)
 {
     va_list rest;
@@ -93,7 +100,10 @@ void say_more(const char *form, ...)
 
 int fault(int status, const char *doing, const char *name)
 {
+    int full = errno == ENOSPC || errno == EDQUOT;
     say("%s %s: %s", doing, name, strerror(errno));
+    if (full)
+        say_more("Make room there, and render the film again.");
     return status;
 }
 

@@ -2,6 +2,8 @@
 #ifndef TZ_MESSAGES_H
 #define TZ_MESSAGES_H
 
+#include <stddef.h>
+
 /* Exit statuses beside the refusals' own numbers, which are below 64. */
 enum {
     BAD_WORDS = 64,     /* the command line */
@@ -26,6 +28,9 @@ __attribute__((format(printf, 1, 2))) void tell(const char *form, ...);
 /* What is being done. The line is gone before anything else is written, and at the end. */
 __attribute__((format(printf, 1, 2))) void progress(const char *form, ...);
 void end_progress(void);
+
+/* What another process of this program said, as it stands. */
+void pass_on(const char *text, size_t length);
 
 /* A message, "tzofnadir: " before it and a line's end behind it. */
 __attribute__((format(printf, 1, 2))) void say(const char *form, ...);

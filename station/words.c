@@ -68,6 +68,8 @@ static int value(enum given which, const char *word, struct job *job)
     case INTO:
         job->into = word;
         return *word != '\0';
+    case JOBS:
+        return whole(word, &job->jobs) && job->jobs >= 1;
     case BYTES: /* these have none */
     case RECORDS:
     case QUIET:
@@ -87,7 +89,7 @@ static const struct option {
     {"--grid", GRID, 1},     {"--bins", BINS, 1},     {"--range", RANGE, 1}, {"--clip", CLIP, 1},
     {"--at", AT, 1},         {"--size", SIZE, 1},     {"--bytes", BYTES, 0}, {"--record", RECORD, 1},
     {"--into", INTO, 1},     {"--records", RECORDS, 0}, {"--quiet", QUIET, 0},
-    {"--force", FORCE, 0},
+    {"--force", FORCE, 0},  {"--jobs", JOBS, 1},
 };
 
 /* The option that a word names, alone or with `=value` behind it. */
@@ -105,7 +107,7 @@ static const struct option *option_of(const char *word)
 static unsigned taken(enum command command)
 {
     unsigned settings = GRID | BINS | RANGE | CLIP | BYTES | RECORD | FORCE;
-    unsigned of_command = command == ENHANCE ? settings | INTO | RECORDS : command == WINDOW ? settings | AT | SIZE : 0;
+    unsigned of_command = command == ENHANCE ? settings | INTO | RECORDS | JOBS : command == WINDOW ? settings | AT | SIZE : 0;
     return of_command | QUIET;
 }
 
@@ -149,37 +151,10 @@ const char *last_part(const char *path)
     return slash == NULL ? path : slash + 1;
 }
 
-static int by_last_part(const void *a, const void *b)
-{
-    return strcmp(last_part(*(char *const *)a), last_part(*(char *const *)b));
-}
-
-static int ends_in(const char *word, const char *end)
+int ends_in(const char *word, const char *end)
 {
     size_t length = strlen(word), tail = strlen(end);
     return length >= tail && strcmp(word + length - tail, end) == 0;
-}
-
-/* Films that go into one folder need names, and none the name that another's rendering or record has. They are looked at
-   in the order of their names, and rendered in the order that was given. */
-static int check_films(const struct job *job)
-{
-    char **sorted = malloc((size_t)job->count * sizeof *sorted);
-    int code = sorted == NULL ? no_memory() : 0;
-    if (code == 0) {
-        memcpy(sorted, job->names, (size_t)job->count * sizeof *sorted);
-        qsort(sorted, (size_t)job->count, sizeof *sorted, by_last_part);
-    }
-    for (int i = 0; i < job->count && code == 0; i++) {
-        if (strcmp(sorted[i], "-") == 0)
-            code = bad_words("standard input has no name that --into could give its rendering", "");
-        else if (has(job, RECORDS) && ends_in(sorted[i], ".json"))
-            code = bad_words("with --records a film's name must not end in .json", sorted[i]);
-        else if (i > 0 && by_last_part(&sorted[i - 1], &sorted[i]) == 0)
-            code = bad_words("two films would have the same name in that folder", sorted[i]);
-    }
-    free(sorted);
-    return code;
 }
 
 static int check_names(const struct job *job)
@@ -188,7 +163,9 @@ static int check_names(const struct job *job)
     if (has(job, INTO) && has(job, RECORD))
         return bad_words("with --into it is --records, which writes a record beside each rendering", "");
     if (has(job, INTO))
-        return job->count > 0 ? check_films(job) : bad_words("a film is missing", "");
+        return job->count > 0 ? 0 : bad_words("a film is missing", "");
+    if (has(job, JOBS))
+        return bad_words("--jobs goes with --into: it says how many films are rendered at once", "");
     if (has(job, RECORDS))
         return bad_words("--records goes with --into; one film's record is written by --record FILE", "");
     if (job->count < wanted)
@@ -238,11 +215,15 @@ int words(int argc, char **argv, struct job *job)
         /* '-' alone is a name: standard input or output */
         if (names_only || argv[i][0] != '-' || argv[i][1] == '\0')
             job->names[job->count++] = argv[i];
-        else if (strcmp(argv[i], "--") == 0)
+        else if (strcmp(argv[i], "--") == 0) {
             names_only = 1;
+            job->plain_from = job->count;
+        }
         else
             code = take_option(argv, &i, job);
     }
+    if (!names_only)
+        job->plain_from = job->count;
     if (code == 0)
         code = check_names(job);
     if (code == 0 && job->command == WINDOW && (~job->given & (AT | SIZE)) != 0)

@@ -9,14 +9,16 @@ enum command { ENHANCE, WINDOW, LISTING, INFO, HELP, VERSION };
 /* The options, each a bit. */
 enum given {
     GRID = 1, BINS = 2, RANGE = 4, CLIP = 8, AT = 16, SIZE = 32, BYTES = 64, RECORD = 128, INTO = 256, RECORDS = 512,
-    QUIET = 1024, FORCE = 2048
+    QUIET = 1024, FORCE = 2048, JOBS = 4096
 };
 
 struct job {
     enum command command;
-    char **names; /* of files: IN and OUT, or with --into each film */
+    char **names; /* of files: IN and OUT, or with --into films, folders of films and lists */
     int count;
+    int plain_from; /* from this one on, behind `--`, a name is no list */
     const char *into, *record;
+    uint32_t jobs;
     tz_settings settings;
     tz_window window;
     unsigned given; /* which options were there */
@@ -24,6 +26,8 @@ struct job {
 
 /* The part of a path behind its last slash: the name that a film rendered into a folder has there. */
 const char *last_part(const char *path);
+
+int ends_in(const char *word, const char *end);
 
 /* 0, or the status of a message. */
 int words(int argc, char **argv, struct job *job);

@@ -86,7 +86,7 @@ several() { # WHAT WANTED TOLD WORDS..
 several 'two films into a folder' 0 '2 films rendered into many_out' films/a.pgm films/c.pgm
 cmp -s alone.pgm many_out/a.pgm && [ -f many_out/c.pgm ] && ok=yes || ok=no
 report "$ok" 'two films into a folder: each as alone' "$(cd many_out && echo *)"
-several 'four films, two of them refused: the first one counts' 20 'films/d.pgm (status 24)' films/a.pgm films/b.pgm films/c.pgm films/d.pgm
+several 'four films, two of them refused: the worst one counts' 24 'films/d.pgm (status 24)' films/a.pgm films/b.pgm films/c.pgm films/d.pgm
 cmp -s alone.pgm many_out/a.pgm && [ "$(cd many_out && echo *)" = 'a.pgm c.pgm' ] && ok=yes || ok=no
 report "$ok" 'four films: the two that are not refused' "$(cd many_out && echo *)"
 several 'a film that is not there, and one that is' 66 '1 of 2 films were not rendered:' films/nowhere.pgm films/a.pgm
@@ -101,7 +101,7 @@ if [ "$(cd many_out && echo *)" = 'a.pgm a.pgm.json c.pgm c.pgm.json' ] && grep 
 report "$ok" '--records: their names and digests' "$(cd many_out && echo *)"
 try '--records without --into' 64 enhance film.pgm "$out" --records
 try '--into of a window' 64 window --into out film.pgm --at 0,0 --size 8x8
-try '--into no folder' 73 enhance --into nowhere film.pgm
+try '--into a folder in no folder' 73 enhance --into nowhere/new film.pgm
 try '--into a file' 73 enhance --into film.pgm films/a.pgm
 told='the rendering would take a scan'
 cp film.pgm more/a.pgm
@@ -113,11 +113,14 @@ try 'three names and no --into' 64 enhance film.pgm "$out" films/a.pgm
 
 # ---- a terminal: script makes one
 if command -v script >/dev/null; then
-    script -qec "'$tz' enhance --force --into many_out films/a.pgm films/c.pgm" typed </dev/null >/dev/null 2>&1
-    if grep -qF '2 of 2: films/c.pgm: rendering' typed && grep -q 'films/c.pgm: limit' typed; then ok=yes; else ok=no; fi
-    report "$ok" 'progress on a terminal' "$(tr '\r' '\n' <typed | grep -c rendering) lines written over"
+    script -qec "'$tz' enhance --jobs 1 --force --into many_out films/a.pgm films/c.pgm" typed </dev/null >/dev/null 2>&1
+    if grep -qF '0 of 2 films done' typed && grep -q '1 of 2 films done, [0-9]* s left' typed && grep -q 'films/c.pgm: limit' typed; then ok=yes; else ok=no; fi
+    report "$ok" 'progress on a terminal: films done of all, time left' "$(tr '\r' '\n' <typed | grep -c 'films done') lines written over"
+    script -qec "'$tz' enhance --force films/a.pgm many_out/a.pgm" typed </dev/null >/dev/null 2>&1
+    if grep -qF 'films/a.pgm: rendering' typed && grep -q '^limit' typed; then ok=yes; else ok=no; fi
+    report "$ok" 'progress on a terminal: one film' "$(tr '\r' '\n' <typed | grep -c rendering) lines written over"
     script -qec "'$tz' enhance --force --quiet --into many_out films/a.pgm films/c.pgm" typed </dev/null >/dev/null 2>&1
-    if grep -q rendering typed; then ok=no; else ok=yes; fi
+    if grep -q 'films done' typed; then ok=no; else ok=yes; fi
     report "$ok" 'no progress with --quiet' ''
 else
     skip 'progress on a terminal: there is no script (util-linux) here'

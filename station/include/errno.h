@@ -10,5 +10,7 @@ int *__errno_location(void) __attribute__((const));
 #define EEXIST 17
 #define EISDIR 21
 #define EINVAL 22
+#define ENOSPC 28
 #define ENOSYS 38
+#define EDQUOT 122
 #endif

@@ -16,5 +16,6 @@ struct stat {
 int stat(const char *path, struct stat *out);
 int fstat(int file, struct stat *out);
 int lstat(const char *path, struct stat *out);
+int mkdir(const char *path, mode_t mode);
 int fchmod(int file, mode_t mode);
 #endif
