@@ -350,6 +350,8 @@ fi
 # ---- records, and habits
 . "$top/station/faults/record.sh"
 . "$top/station/faults/habits.sh"
+. "$top/station/faults/options.sh"
+. "$top/station/faults/verify.sh"
 . "$top/station/faults/batch.sh"
 
 # ---- flushing that fails

@@ -7,8 +7,10 @@
 
 #include "messages.h"
 #include "outputs.h"
+#include "png.h"
 #include "record.h"
 #include "refuse.h"
+#include "text.h"
 
 /* One film is open, so any number does. */
 #define FILM 1u
@@ -92,6 +94,15 @@ static uint32_t chosen_bins(uint32_t min, uint32_t max)
     return more < MOST_CHOSEN_BINS ? more + 1 : MOST_CHOSEN_BINS;
 }
 
+/* From the film's least to its greatest grey; of a film of one grey, which has no range, 0 to maxval. */
+static void settle_own_range(struct run *run)
+{
+    struct span greys = span_of(run->picture, run->pixels);
+    int flat = greys.least == greys.greatest;
+    run->settings.min = flat ? 0 : greys.least;
+    run->settings.max = flat ? run->sizes.maxval : greys.greatest;
+}
+
 /* Settles by the film what the words leave open. */
 static void settle(struct run *run)
 {
@@ -100,6 +111,8 @@ static void settle(struct run *run)
         s->min = 0;
         s->max = (run->job->given & BYTES) != 0 ? 255 : run->sizes.maxval;
     }
+    if ((run->job->given & OWN_RANGE) != 0)
+        settle_own_range(run);
     if ((run->job->given & BINS) == 0)
         s->bins = chosen_bins(s->min, s->max);
 }
@@ -139,12 +152,29 @@ static int limits_differ(const struct run *run)
     return run->footer.limit > 0 && (run->sizes.width % s->across != 0 || run->sizes.height % s->down != 0);
 }
 
+/* All settings, as words that give the same film again. */
+static void tell_settings(const struct run *run, const char *name, const char *mark)
+{
+    const tz_settings *s = &run->settings;
+    char clip[32] = "off";
+    if (s->clip)
+        snprintf(clip, sizeof clip, "%.9g", (double)s->factor);
+    tell("%s%s%u by %u pixels, maxval %u: --grid %ux%u --bins %u --range %u:%u --clip %s%s", name, mark,
+         (unsigned)run->sizes.width, (unsigned)run->sizes.height, (unsigned)run->sizes.maxval, (unsigned)s->across,
+         (unsigned)s->down, (unsigned)tz_bins_of(s), (unsigned)s->min, (unsigned)s->max, clip,
+         run->film != NULL ? " --bytes" : "");
+}
+
 /* What was chosen, and what clipping did; of several films behind each one's name. */
 static void tell_footer(const struct run *run)
 {
     const tz_footer *footer = &run->footer;
     int named = (run->job->given & INTO) != 0;
     const char *name = named ? run->task.in : "", *mark = named ? ": " : "";
+    if ((run->job->given & VERBOSE) != 0)
+        tell_settings(run, name, mark);
+    if ((run->job->given & OWN_RANGE) != 0)
+        tell("%s%srange %u to %u, the film's own", name, mark, (unsigned)run->settings.min, (unsigned)run->settings.max);
     if ((run->job->given & BINS) == 0)
         tell("%s%sbins %u, chosen by the range %u to %u", name, mark, (unsigned)run->settings.bins,
              (unsigned)run->settings.min, (unsigned)run->settings.max);
@@ -168,6 +198,14 @@ static int put_film(struct run *run, const tz_sizes *sizes, size_t count)
     return put_outputs(outs, many);
 }
 
+/* The rendering is no more a PGM but a PNG. */
+static int turn_to_png(struct run *run, const uint16_t *picture, const tz_sizes *sizes, size_t *count)
+{
+    free(run->file);
+    run->file = png_of(picture, sizes, count);
+    return run->file != NULL;
+}
+
 static int write_film(struct run *run, const uint16_t *picture, const tz_sizes *sizes)
 {
     size_t pixels = (size_t)sizes->width * sizes->height;
@@ -182,6 +220,10 @@ static int write_film(struct run *run, const uint16_t *picture, const tz_sizes *
         return refuse_rendering(run);
     if (refusal != TZ_DONE)
         return refuse(refusal, run);
+    if (ends_in(run->task.out, ".png") && !turn_to_png(run, picture, sizes, &count))
+        return no_memory();
+    if (run->task.keep != NULL)
+        return run->task.keep(run, sizes, count);
     int code = put_film(run, sizes, count);
     if (code == 0)
         tell_footer(run);
@@ -300,20 +342,54 @@ static int listing(struct run *run)
     return refusal == TZ_DONE ? code : refuse(refusal, run);
 }
 
+/* The numbers of tiles that fit, as JSON has lists. */
+static void add_grids(struct text *t, const char *name, uint32_t side)
+{
+    char grids[64];
+    grids_that_fit(side, grids, sizeof grids);
+    add(t, ",\n  \"%s\": [", name);
+    for (const char *at = grids; *at != '\0' && strcmp(grids, "none") != 0; at++)
+        add(t, *at == ' ' ? ", " : "%c", *at);
+    add(t, "]");
+}
+
+static void info_as_json(const struct run *run, struct span greys, struct text *t)
+{
+    add(t, "{\n  \"file\": ");
+    add_name(t, run->task.in);
+    add(t, ",\n  \"width\": %u,\n  \"height\": %u,\n  \"maxval\": %u,\n  \"least\": %u,\n  \"greatest\": %u",
+        (unsigned)run->sizes.width, (unsigned)run->sizes.height, (unsigned)run->sizes.maxval, (unsigned)greys.least,
+        (unsigned)greys.greatest);
+    add_grids(t, "across", run->sizes.width);
+    add_grids(t, "down", run->sizes.height);
+    add(t, "\n}\n");
+}
+
+static void info_as_text(const struct run *run, struct span greys, struct text *t)
+{
+    char across[64], down[64];
+    grids_that_fit(run->sizes.width, across, sizeof across);
+    grids_that_fit(run->sizes.height, down, sizeof down);
+    add(t, "width\t%u\nheight\t%u\nmaxval\t%u\nleast\t%u\ngreatest\t%u\nacross\t%s\ndown\t%s\n",
+        (unsigned)run->sizes.width, (unsigned)run->sizes.height, (unsigned)run->sizes.maxval, (unsigned)greys.least,
+        (unsigned)greys.greatest, across, down);
+}
+
 static int info(struct run *run)
 {
-    char text[512], across[64], down[64];
+    struct text t = {NULL, 0, 1024 + 6 * strlen(run->task.in)};
     int code = read_film(run);
     if (code != 0)
         return code;
+    t.at = run->record = malloc(t.room);
+    if (t.at == NULL)
+        return no_memory();
     struct span greys = span_of(run->picture, run->pixels);
-    grids_that_fit(run->sizes.width, across, sizeof across);
-    grids_that_fit(run->sizes.height, down, sizeof down);
-    int count = snprintf(text, sizeof text,
-                         "width\t%u\nheight\t%u\nmaxval\t%u\nleast\t%u\ngreatest\t%u\nacross\t%s\ndown\t%s\n",
-                         (unsigned)run->sizes.width, (unsigned)run->sizes.height, (unsigned)run->sizes.maxval,
-                         (unsigned)greys.least, (unsigned)greys.greatest, across, down);
-    return put_straight(STDOUT_FILENO, output_name("-"), (const uint8_t *)text, (size_t)count);
+    if ((run->job->given & AS_JSON) != 0)
+        info_as_json(run, greys, &t);
+    else
+        info_as_text(run, greys, &t);
+    return put_straight(STDOUT_FILENO, output_name("-"), (const uint8_t *)t.at, t.len);
 }
 
 /* ---- the frame ---- */

@@ -30,8 +30,8 @@ static int steers(const unsigned char *at, const unsigned char *before)
     return *at < 0x20 || *at == 0x7f || (*at >= 0x80 && *at <= 0x9f && *before == 0xc2);
 }
 
-/* Copies text, such bytes as \ooo. One of the two bytes of U+0080 to U+009F is enough to break it. */
-static void escape(const char *text, char *to, size_t room)
+/* One of the two bytes of U+0080 to U+009F is enough to break it. */
+void escape(const char *text, char *to, size_t room)
 {
     const unsigned char *at = (const unsigned char *)text, *before = (const unsigned char *)"";
     size_t used = 0;

@@ -8,10 +8,12 @@
 enum {
     BAD_WORDS = 64,     /* the command line */
     TOO_LONG = 65,      /* IN goes on behind what is read of it */
+    NO_RECORD = 65,     /* or is no record of a rendering */
     NO_INPUT = 66,      /* IN cannot be opened, or is a folder */
     NO_MEMORY = 71,
     CANNOT_CREATE = 73, /* OUT, or the new file beside it */
-    IO_FAULT = 74       /* reading or writing failed on the way */
+    IO_FAULT = 74,      /* reading or writing failed on the way */
+    NOT_AS_RECORDED = 76 /* scan, settings or rendering are not those of the record */
 };
 
 /* What help prints. */
@@ -28,6 +30,9 @@ __attribute__((format(printf, 1, 2))) void tell(const char *form, ...);
 /* What is being done. The line is gone before anything else is written, and at the end. */
 __attribute__((format(printf, 1, 2))) void progress(const char *form, ...);
 void end_progress(void);
+
+/* Copies text, a byte that could steer a terminal as \ooo; it is cut to the room. */
+void escape(const char *text, char *to, size_t room);
 
 /* What another process of this program said, as it stands. */
 void pass_on(const char *text, size_t length);

@@ -7,10 +7,15 @@
 #include "tzofnadir.h"
 #include "words.h"
 
+struct run;
+
 /* What a job asks of one film. */
 struct task {
     const char *in, *out, *record; /* out and record are null where none is asked for */
     int which, of;                 /* of how many films it is the how manieth */
+    /* what is done with the rendering, of these sizes and this many bytes, in place of putting it away; and for whom */
+    int (*keep)(struct run *run, const tz_sizes *sizes, size_t count);
+    void *judge;
 };
 
 /* All memory of a run. What is null was not needed; everything is freed at one place. */
@@ -31,7 +36,7 @@ struct run {
     uint16_t *drawn; /* the window's pixels */
     uint8_t *byte_drawn;
     uint8_t *file; /* the output */
-    char *record;
+    char *record; /* or what is printed of the film */
     tz_footer footer;
 };
 

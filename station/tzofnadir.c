@@ -1,11 +1,18 @@
 /*
  * tzofnadir: the command line over tzofnadir.h. usage.c has its words.
  *
- * Whatever the proved library checks is left to it: the command line only tells words from numbers (words.c), fetches
- * bytes and puts bytes away (files.c, places.c, outputs.c,
- * parts.c, signals.c), sees that no scan is overwritten (guard.c), runs the calls on a film
- * (film.c, run.c) or on several (films.c), writes down what was done (record.c, sha256.c) and says what came of it
- * (refuse.c, messages.c).
+ * Whatever the proved library checks is left to it. What stands below uses nothing of what stands above:
+ *
+ *   films.c, verify.c           several films; a record held to its scan
+ *   inputs.c, jobs.c            where they come from, and several at once
+ *   film.c                      one film through the calls
+ *   guard.c                     no scan is overwritten
+ *   refuse.c, record.c, png.c   what is said of a film, written down of it, and made of it
+ *   run.c                       what a film's run holds
+ *   outputs.c, parts.c          files put away whole
+ *   files.c, places.c           bytes and names
+ *   words.c, recorded.c         the command line and a record, read
+ *   messages.c, signals.c, text.c, json.c, sha256.c, usage.c
  */
 #include <string.h>
 #include <unistd.h>
@@ -16,6 +23,7 @@
 #include "guard.h"
 #include "messages.h"
 #include "signals.h"
+#include "verify.h"
 #include "words.h"
 
 static int print(const char *text)
@@ -39,9 +47,12 @@ int main(int argc, char **argv)
     if ((job.given & QUIET) != 0)
         tell_nothing();
     tell_progress();
+    if (job.command == VERIFY)
+        return verify(&job);
     if ((job.given & INTO) != 0)
         return run_films(&job);
-    struct task task = {job.names[0], job.count > 1 ? job.names[1] : NULL, job.record, 1, 1};
+    struct task task = {.in = job.names[0], .out = (job.given & OUTPUT) != 0 ? job.out : job.count > 1 ? job.names[1] : NULL,
+                        .record = job.record, .which = 1, .of = 1};
     code = guard(&task, 1, (job.given & FORCE) != 0);
     if (code != 0)
         return code;

@@ -55,24 +55,34 @@ static int value(enum given which, const char *word, struct job *job)
     case BINS:
         return whole(word, &s->bins);
     case RANGE:
-        return pair(word, ':', &s->min, &s->max);
+        job->given |= strcmp(word, "auto") == 0 ? OWN_RANGE : 0;
+        return (job->given & OWN_RANGE) != 0 || pair(word, ':', &s->min, &s->max);
     case CLIP:
         return factor(word, s);
     case AT:
         return pair(word, ',', &w->left, &w->top);
     case SIZE:
         return pair(word, 'x', &w->width, &w->height);
+    case OUTPUT:
+        job->out = word;
+        return 1;
     case RECORD:
         job->record = word;
         return *word != '\0';
     case INTO:
         job->into = word;
         return *word != '\0';
+    case SCAN:
+        job->scan = word;
+        return *word != '\0';
     case JOBS:
         return whole(word, &job->jobs) && job->jobs >= 1;
     case BYTES: /* these have none */
     case RECORDS:
     case QUIET:
+    case VERBOSE:
+    case AS_JSON:
+    case OWN_RANGE:
     case FORCE:
         return 1;
     }
@@ -86,10 +96,11 @@ static const struct option {
     enum given which;
     int has_value;
 } options[] = {
-    {"--grid", GRID, 1},     {"--bins", BINS, 1},     {"--range", RANGE, 1}, {"--clip", CLIP, 1},
-    {"--at", AT, 1},         {"--size", SIZE, 1},     {"--bytes", BYTES, 0}, {"--record", RECORD, 1},
-    {"--into", INTO, 1},     {"--records", RECORDS, 0}, {"--quiet", QUIET, 0},
-    {"--force", FORCE, 0},  {"--jobs", JOBS, 1},
+    {"--grid", GRID, 1},       {"--bins", BINS, 1},   {"--range", RANGE, 1},     {"--clip", CLIP, 1},
+    {"--at", AT, 1},           {"--size", SIZE, 1},   {"--bytes", BYTES, 0},     {"--record", RECORD, 1},
+    {"--into", INTO, 1},       {"--jobs", JOBS, 1},   {"--records", RECORDS, 0}, {"--force", FORCE, 0},
+    {"--output", OUTPUT, 1},   {"-o", OUTPUT, 1},     {"--quiet", QUIET, 0},     {"-q", QUIET, 0},
+    {"--verbose", VERBOSE, 0}, {"-v", VERBOSE, 0},    {"--json", AS_JSON, 0},    {"--scan", SCAN, 1},
 };
 
 /* The option that a word names, alone or with `=value` behind it. */
@@ -106,8 +117,12 @@ static const struct option *option_of(const char *word)
 /* Which options a command takes. */
 static unsigned taken(enum command command)
 {
-    unsigned settings = GRID | BINS | RANGE | CLIP | BYTES | RECORD | FORCE;
-    unsigned of_command = command == ENHANCE ? settings | INTO | RECORDS | JOBS : command == WINDOW ? settings | AT | SIZE : 0;
+    unsigned settings = GRID | BINS | RANGE | CLIP | BYTES | RECORD | FORCE | OUTPUT | VERBOSE;
+    unsigned of_command = command == ENHANCE  ? settings | INTO | RECORDS | JOBS
+                          : command == WINDOW ? settings | AT | SIZE
+                          : command == INFO   ? AS_JSON
+                          : command == VERIFY ? SCAN
+                                              : 0;
     return of_command | QUIET;
 }
 
@@ -159,7 +174,11 @@ int ends_in(const char *word, const char *end)
 
 static int check_names(const struct job *job)
 {
-    int wanted = job->command == ENHANCE || job->command == WINDOW ? 2 : 1;
+    int wanted = (job->command == ENHANCE || job->command == WINDOW) && !has(job, OUTPUT) ? 2 : 1;
+    if (has(job, QUIET) && has(job, VERBOSE))
+        return bad_words("--quiet and --verbose do not go together", "");
+    if (has(job, INTO) && has(job, OUTPUT))
+        return bad_words("--into gives each rendering its name, so -o does not go with it", "");
     if (has(job, INTO) && has(job, RECORD))
         return bad_words("with --into it is --records, which writes a record beside each rendering", "");
     if (has(job, INTO))
@@ -192,7 +211,7 @@ static int asks(int argc, char **argv, enum command *command)
 
 static int command_of(const char *word, enum command *command)
 {
-    static const char *const names[] = {"enhance", "window", "listing", "info"};
+    static const char *const names[] = {"enhance", "window", "listing", "info", "verify"};
     for (unsigned i = 0; i < sizeof names / sizeof names[0]; i++)
         if (strcmp(word, names[i]) == 0) {
             *command = (enum command)i;

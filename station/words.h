@@ -4,12 +4,12 @@
 
 #include "tzofnadir.h"
 
-enum command { ENHANCE, WINDOW, LISTING, INFO, HELP, VERSION };
+enum command { ENHANCE, WINDOW, LISTING, INFO, VERIFY, HELP, VERSION };
 
-/* The options, each a bit. */
+/* The options, each a bit; the last is a value of --range. */
 enum given {
     GRID = 1, BINS = 2, RANGE = 4, CLIP = 8, AT = 16, SIZE = 32, BYTES = 64, RECORD = 128, INTO = 256, RECORDS = 512,
-    QUIET = 1024, FORCE = 2048, JOBS = 4096
+    QUIET = 1024, FORCE = 2048, JOBS = 4096, OUTPUT = 8192, VERBOSE = 16384, AS_JSON = 32768, SCAN = 65536, OWN_RANGE = 131072
 };
 
 struct job {
@@ -17,7 +17,7 @@ struct job {
     char **names; /* of files: IN and OUT, or with --into films, folders of films and lists */
     int count;
     int plain_from; /* from this one on, behind `--`, a name is no list */
-    const char *into, *record;
+    const char *out, *into, *record, *scan;
     uint32_t jobs;
     tz_settings settings;
     tz_window window;

@@ -1,0 +1,144 @@
+#include "recorded.h"
+
+#include <stdlib.h>
+#include <string.h>
+
+#include "files.h"
+#include "json.h"
+#include "messages.h"
+
+/* ---- members ---- */
+
+/* Each returns the name of what is missing or no such value; null where all is there. */
+
+static const char *whole_member(struct json object, const char *name, uint32_t *out)
+{
+    struct json value;
+    return json_member(object, name, &value) && json_whole(value, out) ? NULL : name;
+}
+
+static const char *read_sizes(struct json object, tz_sizes *out)
+{
+    const char *missing = whole_member(object, "width", &out->width);
+    if (missing == NULL)
+        missing = whole_member(object, "height", &out->height);
+    return missing != NULL ? missing : whole_member(object, "maxval", &out->maxval);
+}
+
+static int read_digest(struct json value, char *out)
+{
+    char text[2 * SHA256_TEXT];
+    if (!json_string(value, text, sizeof text) || strlen(text) != SHA256_TEXT - 1)
+        return 0;
+    memcpy(out, text, SHA256_TEXT);
+    return 1;
+}
+
+static const char *read_file(struct json record, const char *what, struct recorded_file *out)
+{
+    struct json file, value;
+    if (!json_member(record, what, &file))
+        return what;
+    if (!json_member(file, "file", &value) || !json_string(value, out->name, sizeof out->name))
+        return "file";
+    if (!json_member(file, "sha256", &value) || !read_digest(value, out->digest))
+        return "sha256";
+    return read_sizes(file, &out->sizes);
+}
+
+/* A factor is read as the command line reads it: as a float, from its own text. */
+static const char *read_factor(struct json settings, tz_settings *out)
+{
+    struct json value;
+    double factor = 0;
+    if (!json_member(settings, "clip", &value) || (!json_is(value, "true") && !json_is(value, "false")))
+        return "clip";
+    out->clip = json_is(value, "true");
+    if (!json_member(settings, "factor", &value) || (out->clip ? !json_number(value, &factor) : !json_is(value, "null")))
+        return "factor";
+    out->factor = (float)factor;
+    return NULL;
+}
+
+static const char *read_settings(struct json record, struct recorded *out)
+{
+    struct json s, value;
+    tz_settings *to = &out->settings;
+    const struct {
+        const char *name;
+        uint32_t *to;
+    } rows[] = {{"across", &to->across}, {"down", &to->down}, {"bins", &to->bins}, {"min", &to->min}, {"max", &to->max}};
+    if (!json_member(record, "settings", &s))
+        return "settings";
+    for (unsigned i = 0; i < sizeof rows / sizeof rows[0]; i++)
+        if (whole_member(s, rows[i].name, rows[i].to) != NULL)
+            return rows[i].name;
+    out->by_bytes = json_member(s, "by_bytes", &value) && json_is(value, "true");
+    return read_factor(s, to);
+}
+
+static const char *read_window(struct json record, struct recorded *out)
+{
+    struct json w;
+    tz_window *to = &out->window;
+    if (!json_member(record, "window", &w) || json_is(w, "null"))
+        return NULL;
+    out->has_window = 1;
+    return whole_member(w, "left", &to->left) != NULL || whole_member(w, "top", &to->top) != NULL ||
+                   whole_member(w, "width", &to->width) != NULL || whole_member(w, "height", &to->height) != NULL
+               ? "window"
+               : NULL;
+}
+
+static const char *read_footer(struct json record, tz_footer *out)
+{
+    struct json value;
+    double asked;
+    if (whole_member(record, "limit", &out->limit) != NULL)
+        return "limit";
+    if (!json_member(record, "factor_asked", &value) || !json_number(value, &asked))
+        return "factor_asked";
+    out->asked = (float)asked;
+    return json_member(record, "factor_used", &value) && json_number(value, &out->used) ? NULL : "factor_used";
+}
+
+static const char *read_all(struct json record, struct recorded *out)
+{
+    struct json value;
+    if (!json_member(record, "version", &value) || !json_string(value, out->version, sizeof out->version))
+        out->version[0] = '\0';
+    const char *missing = read_file(record, "input", &out->scan);
+    if (missing == NULL)
+        missing = read_file(record, "output", &out->rendering);
+    if (missing == NULL)
+        missing = read_settings(record, out);
+    if (missing == NULL)
+        missing = read_window(record, out);
+    return missing != NULL ? missing : read_footer(record, &out->footer);
+}
+
+/* ---- the file ---- */
+
+static int no_record(const char *name, const char *why, const char *what)
+{
+    say("%s is no record of a rendering: %s%s", name, why, what);
+    say_more("A record is the JSON that --record or --records writes, or that the reading page saves.");
+    return NO_RECORD;
+}
+
+int read_record(const char *name, struct recorded *out)
+{
+    struct input file = {0};
+    struct json whole;
+    const char *missing;
+    memset(out, 0, sizeof *out);
+    int code = read_input(name, &file);
+    if (code == 0 && file.cut)
+        code = no_record(input_name(name), "it is too long", "");
+    else if (code == 0 && (file.len == 0 || !json_of((const char *)file.bytes, file.len, &whole)))
+        code = no_record(input_name(name), "it is no JSON", "");
+    else if (code == 0 && (missing = read_all(whole, out)) != NULL)
+        code = no_record(input_name(name), "it does not say, or not as a record does: ", missing);
+    free(file.bytes);
+    return code;
+}

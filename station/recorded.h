@@ -1,0 +1,30 @@
+/* A record of a rendering, read back. */
+#ifndef TZ_RECORDED_H
+#define TZ_RECORDED_H
+
+#include "sha256.h"
+#include "tzofnadir.h"
+
+/* Longer names are none that the system takes. */
+#define MOST_NAME 4096
+
+struct recorded_file {
+    char name[MOST_NAME], digest[SHA256_TEXT];
+    tz_sizes sizes;
+};
+
+struct recorded {
+    char version[32];
+    struct recorded_file scan, rendering;
+    tz_settings settings;
+    int by_bytes;
+    int has_window;
+    tz_window window;
+    tz_footer footer;
+};
+
+/* 0, or the status of a message. A report of the reading page that has a record's members is read as one; members that a
+   record has not are passed over. */
+int read_record(const char *name, struct recorded *out);
+
+#endif
