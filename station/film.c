@@ -5,6 +5,7 @@
 #include <string.h>
 #include <unistd.h>
 
+#include "bins.h"
 #include "messages.h"
 #include "outputs.h"
 #include "png.h"
@@ -15,8 +16,6 @@
 /* One film is open, so any number does. */
 #define FILM 1u
 
-/* The most bins that are taken where none are asked for. */
-#define MOST_CHOSEN_BINS 1024u
 
 /* ---- the film ---- */
 
@@ -86,14 +85,6 @@ static void drop_input(struct run *run)
 
 /* ---- rendering ---- */
 
-/* The bins where none are asked for: a bin for each grey of the range, so that the rendering has no steps that are not in
-   the film, up to a number that keeps the mappings small. A range that will be refused has no greys to go by. */
-static uint32_t chosen_bins(uint32_t min, uint32_t max)
-{
-    uint32_t more = max > min ? max - min : TZ_USUAL_BINS - 1;
-    return more < MOST_CHOSEN_BINS ? more + 1 : MOST_CHOSEN_BINS;
-}
-
 /* From the film's least to its greatest grey; of a film of one grey, which has no range, 0 to maxval. */
 static void settle_own_range(struct run *run)
 {
@@ -114,7 +105,8 @@ static void settle(struct run *run)
     if ((run->job->given & OWN_RANGE) != 0)
         settle_own_range(run);
     if ((run->job->given & BINS) == 0)
-        s->bins = chosen_bins(s->min, s->max);
+        s->bins = (run->job->given & BYTES) != 0 ? chosen_byte_bins(s, run->sizes.width, run->sizes.height)
+                                                 : chosen_bins(s, run->sizes.width, run->sizes.height);
 }
 
 /* Reads the film, settles the settings and lends map and scratch. */
@@ -125,6 +117,7 @@ static int begin(struct run *run)
         return code;
     drop_input(run);
     settle(run);
+    run->seen = greys_of(run->picture, run->pixels);
     doing(run, "rendering");
     const tz_settings *s = &run->settings;
     /* one entry more, so that there is memory to point at whatever the settings say */
@@ -176,8 +169,9 @@ static void tell_footer(const struct run *run)
     if ((run->job->given & OWN_RANGE) != 0)
         tell("%s%srange %u to %u, the film's own", name, mark, (unsigned)run->settings.min, (unsigned)run->settings.max);
     if ((run->job->given & BINS) == 0)
-        tell("%s%sbins %u, chosen by the range %u to %u", name, mark, (unsigned)run->settings.bins,
-             (unsigned)run->settings.min, (unsigned)run->settings.max);
+        tell("%s%sbins %u, chosen by the range %u to %u and tiles of %u pixels", name, mark,
+             (unsigned)run->settings.bins, (unsigned)run->settings.min, (unsigned)run->settings.max,
+             (unsigned)least_tile(&run->settings, run->sizes.width, run->sizes.height));
     tell("%s%slimit %u, factor asked %.9g, factor used %.17g%s", name, mark, (unsigned)footer->limit,
          (double)footer->asked, footer->used, limits_differ(run) ? " (of tile 0, 0; some tiles are larger)" : "");
 }
@@ -225,8 +219,10 @@ static int write_film(struct run *run, const uint16_t *picture, const tz_sizes *
     if (run->task.keep != NULL)
         return run->task.keep(run, sizes, count);
     int code = put_film(run, sizes, count);
-    if (code == 0)
+    if (code == 0) {
         tell_footer(run);
+        advise(run);
+    }
     return code;
 }
 

@@ -82,6 +82,16 @@ static uint32_t greatest_sample(const struct input *in, const struct front *f)
     return greatest;
 }
 
+static uint32_t least_sample(const struct input *in, const struct front *f)
+{
+    uint32_t least = 65535;
+    size_t count = samples(in, f);
+    for (size_t i = 0; i < count; i++)
+        if (sample(in, f, i) < least)
+            least = sample(in, f, i);
+    return least;
+}
+
 /* ---- ways out ---- */
 
 /* The input's name where a shell takes it as it stands; else a word in its place. */
@@ -96,6 +106,12 @@ static void way_by_header(const struct run *run, const struct front *f, uint32_t
 {
     say_more("A new header alone does it: { printf 'P5\\n%u %u\\n%u\\n'; tail -c %zu %s; } >NEW.pgm", (unsigned)f->width,
              (unsigned)f->height, (unsigned)maxval, f->bytes, shell_name(run->task.in));
+}
+
+/* What takes films as they come: other formats and other depths. */
+static void way_by_import(const struct run *run, const char *end)
+{
+    say_more("station/import %s --into FOLDER %s", shell_name(run->task.in), end);
 }
 
 static void way_by_range(const struct run *run, struct span greys)
@@ -184,30 +200,47 @@ static void more_window(const struct run *run)
 
 /* ---- the file ---- */
 
-/* Files that are often handed in for a raw PGM, by their first bytes. The ways are Netpbm's, with the file's name between
-   the two parts. */
+/* How a raw PGM is made of a file, with its name between the two parts: by our own program where greys could be lost on
+   the way, else by Netpbm's. */
+#define BY_IMPORT "station/import ", " --into FOLDER"
+
+/* Files that are often handed in for a raw PGM, by their first bytes. */
 static const struct kind {
     const char *begins;
     size_t length;
     const char *what, *by, *and_then;
 } kinds[] = {
-    {"P2", 2, "a plain PGM (P2), its numbers in text", "pgmtopgm ", ""},
-    {"P1", 2, "a plain bitmap (P1), black and white alone", "pgmtopgm ", ""},
-    {"P4", 2, "a bitmap (P4), black and white alone", "pgmtopgm ", ""},
-    {"P3", 2, "a plain PPM (P3), in colour", "ppmtopgm ", ""},
-    {"P6", 2, "a PPM (P6), in colour", "ppmtopgm ", ""},
-    {"P7", 2, "a PAM (P7)", "pamtopnm ", ""},
-    {"\x89PNG", 4, "a PNG", "pngtopam ", " | ppmtopgm | pamdepth 4095"},
-    {"II*\0", 4, "a TIFF", "tifftopnm ", " | ppmtopgm | pamdepth 4095"},
-    {"MM\0*", 4, "a TIFF", "tifftopnm ", " | ppmtopgm | pamdepth 4095"},
-    {"\xff\xd8\xff", 3, "a JPEG", "jpegtopnm ", " | ppmtopgm"},
-    {"\x1f\x8b", 2, "packed by gzip", "gunzip <", ""},
+    {"P2", 2, "a plain PGM (P2), its numbers in text", BY_IMPORT},
+    {"P1", 2, "a plain bitmap (P1), black and white alone", BY_IMPORT},
+    {"P4", 2, "a bitmap (P4), black and white alone", BY_IMPORT},
+    {"P3", 2, "a plain PPM (P3), in colour", "ppmtopgm ", " >NEW.pgm"},
+    {"P6", 2, "a PPM (P6), in colour", "ppmtopgm ", " >NEW.pgm"},
+    {"P7", 2, "a PAM (P7)", BY_IMPORT},
+    {"\x89PNG", 4, "a PNG", BY_IMPORT},
+    {"II*\0", 4, "a TIFF", BY_IMPORT},
+    {"MM\0*", 4, "a TIFF", BY_IMPORT},
+    {"II+\0", 4, "a TIFF", BY_IMPORT},
+    {"MM\0+", 4, "a TIFF", BY_IMPORT},
+    {"\x1f\x8b", 2, "packed by gzip", "gunzip <", " >NEW.pgm"},
 };
 
 static void say_kind(const struct run *run, const struct kind *kind)
 {
-    say_more("It is %s. A raw PGM is made of it by: %s%s%s >NEW.pgm", kind->what, kind->by, shell_name(run->task.in),
+    say_more("It is %s. A raw PGM is made of it by: %s%s%s", kind->what, kind->by, shell_name(run->task.in),
              kind->and_then);
+}
+
+/* Files that are none of these: what can be told of them, at least. */
+static void say_other(const struct run *run)
+{
+    static const struct kind dicom = {"", 0, "a DICOM file", BY_IMPORT};
+    const struct input *in = &run->input;
+    if (in->len >= 132 && memcmp(in->bytes + 128, "DICM", 4) == 0)
+        say_kind(run, &dicom);
+    else if (in->len >= 3 && memcmp(in->bytes, "\xff\xd8\xff", 3) == 0)
+        say_more("It is a JPEG, whose packing alters greys: have the scan given as PNG, TIFF or DICONDE, for station/import.");
+    else
+        say_more("It begins with byte %u where P, %u, stands in a PGM.", (unsigned)in->bytes[0], (unsigned)'P');
 }
 
 static void say_broken(const struct input *in)
@@ -230,17 +263,15 @@ static void more_header(const struct run *run)
         say_more("It is empty.");
     else if (in->len >= 2 && memcmp(in->bytes, "P5", 2) == 0)
         say_broken(in);
-    else if (in->len >= 132 && memcmp(in->bytes + 128, "DICM", 4) == 0)
-        say_more("It is a DICOM file: have the program that made it export the film as PGM.");
     else
-        say_more("It begins with byte %u where P, %u, stands in a PGM.", (unsigned)in->bytes[0], (unsigned)'P');
+        say_other(run);
 }
 
 static void more_comment(const struct run *run)
 {
     struct front f = front_of(&run->input);
     uint32_t maxval = f.maxval < TZ_MOST_GREY ? f.maxval : TZ_MOST_GREY;
-    say_more("Netpbm's tools write none: pgmtopgm %s >NEW.pgm", shell_name(run->task.in));
+    way_by_import(run, "makes the same film without one.");
     if (f.numbers == 3 && maxval > 0 && run->input.len - f.raster == f.bytes && greatest_sample(&run->input, &f) <= maxval)
         way_by_header(run, &f, maxval);
 }
@@ -255,9 +286,7 @@ static void more_size(const struct run *run)
     say_more("The header says %u by %u pixels; sides of 1 to %u are taken.", (unsigned)f.width, (unsigned)f.height,
              TZ_MOST_SIDE);
     if (f.width > TZ_MOST_SIDE || f.height > TZ_MOST_SIDE)
-        say_more("Netpbm cuts out a part: pamcut -left=0 -top=0 -width=%u -height=%u %s >NEW.pgm",
-                 f.width < TZ_MOST_SIDE ? (unsigned)f.width : TZ_MOST_SIDE,
-                 f.height < TZ_MOST_SIDE ? (unsigned)f.height : TZ_MOST_SIDE, shell_name(run->task.in));
+        way_by_import(run, "--cut makes films of it that overlap.");
 }
 
 static void more_maxval(const struct run *run)
@@ -270,8 +299,10 @@ static void more_maxval(const struct run *run)
              (unsigned)greatest, TZ_MOST_GREY);
     if (f.maxval > TZ_MOST_GREY && greatest <= TZ_MOST_GREY)
         way_by_header(run, &f, TZ_MOST_GREY);
+    else if (f.maxval > TZ_MOST_GREY && greatest - least_sample(&run->input, &f) <= TZ_MOST_GREY)
+        way_by_import(run, "keeps every grey, less the least of them.");
     else if (f.maxval > TZ_MOST_GREY)
-        say_more("Netpbm brings it down: pamdepth %u %s >NEW.pgm", TZ_MOST_GREY, shell_name(run->task.in));
+        way_by_import(run, "takes an even step of greys for one, and says how many became one.");
 }
 
 static void more_raster(const struct run *run)

@@ -2,6 +2,7 @@
 #ifndef TZ_RUN_H
 #define TZ_RUN_H
 
+#include "advice.h"
 #include "files.h"
 #include "sha256.h"
 #include "tzofnadir.h"
@@ -28,6 +29,7 @@ struct run {
     tz_sizes sizes;
     uint16_t *picture; /* the film's greys, and then the rendering */
     size_t pixels;
+    struct greys seen; /* of the film, before it is rendered */
     uint8_t *film; /* with --bytes, the film as bytes: its raster, inside the input */
     uint16_t *map;
     uint8_t *byte_map;

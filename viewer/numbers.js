@@ -50,11 +50,29 @@ function factorOf(text) {
   return side === 0 ? near : side < 0 ? low : high;
 }
 
-// As the command line chooses: a bin for each grey of the range, up to a number that keeps the mappings small. A range that
-// will be refused has no greys to go by.
-function chosenBins(min, max) {
-  const more = max > min ? max - min : 127;
-  return more < MOST_CHOSEN_BINS ? more + 1 : MOST_CHOSEN_BINS;
+// Whether the factor used with these bins in a tile of this many pixels is within a tenth of the one asked, or with a bin for
+// each grey a quarter below at most. A double holds all these numbers exactly, so the page chooses as station/bins.c does.
+function factorHolds(whole, pixels, bins, greys) {
+  const over = Math.max(Math.floor(whole / bins), Math.ceil(pixels / bins)) * bins - whole;
+  return over > 0 ? 10 * over <= whole : -(bins === greys ? 4 : 10) * over <= whole;
+}
+
+// As the command line chooses: a bin for each grey of the range, up to 1024, and as many of them as hold the factor in the
+// least tile. A range that will be refused has no greys to go by, and a refused factor clips nothing.
+function chosenBins(s, film) {
+  const greys = s.max - s.min + 1;
+  const most = Math.min(s.max > s.min ? greys : 128, MOST_CHOSEN_BINS);
+  const side = (length, tiles) => tiles === 0 ? length : Math.floor(length / tiles);
+  const pixels = Math.max(1, side(film.width, s.across) * side(film.height, s.down));
+  const factor = Math.fround(s.factor);
+  const whole = factor * pixels;
+  if (!s.clip || !(factor > 1 && factor <= 1024) || factorHolds(whole, pixels, most, greys)) return most;
+  for (let limit = Math.floor(whole / most) + 1; whole / limit >= 2; limit++) {
+    const found = [Math.floor(whole / limit), Math.ceil(pixels / limit)].find(bins => bins >= 2 && bins <= most &&
+      factorHolds(whole, pixels, bins, greys));
+    if (found) return found;
+  }
+  return 2;
 }
 
 // The grid nearest to the one wished among those that fit, the smaller of two; the one wished where none fits, for the

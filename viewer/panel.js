@@ -16,8 +16,9 @@ const typing = new Map(); // timers of boxes that are being typed into
 function startSettings(film) {
   const across = nearestGrid(8, film.fits.across);
   const down = nearestGrid(8, film.fits.down);
-  film.settings = {across, down, bins: chosenBins(0, film.maxval), min: 0, max: film.maxval, clip: 1, factor: 3};
+  film.settings = {across, down, bins: 0, min: 0, max: film.maxval, clip: 1, factor: 3};
   film.binsChosen = true;
+  chooseBins(film);
   film.notes = [];
   if (across !== 8) film.notes.push(`8 tiles across do not fit into ${film.width} pixels: ${across} taken.`);
   if (down !== 8) film.notes.push(`8 tiles down do not fit into ${film.height} pixels: ${down} taken.`);
@@ -49,7 +50,7 @@ function change(id, value, event) {
 }
 
 function chooseBins(film) {
-  if (film.binsChosen) film.settings.bins = chosenBins(film.settings.min, film.settings.max);
+  if (film.binsChosen) film.settings.bins = chosenBins(film.settings, film);
 }
 
 function changeRange(min, max, event) {
@@ -64,6 +65,7 @@ function changeRange(min, max, event) {
 function changeClip(on, event) {
   if (!state.film || !state.film.ready) return;
   state.film.settings.clip = on ? 1 : 0;
+  chooseBins(state.film);
   want('draw', 'factor', event);
   fillPanel();
 }

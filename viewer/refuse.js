@@ -41,13 +41,14 @@ function frontOf(bytes) {
   return front;
 }
 
-// The samples that are there, of those that should be: the greatest, and the first above maxval.
+// The samples that are there, of those that should be: the least, the greatest, and the first above maxval.
 function samplesOf(bytes, front) {
   const count = Math.floor(Math.min(bytes.length - front.raster, front.bytes) / front.wide);
-  const found = {greatest: 0, above: -1, value: 0};
+  const found = {least: 65535, greatest: 0, above: -1, value: 0};
   for (let i = 0; i < count; i++) {
     const at = front.raster + i * front.wide;
     const sample = front.wide === 1 ? bytes[at] : bytes[at] * 256 + bytes[at + 1];
+    if (sample < found.least) found.least = sample;
     if (sample > found.greatest) found.greatest = sample;
     if (sample > front.maxval && found.above < 0) {
       found.above = i;
@@ -59,19 +60,22 @@ function samplesOf(bytes, front) {
 
 // ---- the file ----
 
-// Files that are often handed in for a raw PGM, by their first bytes; the ways are Netpbm's.
+// Files that are often handed in for a raw PGM, by their first bytes, and how one is made of them: by our own program where
+// greys could be lost on the way, else by Netpbm's.
+const BY_IMPORT = 'station/import FILE --into FOLDER';
 const KINDS = [
-  ['P2', 'a plain PGM (P2), its numbers in text', 'pgmtopgm FILE'],
-  ['P1', 'a plain bitmap (P1), black and white alone', 'pgmtopgm FILE'],
-  ['P4', 'a bitmap (P4), black and white alone', 'pgmtopgm FILE'],
-  ['P3', 'a plain PPM (P3), in colour', 'ppmtopgm FILE'],
-  ['P6', 'a PPM (P6), in colour', 'ppmtopgm FILE'],
-  ['P7', 'a PAM (P7)', 'pamtopnm FILE'],
-  ['\x89PNG', 'a PNG', 'pngtopam FILE | ppmtopgm | pamdepth 4095'],
-  ['II*\0', 'a TIFF', 'tifftopnm FILE | ppmtopgm | pamdepth 4095'],
-  ['MM\0*', 'a TIFF', 'tifftopnm FILE | ppmtopgm | pamdepth 4095'],
-  ['\xff\xd8\xff', 'a JPEG', 'jpegtopnm FILE | ppmtopgm'],
-  ['\x1f\x8b', 'packed by gzip', 'gunzip <FILE'],
+  ['P2', 'a plain PGM (P2), its numbers in text', BY_IMPORT],
+  ['P1', 'a plain bitmap (P1), black and white alone', BY_IMPORT],
+  ['P4', 'a bitmap (P4), black and white alone', BY_IMPORT],
+  ['P3', 'a plain PPM (P3), in colour', 'ppmtopgm FILE >NEW.pgm'],
+  ['P6', 'a PPM (P6), in colour', 'ppmtopgm FILE >NEW.pgm'],
+  ['P7', 'a PAM (P7)', BY_IMPORT],
+  ['\x89PNG', 'a PNG', BY_IMPORT],
+  ['II*\0', 'a TIFF', BY_IMPORT],
+  ['MM\0*', 'a TIFF', BY_IMPORT],
+  ['II+\0', 'a TIFF', BY_IMPORT],
+  ['MM\0+', 'a TIFF', BY_IMPORT],
+  ['\x1f\x8b', 'packed by gzip', 'gunzip <FILE >NEW.pgm'],
 ];
 
 // The name where a shell takes it as it stands; else a word in its place.
@@ -86,12 +90,20 @@ function wayByHeader(input, front, maxval) {
     `tail -c ${front.bytes} ${shellName(input.name)}; } >NEW.pgm`;
 }
 
+// What takes films as they come: other formats and other depths.
+function wayByImport(input, end) { return `${BY_IMPORT.replace('FILE', shellName(input.name))} ${end}`; }
+
+function madeBy(input, what, way) { return `It is ${what}. A raw PGM is made of it by: ${way.replace('FILE', shellName(input.name))}`; }
+
 function moreOfHeader(input) {
-  const {bytes, name} = input;
+  const {bytes} = input;
   const kind = KINDS.find(([text]) => begins(bytes, text));
-  if (kind) return [`It is ${kind[1]}. A raw PGM is made of it by: ${kind[2].replace('FILE', shellName(name))} >NEW.pgm`];
+  if (kind) return [madeBy(input, kind[1], kind[2])];
   if (bytes.length === 0) return ['It is empty.'];
-  if (begins(bytes, 'DICM', 128)) return ['It is a DICOM file: have the program that made it export the film as PGM.'];
+  if (begins(bytes, 'DICM', 128)) return [madeBy(input, 'a DICOM file', BY_IMPORT)];
+  if (begins(bytes, '\xff\xd8\xff')) {
+    return ['It is a JPEG, whose packing alters greys: have the scan given as PNG, TIFF or DICONDE, for station/import.'];
+  }
   if (!begins(bytes, 'P5')) return [`It begins with byte ${bytes[0]} where P, 80, stands in a PGM.`];
   const front = frontOf(bytes);
   const end = front.raster >= bytes.length ? 'ends' : 'breaks off';
@@ -102,7 +114,7 @@ function moreOfHeader(input) {
 }
 
 function moreOfComment(input, front) {
-  const lines = [`Netpbm's tools write none: pgmtopgm ${shellName(input.name)} >NEW.pgm`];
+  const lines = [wayByImport(input, 'makes the same film without one.')];
   const maxval = Math.min(front.maxval, MOST_GREY);
   if (front.whole && maxval > 0 && input.bytes.length - front.raster === front.bytes &&
       samplesOf(input.bytes, front).greatest <= maxval) {
@@ -116,20 +128,20 @@ function moreOfSize(input, front) {
   const {width, height} = front;
   const lines = [`The header says ${width} by ${height} pixels; sides of 1 to ${MOST_SIDE} are taken.`];
   if (width > MOST_SIDE || height > MOST_SIDE) {
-    lines.push(`Netpbm cuts out a part: pamcut -left=0 -top=0 -width=${Math.min(width, MOST_SIDE)} ` +
-      `-height=${Math.min(height, MOST_SIDE)} ${shellName(input.name)} >NEW.pgm`);
+    lines.push(wayByImport(input, '--cut makes films of it that overlap.'));
   }
   return lines;
 }
 
 function moreOfMaxval(input, front) {
   if (!front.whole) return [];
-  const {greatest} = samplesOf(input.bytes, front);
+  const {least, greatest} = samplesOf(input.bytes, front);
   const lines = [`The file's maxval is ${front.maxval}, and its greatest sample ${greatest}; ` +
     `maxvals of 1 to ${MOST_GREY} are taken.`];
   if (front.maxval > MOST_GREY && greatest <= MOST_GREY) lines.push(wayByHeader(input, front, MOST_GREY));
   else if (front.maxval > MOST_GREY) {
-    lines.push(`Netpbm brings it down: pamdepth ${MOST_GREY} ${shellName(input.name)} >NEW.pgm`);
+    lines.push(wayByImport(input, greatest - least <= MOST_GREY ? 'keeps every grey, less the least of them.'
+      : 'takes an even step of greys for one, and says how many became one.'));
   }
   return lines;
 }

@@ -34,7 +34,7 @@ try 'an option cut short' 64 enhance film.pgm "$out" --bin=64
 told='bins 1024, chosen by the range 0 to 4095'
 try 'no bins: what was chosen is told' 0 enhance film.pgm "$out"
 told='bins 256, chosen by the range 100 to 355'
-{ printf 'P5\n16 16\n4095\n'; head -c 512 /dev/zero | tr '\0' '\1'; } >flat.pgm
+{ printf 'P5\n256 256\n4095\n'; head -c 131072 /dev/zero | tr '\0' '\1'; } >flat.pgm
 try 'no bins: a grey each in a short range' 0 enhance flat.pgm "$out" --range 100:355
 "$tz" enhance film.pgm usual.pgm --bins 128 2>said
 over enhance film.pgm "$out" --bins 0 2>said

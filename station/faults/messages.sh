@@ -44,10 +44,11 @@ kind() { # WHAT BYTES TOLD
 }
 kind 'a plain PGM' 'P2\n2 2\n15\n1 2 3 4\n' 'It is a plain PGM (P2)'
 kind 'a PPM' 'P6\n2 2\n255\nabcdefghijkl' 'It is a PPM (P6), in colour. A raw PGM is made of it by: ppmtopgm kind.pgm >NEW.pgm'
-kind 'a PNG' '\211PNG\r\n\032\nIHDR' 'It is a PNG'
+kind 'a PNG' '\211PNG\r\n\032\nIHDR' 'It is a PNG. A raw PGM is made of it by: station/import kind.pgm --into FOLDER'
 kind 'a TIFF, low byte first' 'II*\0\010\0\0\0' 'It is a TIFF'
 kind 'a TIFF, high byte first' 'MM\0*\0\0\0\010' 'It is a TIFF'
-kind 'a JPEG' '\377\330\377\340' 'It is a JPEG'
+kind 'a JPEG' '\377\330\377\340' 'It is a JPEG, whose packing alters greys'
+kind 'a DICOM file' "$(printf '%0128d' 0)DICM" 'It is a DICOM file. A raw PGM is made of it by: station/import kind.pgm --into FOLDER'
 kind 'no file of a known kind' 'hello' 'It begins with byte 104'
 kind 'an empty file' '' 'It is empty'
 kind 'P5, and a header that breaks off' 'P5\n512 x384\n255\n' 'behind 1 of its three numbers the header breaks off, at byte 7'
@@ -58,9 +59,16 @@ told='two bytes, 393216 bytes; behind it stand 393217'
 try 'a file with one byte more: how long it is' 25 enhance long.pgm "$out"
 told='The header says 99999 by 99999 pixels'
 try 'a film of 99999 by 99999: what the header says' 22 enhance huge.pgm "$out"
-told='pamdepth 4095 deeper.pgm'
-{ printf 'P5\n2 2\n65535\n'; printf 'hellothe'; } >deeper.pgm
-try 'a maxval of 65535, and samples as high: Netpbm' 23 enhance deeper.pgm "$out"
+told='station/import deeper.pgm --into FOLDER takes an even step of greys for one, and says how many became one.'
+{ printf 'P5\n2 2\n65535\n'; printf '\\0\\1llothe'; } >deeper.pgm
+try 'a maxval of 65535, and samples as high: the import' 23 enhance deeper.pgm "$out"
+told='station/import deeper.pgm --into FOLDER keeps every grey, less the least of them.'
+{ printf 'P5\n2 2\n65535\n'; printf 'hahehiho'; } >deeper.pgm
+try 'a maxval of 65535, and samples close together: the import' 23 enhance deeper.pgm "$out"
+told='station/import comment.pgm --into FOLDER makes the same film without one.'
+try 'a comment in the header: the import' 21 enhance comment.pgm "$out"
+told='station/import huge.pgm --into FOLDER --cut makes films of it that overlap.'
+try 'a film of 99999 by 99999: the import' 22 enhance huge.pgm "$out"
 
 # Where a new header is all that is needed, the message has the command: it is run, and the film rendered.
 way_out() { # WHAT STATUS FILM

@@ -36,7 +36,7 @@ if command -v python3 >/dev/null; then
     # bytes: the same film and footer, and these the second program's
     parts cut shallow.pgm 100 37 odd.pgm
     sized '100 by 37, 8 bits' enhance
-    alike '--bytes, 100 by 37: the same film' odd.pgm enhance
+    alike '--bytes, 100 by 37: the same film' odd.pgm enhance --bins 128
     alike '--bytes, 100 by 37: the same window' odd.pgm window --at 51,7 --size 49x29 --bins 64 --clip 1.5
     parts cut shallow.pgm 8 9 odd.pgm
     alike '--bytes, 8 by 9: the same film' odd.pgm enhance --bins 64

@@ -1,0 +1,133 @@
+#include "advice.h"
+
+#include <stdio.h>
+#include <string.h>
+
+#include "bins.h"
+#include "film.h"
+#include "messages.h"
+
+struct greys greys_of(const uint16_t *picture, size_t pixels)
+{
+    uint8_t there[TZ_MOST_GREY + 1] = {0};
+    struct greys g = {picture[0], picture[0], 0, 0};
+    for (size_t i = 0; i < pixels; i++)
+        there[picture[i] <= TZ_MOST_GREY ? picture[i] : TZ_MOST_GREY] = 1;
+    for (uint32_t grey = 0, last = 0; grey <= TZ_MOST_GREY; grey++) {
+        if (!there[grey])
+            continue;
+        if (g.distinct > 0 && (g.gap == 0 || grey - last < g.gap))
+            g.gap = grey - last;
+        g.least = g.distinct == 0 ? grey : g.least;
+        g.greatest = last = grey;
+        g.distinct++;
+    }
+    return g;
+}
+
+/* ---- what is to be warned of ---- */
+
+static uint32_t greys_in(const tz_settings *s) { return s->max - s->min + 1; }
+
+static int flat(const struct run *run) { return run->seen.distinct == 1; }
+
+static int thin(const struct run *run)
+{
+    return 4 * (run->seen.greatest - run->seen.least + 1) < greys_in(&run->settings);
+}
+
+static int sparse(const struct run *run) { return 2 * run->seen.distinct < tz_bins_of(&run->settings); }
+
+static int unheld(const struct run *run)
+{
+    const tz_settings *s = &run->settings;
+    return !factor_holds(s, least_tile(s, run->sizes.width, run->sizes.height), tz_bins_of(s));
+}
+
+static uint32_t least(uint32_t a, uint32_t b) { return a < b ? a : b; }
+
+/* ---- what to type instead ---- */
+
+/* A bin for each grey that occurs, where these stand evenly apart, and else no more than twice as many as there are. */
+static uint32_t most_bins(const struct run *run, const tz_settings *better)
+{
+    uint32_t most = least(greys_in(better), 1024), gap = run->seen.gap;
+    if (!sparse(run) || flat(run))
+        return most;
+    most = least(most, least((greys_in(better) + gap - 1) / gap, 2 * run->seen.distinct));
+    return most < 2 ? 2 : most;
+}
+
+/* Settings that need no warning: another range, as many bins as serve, and larger tiles where no bins hold the factor. */
+static tz_settings better_settings(const struct run *run)
+{
+    tz_settings better = run->settings;
+    if (thin(run) && !flat(run)) {
+        better.min = run->seen.least;
+        better.max = run->seen.greatest;
+    }
+    uint32_t most = most_bins(run, &better);
+    for (uint32_t tiles = TZ_MOST_GRID; tiles >= TZ_LEAST_GRID; tiles--) {
+        better.across = least(run->settings.across, tiles);
+        better.down = least(run->settings.down, tiles);
+        uint32_t pixels = least_tile(&better, run->sizes.width, run->sizes.height);
+        better.bins = bins_that_hold(&better, pixels, most);
+        if (factor_holds(&better, pixels, better.bins))
+            return better;
+    }
+    return run->settings;
+}
+
+/* The words that turn the settings into the better ones. Bins that would be chosen anyway are left to be chosen. */
+static void words_for(const struct run *run, const tz_settings *better, char *text, size_t room)
+{
+    const tz_settings *s = &run->settings;
+    size_t at = 0;
+    text[0] = '\0';
+    if (better->min != s->min || better->max != s->max)
+        at += (size_t)snprintf(text + at, room - at, " --range %u:%u", (unsigned)better->min, (unsigned)better->max);
+    if (better->across != s->across || better->down != s->down)
+        at += (size_t)snprintf(text + at, room - at, " --grid %ux%u", (unsigned)better->across, (unsigned)better->down);
+    int asked = (run->job->given & (BINS | BYTES)) != 0 && better->bins != tz_bins_of(s);
+    if (asked || better->bins != chosen_bins(better, run->sizes.width, run->sizes.height))
+        at += (size_t)snprintf(text + at, room - at, " --bins %u", (unsigned)better->bins);
+    if (at > 0 && (run->job->given & BYTES) != 0)
+        snprintf(text + at, room - at, ", without --bytes");
+}
+
+/* ---- the warnings ---- */
+
+static void warn_of_greys(const struct run *run, const char *name, const char *mark)
+{
+    const struct greys *g = &run->seen;
+    if (flat(run)) {
+        tell("%s%swarning: the film has one grey alone, %u: no settings bring anything out of it", name, mark,
+             (unsigned)g->least);
+        return;
+    }
+    if (thin(run))
+        tell("%s%swarning: the film's greys, %u to %u, fill %u of the %u in the range", name, mark, (unsigned)g->least,
+             (unsigned)g->greatest, (unsigned)(g->greatest - g->least + 1), (unsigned)greys_in(&run->settings));
+    if (sparse(run))
+        tell("%s%swarning: %u greys occur in the film, and there are %u bins", name, mark, (unsigned)g->distinct,
+             (unsigned)tz_bins_of(&run->settings));
+}
+
+void advise(const struct run *run)
+{
+    char text[128];
+    int named = (run->job->given & INTO) != 0;
+    const char *name = named ? run->task.in : "", *mark = named ? ": " : "";
+    if (!thin(run) && !sparse(run) && !unheld(run))
+        return;
+    warn_of_greys(run, name, mark);
+    if (unheld(run))
+        tell("%s%swarning: the factor used is %.3g, and %.9g was asked: a tile has %u pixels and %u bins", name, mark,
+             run->footer.used, (double)run->footer.asked,
+             (unsigned)least_tile(&run->settings, run->sizes.width, run->sizes.height),
+             (unsigned)tz_bins_of(&run->settings));
+    tz_settings better = better_settings(run);
+    words_for(run, &better, text, sizeof text);
+    if (text[0] != '\0')
+        tell("  to type instead:%s", text);
+}
