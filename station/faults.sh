@@ -359,6 +359,9 @@ fi
 . "$top/station/faults/verify.sh"
 . "$top/station/faults/batch.sh"
 
+# ---- scans from elsewhere
+. "$top/station/faults/import.sh"
+
 # ---- flushing that fails
 . "$top/station/faults/flush.sh"
 

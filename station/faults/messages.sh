@@ -60,7 +60,7 @@ try 'a file with one byte more: how long it is' 25 enhance long.pgm "$out"
 told='The header says 99999 by 99999 pixels'
 try 'a film of 99999 by 99999: what the header says' 22 enhance huge.pgm "$out"
 told='station/import deeper.pgm --into FOLDER takes an even step of greys for one, and says how many became one.'
-{ printf 'P5\n2 2\n65535\n'; printf '\\0\\1llothe'; } >deeper.pgm
+{ printf 'P5\n2 2\n65535\n'; printf '\0\1llothe'; } >deeper.pgm
 try 'a maxval of 65535, and samples as high: the import' 23 enhance deeper.pgm "$out"
 told='station/import deeper.pgm --into FOLDER keeps every grey, less the least of them.'
 { printf 'P5\n2 2\n65535\n'; printf 'hahehiho'; } >deeper.pgm

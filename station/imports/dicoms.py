@@ -4,7 +4,7 @@ import logging
 import warnings
 
 from said import Ended, package
-from scan import Scan
+from scan import Scan, spacing_of
 
 AGAIN = "Have it sent or written again."
 LOSSY = {"1.2.840.10008.1.2.4.50", "1.2.840.10008.1.2.4.51", "1.2.840.10008.1.2.4.81"}
@@ -49,7 +49,7 @@ def spacing(data):
     for name in SPACINGS:
         value = data.get(name, None)
         if value is not None and value != "" and len(value) == 2:
-            return {"rows_mm": float(value[0]), "columns_mm": float(value[1]), "from": name}
+            return spacing_of(float(value[0]), float(value[1]), name)
     return None
 
 
@@ -73,7 +73,7 @@ def check_packing(data):
 def check_kind(data):
     samples, kind = number_of(data, "SamplesPerPixel", 1), str(data.get("PhotometricInterpretation", ""))
     if "PixelData" not in data:
-        raise Ended("it has no picture of whole numbers in it", "Have the scan itself given, not its report.")
+        raise Ended("it is cut off, or has no picture of whole numbers in it", "Have the scan itself sent again, not its report.")
     if samples != 1 or kind not in ("MONOCHROME1", "MONOCHROME2"):
         raise Ended("it is not grey: %d samples a pixel, %s" % (samples, kind or "of no kind"),
                     "Have the scan given in grey (MONOCHROME2).")
@@ -104,6 +104,7 @@ def frames_of(data):
         if syntax.is_compressed:
             raise Ended("it is packed as %s, which cannot be unpacked here" % syntax.name, UNPACK) from None
         raise Ended("it is cut off or damaged: %s" % (str(fault).splitlines() or ["no reason given"])[0], AGAIN) from None
+    greys = greys.astype(greys.dtype.newbyteorder("="), copy=False)  # bits are looked at, whatever the file's order
     return [greys] if greys.ndim == 2 else list(greys)
 
 

@@ -58,6 +58,8 @@ def rule_of(scan):
     least, greatest, distinct = int(found[0]), int(found[-1]), len(found)
     if least >= 0 and greatest <= MOST:
         return Rule(least, greatest, distinct, 0, 0, 1, maxval_of(scan, greatest))
+    if scan.signed and scan.bits <= 12:  # all that the file may hold fits, and its films stay alike
+        return Rule(least, greatest, distinct, 0, -(1 << scan.bits - 1), 1, (1 << scan.bits) - 1)
     if greatest - least <= MOST:
         return Rule(least, greatest, distinct, 0, least, 1, MOST)
     step = step_for(found)
@@ -82,10 +84,10 @@ def told(scan, rule):
     if scan.inverted:
         done.append("turned round (%s)" % scan.inverted)
     if rule.step > 1:
-        done.append("a step of %d taken for one grey, %d of %d greys became one with another"
-                    % (rule.step, rule.merged, rule.distinct))
+        done.append("a step of %d taken for one grey, %s of the %d that occur became one with another"
+                    % (rule.step, rule.merged or "none", rule.distinct))
     if rule.offset:
-        done.append("each less %d" % rule.offset)
+        done.append("each %s %d" % ("less" if rule.offset > 0 else "plus", abs(rule.offset)))
     if rule.step == 1 and not rule.offset and not scan.inverted:
         done.append("kept as they are")
     return ", ".join(done)

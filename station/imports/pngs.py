@@ -4,7 +4,7 @@ import struct
 import zlib
 
 from said import Ended, package
-from scan import Scan
+from scan import Scan, spacing_of
 
 COLOURS = {2: "is in colour (RGB)", 3: "has a palette, so its samples are no greys but numbers of colours",
            4: "has transparency beside its greys", 6: "is in colour, with transparency"}
@@ -36,7 +36,7 @@ def spacing(found):
     across, down = struct.unpack(">II", body[:8])
     if across == 0 or down == 0:
         return None
-    return {"rows_mm": 1000 / down, "columns_mm": 1000 / across, "from": "pHYs"}
+    return spacing_of(1000 / down, 1000 / across, "pHYs")
 
 
 def read(data):

@@ -2,6 +2,11 @@
 from dataclasses import dataclass, field
 
 
+def spacing_of(rows, columns, where):
+    """Millimetres a pixel, in as many digits as anyone measures."""
+    return {"rows_mm": float("%.9g" % rows), "columns_mm": float("%.9g" % columns), "from": where}
+
+
 @dataclass
 class Scan:
     kind: str  # of file

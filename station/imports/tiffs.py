@@ -3,7 +3,7 @@ import io
 import logging
 
 from said import Ended, package
-from scan import Scan
+from scan import Scan, spacing_of
 
 GREY = "Have the scan given as a grey TIFF or PNG, without colour, palette or transparency."
 AGAIN = "Have it sent or written again."
@@ -71,8 +71,29 @@ def by_other(data, page, why):
     return 255 - greys if int(page.photometric) == INVERTED and page.bitspersample == 8 else greys
 
 
+def narrow(data, page):
+    """Samples of 9 to 15 bits, one right behind another; each row begins with a byte of its own."""
+    numpy = package("numpy")
+    width, height, bits = page.imagewidth, page.imagelength, page.bitspersample
+    if int(page.compression) != 1 or page.is_tiled or page.fillorder != 1 or page.sampleformat == 2:
+        raise Ended("its %d bits a sample are packed in a manner that cannot be unpacked here" % bits,
+                    "Have the scan given with 16 bits a sample.")
+    row = (width * bits + 7) // 8
+    raster = b"".join(data[at:at + count] for at, count in zip(page.dataoffsets, page.databytecounts))
+    if len(raster) < row * height:
+        raise Ended("it is damaged: its picture takes %d bytes, and %d are there" % (row * height, len(raster)), AGAIN)
+    rows = numpy.frombuffer(raster, numpy.uint8, row * height).reshape(height, row)
+    greys = numpy.empty((height, width), numpy.uint16)
+    weights = (1 << numpy.arange(bits)[::-1]).astype(numpy.uint16)
+    for y in range(height):
+        greys[y] = numpy.unpackbits(rows[y])[:width * bits].reshape(width, bits) @ weights
+    return greys
+
+
 def samples(data, page):
     numpy = package("numpy")
+    if page.bitspersample not in (8, 16):
+        return narrow(data, page)
     try:
         greys = page.asarray()
     except (ImportError, AttributeError, NotImplementedError) as why:
@@ -96,7 +117,7 @@ def spacing(page):
         if unit is None or value is None or value[0] == 0 or value[1] == 0:
             return None
         found.append(unit * value[1] / value[0])
-    return {"rows_mm": found[0], "columns_mm": found[1], "from": "XResolution, YResolution"}
+    return spacing_of(found[0], found[1], "XResolution, YResolution")
 
 
 def pages_of(tiff, heard):
