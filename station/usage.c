@@ -17,7 +17,7 @@ const char usage[] =
     "\n"
     "SETTINGS: --grid 8x8         tiles across and down, 2 to 16 each, and no more than the film has pixels that way\n"
     "          --bins B           grey bins, 2 to 4096 and no more than the range has greys; 0 means 128. Unless\n"
-    "                             given: the least of 1024 and the greys in the range, and told\n"
+    "                             given: as many as hold the factor, up to 1024 and the greys in the range, and told\n"
     "          --range MIN:MAX    grey range, 0 to the file's maxval unless given; auto: the film's least and greatest grey\n"
     "          --clip 3.0|off     clip factor, 1.0 to 1024.0\n"
     "          --bytes            work on bytes: maxval at most 255, grid 8x8, range 0:255, bins 64, 128 or 256\n"

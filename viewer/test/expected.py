@@ -10,7 +10,9 @@ import sys
 
 TOP = os.path.dirname(os.path.dirname(os.path.dirname(os.path.abspath(__file__))))
 sys.path.insert(0, os.path.join(TOP, "second"))
+sys.path.insert(0, os.path.join(TOP, "station", "faults"))
 
+import bins  # noqa: E402
 import clahe  # noqa: E402
 import pgm  # noqa: E402
 
@@ -32,8 +34,10 @@ class Film:
         return head + struct.pack(">%dH" % len(self.greys), *self.greys)
 
     def usual(self):
-        """The settings that a film starts with: 8 by 8 tiles, or as many as it has pixels."""
-        return settings(min(8, self.width), min(8, self.height), min(1024, self.maxval + 1), 0, self.maxval, 3.0)
+        """The settings that a film starts with: 8 by 8 tiles, or as many as it has pixels, and the bins that hold factor 3."""
+        across, down = min(8, self.width), min(8, self.height)
+        chosen = bins.chosen(self.width, self.height, across, down, 0, self.maxval, 3.0)
+        return settings(across, down, chosen, 0, self.maxval, 3.0)
 
     def tile_at(self, x, y, asked):
         """The number and the rectangle of the tile in which a pixel lies."""
