@@ -1,4 +1,4 @@
-# shellcheck shell=sh disable=SC2154,SC2034
+# shellcheck shell=sh disable=SC2154,SC2034,SC2012,SC2046,SC2129
 # station/faults.sh reads this: station/import, on files that station/faults/scans.py makes.
 import=$top/station/import
 scan_python=''

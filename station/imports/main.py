@@ -15,7 +15,7 @@ import parts  # noqa: E402
 import pngs  # noqa: E402
 import pnm  # noqa: E402
 import tiffs  # noqa: E402
-from said import BAD_WORDS, NO_INPUT, NO_MEMORY, IO_FAULT, Ended, say, say_ended, shown  # noqa: E402
+from said import BAD_WORDS, NO_INPUT, NO_MEMORY, IO_FAULT, Ended, hold_streams, say, say_ended, say_more, shown  # noqa: E402
 
 TOP = os.path.dirname(os.path.dirname(os.path.dirname(os.path.abspath(__file__))))
 ENDINGS = re.compile(r"(?i)(?<=.)\.(dcm|dicom|dic|diconde|tiff?|png|pgm|pnm|pbm|pam)\Z")
@@ -203,7 +203,7 @@ def tell(file, scan, rule, films, new):
     say("%s: %s of %d by %d%s, %s%s" % (shown(file), scan.kind, width, height, many, greys.told(scan, rule),
                                         "" if new else "; there already"))
     for note in scan.notes:
-        sys.stderr.write("  %s\n" % note)
+        say_more(note)
 
 
 # ---- all of them
@@ -246,13 +246,14 @@ def import_all(asked):
 
 
 def main():
+    hold_streams()
     try:
         asked = words(sys.argv[1:])
         outputs.watch()
         outputs.make_folder(asked.into)
     except Ended as ended:
         say(ended.sentence)
-        sys.stderr.write("  %s\n" % ended.way)
+        say_more(ended.way)
         return ended.status
     return import_all(asked)
 

@@ -35,19 +35,23 @@ def make_folder(folder):
     """Makes the folder where it is not there, and clears what killed runs left and nobody holds."""
     try:
         os.makedirs(folder, exist_ok=True)
-        for part in glob.glob(os.path.join(glob.escape(folder), ".import-*.part")):
-            held = os.open(part, os.O_WRONLY | os.O_NOFOLLOW)
-            try:
-                fcntl.flock(held, fcntl.LOCK_EX | fcntl.LOCK_NB)
-                os.unlink(part)
-            except BlockingIOError:
-                pass
-            finally:
-                os.close(held)
-    except FileNotFoundError:
-        pass
     except OSError as fault:
         raise Ended("the folder cannot be used: %s" % fault.strerror, "Name another behind --into.", CANNOT_CREATE, True) from None
+    for part in glob.glob(os.path.join(glob.escape(folder), ".import-*.part")):
+        try:
+            clear(part)
+        except OSError:  # held, another's, or gone meanwhile
+            pass
+
+
+def clear(part):
+    """Removes a new file of a run that is no more."""
+    held = os.open(part, os.O_RDONLY | os.O_NOFOLLOW | os.O_NONBLOCK)
+    try:
+        fcntl.flock(held, fcntl.LOCK_EX | fcntl.LOCK_NB)
+        os.unlink(part)
+    finally:
+        os.close(held)
 
 
 def standing(path, data):
@@ -92,9 +96,13 @@ def lay(folder, data):
     """The bytes in a new file, flushed. It stays open, and so held, until it has its place."""
     part, to = open_part(folder)
     rest = memoryview(data)
-    while rest:
-        rest = rest[os.write(to, rest):]
-    os.fsync(to)
+    try:
+        while rest:
+            rest = rest[os.write(to, rest):]
+        os.fsync(to)
+    except OSError:
+        os.close(to)
+        raise
     return part, to
 
 
@@ -151,9 +159,10 @@ def lay_and_place(folder, todo):
     finally:
         for part, to, _, _ in laid:
             os.close(to)
-        for part in list(parts):
-            os.unlink(part) if os.path.lexists(part) else None
-            parts.remove(part)
+        while parts:
+            if os.path.lexists(parts[-1]):
+                os.unlink(parts[-1])
+            parts.pop()
 
 
 def put(folder, named, force):

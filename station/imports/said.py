@@ -1,5 +1,6 @@
 """What the import says, all of it on standard error, and what ends the work on a file."""
 import importlib
+import os
 import sys
 
 BAD_WORDS, REFUSED, NO_INPUT, NO_PACKAGE, NO_MEMORY, CANNOT_CREATE, IO_FAULT = 64, 65, 66, 69, 71, 73, 74
@@ -22,15 +23,36 @@ def shown(name):
     return "".join(plain)
 
 
+def hold_streams():
+    """A standard stream that came closed would be the next file to be opened, and messages would land in a film."""
+    for number in range(3):
+        try:
+            os.fstat(number)
+        except OSError:
+            os.open(os.devnull, os.O_RDWR)
+
+
+def line(text):
+    """Where nobody listens, the films count more."""
+    try:
+        sys.stderr.write(text + "\n")
+        sys.stderr.flush()
+    except (AttributeError, OSError):
+        pass
+
+
 def say(text):
-    sys.stderr.write("station/import: %s\n" % text)
-    sys.stderr.flush()
+    line("station/import: %s" % text)
+
+
+def say_more(text):
+    if text:
+        line("  %s" % text)
 
 
 def say_ended(name, ended):
     say("%s: %s" % (shown(name), ended.sentence))
-    if ended.way:
-        sys.stderr.write("  %s\n" % ended.way)
+    say_more(ended.way)
 
 
 def package(name):

@@ -36,6 +36,8 @@ def whole(page, size):
 
 def check(page, size):
     """That a page is a film that can be kept as it is."""
+    if "PhotometricInterpretation" not in page.tags:
+        raise Ended("it does not say whether 0 is black or white", "Have it written anew, with PhotometricInterpretation.")
     photometric = int(page.photometric)
     if page.samplesperpixel != 1 or photometric not in (0, 1):
         raise Ended("it is not grey: %d samples a pixel, %s" % (page.samplesperpixel, getattr(page.photometric, "name", photometric)),
