@@ -73,12 +73,14 @@ try 'a film of one grey' 0 enhance one_grey.pgm "$out"
 if grep -q 'to type instead' said; then ok=no; else ok=yes; fi
 report "$ok" 'a film of one grey: no words' "$(tail -n 1 said)"
 for words in 'film.pgm' 'shallow.pgm' 'film.pgm --quiet'; do
+    rm -f "$out"
     # shellcheck disable=SC2086
     "$tz" enhance $words "$out" 2>said
     saw=$?
     if [ "$saw" -eq 0 ] && ! grep -q '^warning' said; then ok=yes; else ok=no; fi
     report "$ok" "$words: no warning" "status $saw"
 done
+rm -f "$out"
 "$tz" enhance one_grey.pgm "$out" --quiet 2>said
 saw=$?
 if [ "$saw" -eq 0 ] && [ ! -s said ]; then ok=yes; else ok=no; fi
