@@ -79,6 +79,8 @@ uint32_t chosen_bins(const tz_settings *s, uint32_t width, uint32_t height)
 uint32_t chosen_byte_bins(const tz_settings *s, uint32_t width, uint32_t height)
 {
     uint32_t pixels = least_tile(s, width, height), best = 256;
+    if (bins_by_range(s) < best)
+        return bins_by_range(s); /* the profile has no such range: for the library to refuse */
     for (uint32_t bins = 128; bins >= 64 && !factor_holds(s, pixels, best) && above(s, pixels, best) > 0; bins /= 2)
         best = bins;
     return best;

@@ -93,7 +93,9 @@ function wayByHeader(input, front, maxval) {
 // What takes films as they come: other formats and other depths.
 function wayByImport(input, end) { return `${BY_IMPORT.replace('FILE', shellName(input.name))} ${end}`; }
 
-function madeBy(input, what, way) { return `It is ${what}. A raw PGM is made of it by: ${way.replace('FILE', shellName(input.name))}`; }
+function madeBy(input, what, way) {
+  return `It is ${what}. A raw PGM is made of it by: ${way.replace('FILE', shellName(input.name))}`;
+}
 
 function moreOfHeader(input) {
   const {bytes} = input;

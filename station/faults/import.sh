@@ -72,7 +72,8 @@ END
 # ---- greys that do not fit as they are
 moved_greys() {
     clear
-    imports 'greys that do not fit as they are' 0 '4 films of 4 files' scans/offset.pgm scans/negative.dcm scans/signed12.dcm scans/wide.pgm --into imported
+    imports 'greys that do not fit as they are' 0 '4 films of 4 files' scans/offset.pgm scans/negative.dcm scans/signed12.dcm \
+        scans/wide.pgm --into imported
     for line in 'greys 30450 to 33388, each less 30450' 'greys -1550 to 1388, each plus 1550' 'greys -1598 to 1340, each plus 2048' \
         'a step of 14 taken for one grey, 5242 of the 8542 that occur became one with another'; do
         if grep -qF -- "$line" said; then ok=yes; else ok=no; fi
@@ -93,7 +94,8 @@ assert read("imported/wide.pgm") == [(grey - least) // 14 for grey in deep]
 END
     if "$scan_python" greys.py >said 2>&1; then ok=yes; else ok=no; fi
     report "$ok" 'offsets and steps: each grey' "$(tail -n 1 said)"
-    imports '8 bits, as PNG and as TIFF, LZW, MinIsWhite' 0 '4 films of 4 files' scans/bytes.png scans/eight.tif scans/lzw8.tif scans/lzwwhite8.tif --into imported
+    imports '8 bits, as PNG and as TIFF, LZW, MinIsWhite' 0 '4 films of 4 files' scans/bytes.png scans/eight.tif scans/lzw8.tif \
+        scans/lzwwhite8.tif --into imported
     for name in bytes eight lzw8 lzwwhite8; do same imported/bytes.pgm "imported/$name.pgm"; done
     [ "$(sed -n 3p imported/bytes.pgm | head -c 3)" = 255 ] || ok=no
     told_of
@@ -102,7 +104,8 @@ END
 # ---- several frames
 several_frames() {
     clear
-    imports 'frames of a DICOM, pages of a TIFF, PGM behind PGM' 0 '8 films of 3 files' scans/frames.dcm scans/pages.tif scans/two.pgm --into imported
+    imports 'frames of a DICOM, pages of a TIFF, PGM behind PGM' 0 '8 films of 3 files' scans/frames.dcm scans/pages.tif \
+        scans/two.pgm --into imported
     for number in 1 2 3; do
         { printf 'P5\n512 96\n4095\n'; raster | tail -c +$((98304 * (number - 1) + 1)) | head -c 98304; } >wanted
         same wanted "imported/frames-frame$number.pgm"
@@ -122,13 +125,15 @@ refused_files() {
     clear
     : >refusals
     for end in dcm tif png pgm; do
-        imports "files of .$end that are refused, and one that is good" 65 'files were not imported' scans/bad-*."$end" scans/kept.pgm --into imported
+        imports "files of .$end that are refused, and one that is good" 65 'files were not imported' scans/bad-*."$end" \
+            scans/kept.pgm --into imported
         [ "$(cd imported && echo *)" = 'kept.json kept.pgm' ] || ok=no
         same film.pgm imported/kept.pgm
         cat said >>refusals
         told_of
     done
-    imports 'files of other kinds that are refused' 65 '3 of 3 files were not imported' scans/bad-alpha.pam scans/bad-photo.jpg scans/bad-colour.ppm --into imported
+    imports 'files of other kinds that are refused' 65 '3 of 3 files were not imported' scans/bad-alpha.pam scans/bad-photo.jpg \
+        scans/bad-colour.ppm --into imported
     cat said >>refusals
     told_of
     refused_file bad-rgb.dcm 'it is not grey: 3 samples a pixel, RGB'
@@ -153,7 +158,8 @@ refused_files() {
     refused_file bad-colour.ppm 'it is a PPM, in colour'
     refused_file bad-long.pgm 'it is 9000 by 300 pixels, and 4096 a side are the most'
     clear
-    imports 'no such file, a folder, and one that is good' 66 '2 of 3 files were not imported' scans/none.tif scans scans/kept.pgm --into imported
+    imports 'no such file, a folder, and one that is good' 66 '2 of 3 files were not imported' scans/none.tif scans scans/kept.pgm \
+        --into imported
     same film.pgm imported/kept.pgm
     told_of
 }
@@ -290,12 +296,16 @@ full_disk() {
     mkdir small
     if [ "$(id -u)" -eq 0 ] && mount -t tmpfs -o size=1m tmpfs "$room/small" 2>/dev/null; then
         disk=$room/small
-        imports 'a full disk in the middle' 74 'Make room there and run the same words again' scans/kept.pgm scans/deep.pgm scans/left.pgm scans/text.pgm --into small
+        imports 'a full disk in the middle' 74 'Make room there and run the same words again' scans/kept.pgm scans/deep.pgm scans/left.pgm \
+            scans/text.pgm --into small
         grep -q 'files behind it were not begun' said || ok=no
-        cmp -s film.pgm small/kept.pgm && cmp -s film.pgm small/deep.pgm && [ ! -e small/left.pgm ] && [ ! -e small/left.json ] && no_parts small || ok=no
+        same film.pgm small/kept.pgm
+        same film.pgm small/deep.pgm
+        [ ! -e small/left.pgm ] && [ ! -e small/left.json ] && no_parts small || ok=no
         told_of
         mount -o remount,size=4m "$room/small"
-        imports 'a full disk in the middle: run again with room' 0 '4 films of 4 files' scans/kept.pgm scans/deep.pgm scans/left.pgm scans/text.pgm --into small
+        imports 'a full disk in the middle: run again with room' 0 '4 films of 4 files' scans/kept.pgm scans/deep.pgm scans/left.pgm \
+            scans/text.pgm --into small
         for name in kept deep left text; do same film.pgm "small/$name.pgm"; done
         told_of
         umount "$disk" && disk=''
@@ -310,7 +320,10 @@ killed_import() { # SIGNAL FILES
     ${heard:-} "$import" many/* --into imported >wrote 2>said &
     child=$!
     waited=0
-    while [ "$(ls imported 2>/dev/null | wc -l)" -lt "$2" ] && kill -0 "$child" 2>/dev/null && [ "$waited" -lt 4000 ]; do waited=$((waited + 1)); sleep 0.01; done
+    while [ "$(ls imported 2>/dev/null | wc -l)" -lt "$2" ] && kill -0 "$child" 2>/dev/null && [ "$waited" -lt 4000 ]; do
+        waited=$((waited + 1))
+        sleep 0.01
+    done
     kill -s "$1" "$child" 2>/dev/null
     wait "$child" 2>/dev/null
     saw=$?
@@ -362,8 +375,10 @@ as_clear() {
     mkdir seen
     "$tz" enhance --into seen imported/kept.pgm imported/plain.pgm imported/sixteen.pgm imported/scaled.pgm imported/diconde.pgm 2>>said
     "$tz" enhance film.pgm seen/itself.pgm 2>>said
-    "$scan_python" -B "$top/station/contrast.py" seen/itself.pgm seen/kept.pgm seen/plain.pgm seen/sixteen.pgm seen/scaled.pgm seen/diconde.pgm >measured 2>>said
-    ok=$(awk -F '\t' 'NR == 1 { over = $3 } { if ($3 < 0.98 * over || $3 > 1.02 * over) bad = 1 } END { print NR == 6 && !bad ? "yes" : "no" }' measured)
+    "$scan_python" -B "$top/station/contrast.py" seen/itself.pgm seen/kept.pgm seen/plain.pgm seen/sixteen.pgm seen/scaled.pgm \
+        seen/diconde.pgm >measured 2>>said
+    ok=$(awk -F '\t' 'NR == 1 { over = $3 } $3 < 0.98 * over || $3 > 1.02 * over { bad = 1 }
+        END { print NR == 6 && over > 4 && !bad ? "yes" : "no" }' measured)
     report "$ok" 'contrast over noise: PGM, TIFF, PNG, DICONDE within 2 %' "$(cut -f 3 measured | tr '\n' ' ')"
 }
 

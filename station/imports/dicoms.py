@@ -73,7 +73,8 @@ def check_packing(data):
 def check_kind(data):
     samples, kind = number_of(data, "SamplesPerPixel", 1), str(data.get("PhotometricInterpretation", ""))
     if "PixelData" not in data:
-        raise Ended("it is cut off, or has no picture of whole numbers in it", "Have the scan itself sent again, not its report.")
+        raise Ended("it is cut off, or has no picture of whole numbers in it",
+                    "Have the scan itself sent again, not its report.")
     if samples != 1 or kind not in ("MONOCHROME1", "MONOCHROME2"):
         raise Ended("it is not grey: %d samples a pixel, %s" % (samples, kind or "of no kind"),
                     "Have the scan given in grey (MONOCHROME2).")

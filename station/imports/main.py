@@ -35,7 +35,8 @@ class Asked:
 # ---- words
 
 def bad(sentence, word=""):
-    return Ended(sentence + (": " + shown(word) if word else ""), "'station/import --help' tells the words that are taken.", BAD_WORDS)
+    way = "'station/import --help' tells the words that are taken."
+    return Ended(sentence + (": " + shown(word) if word else ""), way, BAD_WORDS)
 
 
 def option(asked, name, value):
@@ -135,6 +136,7 @@ def record_of(file, data, scan, rule, film):
     with open(os.path.join(TOP, "VERSION"), encoding="ascii") as version:
         number = version.read().strip()
     height, width = scan.frames[film["frame"] - 1].shape
+    value = "top - sample" if scan.inverted else "sample"
     return json.dumps({
         "program": "station/import", "version": number,
         "source": {"file": file, "sha256": hashlib.sha256(data).hexdigest(), "bytes": len(data), "kind": scan.kind,
@@ -144,7 +146,7 @@ def record_of(file, data, scan, rule, film):
                  "width": film["part"][2], "height": film["part"][3], "maxval": rule.maxval},
         "greys": {"least": rule.least, "greatest": rule.greatest, "occurring": rule.distinct, "merged": rule.merged,
                   "inverted": scan.inverted or None, "top": scan.top if scan.inverted else None, "offset": rule.offset,
-                  "step": rule.step, "rule": "grey = (%s - offset) / step, rounded down" % ("top - sample" if scan.inverted else "sample")},
+                  "step": rule.step, "rule": "grey = (%s - offset) / step, rounded down" % value},
         "part": dict(zip(("left", "top", "width", "height"), film["part"])) if film["part"][2:] != (width, height) else None,
         "pixel_spacing": scan.spacing, "rescale": scan.rescale, "component": scan.component, "notes": scan.notes,
     }, indent=2) + "\n"
@@ -165,7 +167,8 @@ def films_of(file, scan, asked):
 def check_place(asked, name, taken, scans):
     """Not the place of another film of this call, nor of a scan, whatever is said."""
     if name in taken:
-        raise Ended("another file of this call has a film of the name %s" % shown(name), "Import it into another folder.", BAD_WORDS)
+        raise Ended("another file of this call has a film of the name %s" % shown(name),
+                    "Import it into another folder.", BAD_WORDS)
     try:
         there = os.stat(os.path.join(asked.into, name))
     except OSError:
@@ -233,13 +236,14 @@ def import_all(asked):
             ended = found
         say_ended(file, ended)
         status, failed = status or ended.status, failed + 1
+        rest = len(asked.files) - at - 1
+        if ended.last and rest:
+            say("%d files behind it were not begun" % rest)
+            failed += rest
         if ended.last:
-            rest = len(asked.files) - at - 1
-            if rest:
-                say("%d files behind it were not begun" % rest)
             break
     if failed:
-        say("%d of %d files were not imported" % (failed if not ended.last else len(asked.files) - at + failed - 1, len(asked.files)))
+        say("%d of %d files were not imported" % (failed, len(asked.files)))
     elif not asked.quiet:
         say("%d films of %d files are in %s" % (films, len(asked.files), shown(asked.into)))
     return status

@@ -36,7 +36,8 @@ def make_folder(folder):
     try:
         os.makedirs(folder, exist_ok=True)
     except OSError as fault:
-        raise Ended("the folder cannot be used: %s" % fault.strerror, "Name another behind --into.", CANNOT_CREATE, True) from None
+        raise Ended("the folder cannot be used: %s" % fault.strerror, "Name another behind --into.",
+                    CANNOT_CREATE, True) from None
     for part in glob.glob(os.path.join(glob.escape(folder), ".import-*.part")):
         try:
             clear(part)

@@ -40,8 +40,8 @@ def check(page, size):
         raise Ended("it does not say whether 0 is black or white", "Have it written anew, with PhotometricInterpretation.")
     photometric = int(page.photometric)
     if page.samplesperpixel != 1 or photometric not in (0, 1):
-        raise Ended("it is not grey: %d samples a pixel, %s" % (page.samplesperpixel, getattr(page.photometric, "name", photometric)),
-                    GREY)
+        kind = getattr(page.photometric, "name", photometric)
+        raise Ended("it is not grey: %d samples a pixel, %s" % (page.samplesperpixel, kind), GREY)
     if int(page.compression) in LOSSY:
         raise Ended("it is packed by %s, which may have altered its greys" % LOSSY[int(page.compression)],
                     "Have the scan given again, packed by nothing, LZW or deflate.")
@@ -106,7 +106,8 @@ def samples(data, page):
             raise
         greys = by_other(data, page, why)
     if greys.shape != (page.imagelength, page.imagewidth) or greys.dtype.itemsize > 2:
-        raise Ended("it is damaged: %s samples where %d by %d are due" % (greys.shape, page.imagewidth, page.imagelength), AGAIN)
+        raise Ended("it is damaged: %s samples where %d by %d are due"
+                    % (greys.shape, page.imagewidth, page.imagelength), AGAIN)
     return numpy.ascontiguousarray(greys)
 
 
