@@ -1,11 +1,10 @@
-'use strict';
 // The way to the worker. At most one request is under way; what is due beside it waits in the page's state, where a newer
 // wish takes an older one's place. So nothing queues up, and the newest setting wins.
 
 const SLOW = 100; // ms until an answer that is not there gets a sign of progress
 const MOST_TIMES = 5000;
 
-const asking = {
+export const asking = {
   worker: null,
   under: null, // the request under way
   last: 0, // its number
@@ -17,9 +16,9 @@ const asking = {
 
 // From an input event to right behind the paint of the frame that shows its effect, in ms: the frame's callback posts a
 // message, which the browser delivers behind that frame's paint.
-window.tzofnadirTimes = [];
+export const times = [];
 
-function tellBusy() {
+export function tellBusy() {
   const busy = asking.under || asking.due.size > 0 || asking.painting > 0;
   document.documentElement.dataset.busy = busy ? '1' : '0';
 }
@@ -36,7 +35,7 @@ function send(request) {
 }
 
 // Sends what is due, if nothing is under way.
-function pump() {
+export function pump() {
   for (const source of asking.sources) {
     if (asking.under) break;
     const request = source();
@@ -67,19 +66,19 @@ function behindPaint(then) {
 }
 
 // marks: [{what, at}], the input events whose effect has just been drawn.
-function keepTimes(marks) {
+export function keepTimes(marks) {
   if (marks.length === 0) return;
   asking.painting++;
   behindPaint(() => {
     const now = performance.now();
-    for (const {what, at} of marks) window.tzofnadirTimes.push({what, ms: now - at});
-    if (window.tzofnadirTimes.length > MOST_TIMES) window.tzofnadirTimes.splice(0, MOST_TIMES / 2);
+    for (const {what, at} of marks) times.push({what, ms: now - at});
+    if (times.length > MOST_TIMES) times.splice(0, MOST_TIMES / 2);
     asking.painting--;
     tellBusy();
   });
 }
 
-function bytesOfBase64(id) {
+export function bytesOfBase64(id) {
   const text = atob(document.getElementById(id).textContent.replace(/\s/g, ''));
   const bytes = new Uint8Array(text.length);
   for (let i = 0; i < text.length; i++) bytes[i] = text.charCodeAt(i);
@@ -92,9 +91,9 @@ function mostMemory() {
   return asked ? Number(asked[1]) * 1048576 : Infinity;
 }
 
-function startWorker(version, failed) {
-  const parts = [...document.querySelectorAll('script.worker')].map(part => part.textContent);
-  asking.worker = new Worker(URL.createObjectURL(new Blob(parts, {type: 'text/javascript'})));
+export function startWorker(version, failed) {
+  const text = document.getElementById('worker').textContent;
+  asking.worker = new Worker(URL.createObjectURL(new Blob([text], {type: 'text/javascript'})));
   asking.worker.onmessage = event => answered(event.data);
   asking.worker.onerror = event => failed(`The page's worker failed: ${event.message}`);
   const wasm = bytesOfBase64('wasm').buffer;

@@ -1,14 +1,13 @@
-'use strict';
 // The library's calls on one instance of the module. An instance is one film's: its memory holds that film's pixels, counts
 // and mappings, and nothing of another film's. Pointers and 32-bit numbers are i32, a length (usize) is an i64.
 
-const MOST_SIDE = 4096;
-const MOST_GREY = 4095;
-const LEAST_GRID = 2;
-const MOST_GRID = 16;
-const MOST_BINS = 4096;
-const USUAL_BINS = 128; // what bins 0 means
-const MOST_ENTRIES = MOST_GRID * MOST_GRID * MOST_BINS;
+export const MOST_SIDE = 4096;
+export const MOST_GREY = 4095;
+export const LEAST_GRID = 2;
+export const MOST_GRID = 16;
+export const MOST_BINS = 4096;
+export const USUAL_BINS = 128; // what bins 0 means
+export const MOST_ENTRIES = MOST_GRID * MOST_GRID * MOST_BINS;
 const MEMORY_PAGE = 65536;
 
 // Where the answers of the calls stand, behind the address of the cells.
@@ -21,7 +20,7 @@ const CELL_BYTES = CELL.looks + 8 * MOST_LOOKS;
 const AXES = {columnEdges: MOST_GRID + 1, columnCentres: MOST_GRID, rowEdges: MOST_GRID + 1, rowCentres: MOST_GRID};
 
 // Memory that could not be had. It is told for the one film that asked.
-class NoMemory extends Error {
+export class NoMemory extends Error {
   constructor() {
     super('not enough memory for this film; the open films stay');
     this.name = 'NoMemory';
@@ -29,7 +28,7 @@ class NoMemory extends Error {
 }
 
 // How much memory all films may have together. Infinity leaves it to the browser.
-function makeLedger(most) {
+export function makeLedger(most) {
   let taken = 0;
   return {
     take(bytes) {
@@ -87,8 +86,8 @@ function makeRoom(exports, ledger) {
 }
 
 // The settings in the order in which the calls take them, without and with the clip setting.
-function tilingOf(s) { return [s.across, s.down, s.bins, s.min, s.max]; }
-function settingsOf(s) { return [...tilingOf(s), s.clip, s.factor]; }
+export function tilingOf(s) { return [s.across, s.down, s.bins, s.min, s.max]; }
+export function settingsOf(s) { return [...tilingOf(s), s.clip, s.factor]; }
 function sizeOf(film) { return [film.width, film.height]; }
 function pictureOf(film) { return [film.picture, BigInt(film.width * film.height)]; }
 
@@ -155,7 +154,7 @@ function filmCalls(exports, room, cells) {
   };
 }
 
-function makeLibrary(module, ledger) {
+export function makeLibrary(module, ledger) {
   const exports = instanceOf(module);
   const room = makeRoom(exports, ledger);
   const cells = room.lend(CELL_BYTES);

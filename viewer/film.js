@@ -1,9 +1,13 @@
-'use strict';
 // One film: opened from a file's bytes, settled for settings, drawn, probed and saved. Each film has an instance of the
 // module for itself, and its counts, mappings, record and footer stay with it until it is closed.
+import {MOST_BINS, MOST_ENTRIES, MOST_SIDE, USUAL_BINS, makeLibrary, settingsOf, tilingOf} from './calls.js';
+import {cellsOf, meanOf} from './cells.js';
+import {renderingName} from './names.js';
+import {recordText} from './record.js';
+import {moreOfFile, moreOfRendering, moreOfSettings} from './refuse.js';
 
 // The largest film and 64 KiB for its header, as the command line reads it.
-const MOST_BYTES = 2 * MOST_SIDE * MOST_SIDE + 65536;
+export const MOST_BYTES = 2 * MOST_SIDE * MOST_SIDE + 65536;
 
 // The counts buffer is too short: what mapping says last of settings that are in order.
 const NO_COUNTS = 33;
@@ -66,7 +70,7 @@ function readFilm(film, input) {
 }
 
 // input: {name, bytes, cut}. Gives {film}, {refusal} or {fault}; memory that runs out is thrown.
-function openFilm(module, ledger, number, input) {
+export function openFilm(module, ledger, number, input) {
   const film = {number, name: input.name, bytes: input.bytes.length, digest: '', countedFor: '', mappedFor: ''};
   film.library = makeLibrary(module, ledger);
   try {
@@ -81,11 +85,11 @@ function openFilm(module, ledger, number, input) {
   }
 }
 
-function closeFilm(film) { film.library.room.giveBack(); }
+export function closeFilm(film) { film.library.room.giveBack(); }
 
 // Makes the film's mappings those of the settings. A new factor alone maps the counts that are there; a refusal leaves
 // counts and mappings as they were, and they stay those of the settings that they were made for.
-function settle(film, s) {
+export function settle(film, s) {
   const tiling = tilingOf(s).join();
   const all = settingsOf(s).join();
   if (film.countedFor !== tiling) {
@@ -114,18 +118,30 @@ function drawWindow(film, s, w) {
   return {out, greys: room.u16(out, w.width * w.height)};
 }
 
-// Scanned and rendered side of a window as bytes to be painted. place: {left, top, width, height, block}, in film pixels, and
-// whether the scanned side is there already, as it is while settings alone are moved; spare: buffers to write over.
-function picture(film, s, place, display, spare = {}) {
+export function scanCells(film, place, spare) {
+  const scan = film.library.room.u16(film.picture, film.width * film.height);
+  return cellsOf(scan, place.top * film.width + place.left, film.width, place, spare);
+}
+
+// Scanned and rendered side of a window as greys, in the cells of its zoom. place: where the film lies (place.js), and whether the
+// scanned side is there already, as it is while settings alone are moved; spare: buffers to write over.
+export function picture(film, s, place, spare = {}) {
   const drawn = drawWindow(film, s, place);
   if (drawn.refusal) return drawn;
-  const table = shadeTable(display);
-  const scan = film.library.room.u16(film.picture, film.width * film.height);
-  const from = place.top * film.width + place.left;
   return {
-    scanned: place.scannedIsThere ? null : shade(scan, from, film.width, place, table, spare.scanned),
-    rendered: shade(drawn.greys, 0, place.width, place, table, spare.rendered),
+    scanned: place.scannedIsThere ? null : scanCells(film, place, spare.scanned),
+    rendered: cellsOf(drawn.greys, 0, place.width, place, spare.rendered),
   };
+}
+
+// Both sides of a window, every pixel, for measuring and for reports.
+export function greysOfWindow(film, s, window) {
+  const settled = settle(film, s);
+  if (settled.refusal) return settled;
+  const drawn = drawWindow(film, s, window);
+  if (drawn.refusal) return drawn;
+  const place = {...window, zoom: {block: 1}, columns: window.width, rows: window.height};
+  return {scanned: scanCells(film, place), rendered: cellsOf(drawn.greys, 0, window.width, place), footer: film.footer};
 }
 
 // Of a film's tile columns or tile rows the one in which a column or row lies, by their edges.
@@ -159,9 +175,22 @@ function limitOf(film, s, tile, bins) {
   return film.library.map(alike, {...s, across: 2, down: 2}, entries, entries).footer.limit;
 }
 
+// What the dot shows in whose cell a pixel lies: the means of both sides. at.cell: the cell's first pixel and its size.
+function dotOf(film, s, {cell}) {
+  if (!cell || cell.width * cell.height === 1) return {};
+  const drawn = drawWindow(film, s, {left: cell.x, top: cell.y, width: cell.width, height: cell.height});
+  if (drawn.refusal) return drawn;
+  const scan = film.library.room.u16(film.picture, film.width * film.height);
+  return {dot: {width: cell.width, height: cell.height,
+    scanned: meanOf(scan, cell.y * film.width + cell.x, film.width, cell.width, cell.height),
+    rendered: meanOf(drawn.greys, 0, cell.width, cell.width, cell.height)}};
+}
+
 // What is under the pointer, from the library's own numbers: greys, and the counts, the limit and the mapping of the pixel's
 // tile.
-function probe(film, s, at) {
+export function probe(film, s, at) {
+  const {dot, refusal} = dotOf(film, s, at);
+  if (refusal) return {refusal};
   const drawn = drawWindow(film, s, {left: at.x, top: at.y, width: 1, height: 1});
   if (drawn.refusal) return drawn;
   const rendered = drawn.greys[0]; // read before anything else is laid where it stands
@@ -172,7 +201,7 @@ function probe(film, s, at) {
   // at factor 1.0 nothing is mapped, and the map buffer holds what an earlier factor left
   const unmapped = s.clip && s.factor === 1;
   return {
-    x: at.x, y: at.y, bins, tile, rendered,
+    x: at.x, y: at.y, bins, tile, rendered, dot,
     scanned: room.u16(film.picture + 2 * (at.y * film.width + at.x), 1)[0],
     counts: room.u32(film.counts + 4 * first, bins).slice(),
     mapping: unmapped ? null : room.u16(film.map + 2 * first, bins).slice(),
@@ -182,28 +211,41 @@ function probe(film, s, at) {
   };
 }
 
+// The digest of the film's file. It is long work for a large film, and only what is saved asks for it.
+export function digestOf(film) {
+  if (!film.digest) film.digest = film.library.digest(film.file, film.bytes);
+  return film.digest;
+}
+
 // The rendered film as a raw PGM file, by the library's own writer.
-function renderedFile(film, s) {
+export function renderedFile(film, s) {
   const settled = settle(film, s);
   if (settled.refusal) return settled;
   const drawn = drawWindow(film, s, {left: 0, top: 0, width: film.width, height: film.height});
   if (drawn.refusal) return drawn;
-  // the file's own bytes stand where the rendering will be written, so their digest is taken first; it is long work for a large
-  // film, and only what is saved asks for it
-  if (!film.digest) film.digest = film.library.digest(film.file, film.bytes);
+  digestOf(film); // first: the file's own bytes stand where the rendering will be written
   const written = film.library.write(drawn.out, film, film.file, film.fileRoom);
   if (written.refusal) return refused(film, written.refusal, moreOfRendering(film, s));
   return {at: film.file, count: written.count};
 }
 
-function saveFilm(film, s) {
-  const file = renderedFile(film, s);
-  return file.refusal ? file : {bytes: film.library.room.u8(file.at, file.count).slice().buffer};
-}
-
-function saveRecord(film, s, version, outName) {
+export function saveFilm(film, s) {
   const file = renderedFile(film, s);
   if (file.refusal) return file;
-  const output = {name: outName, digest: film.library.digest(file.at, file.count), bytes: file.count};
-  return {text: recordText(version, film, output, s, film)};
+  return {name: renderingName(film, s), bytes: film.library.room.u8(file.at, file.count).slice().buffer};
+}
+
+// The record names the file that saveFilm gives for the same settings, and its digest.
+export function saveRecord(film, s, version) {
+  const file = renderedFile(film, s);
+  if (file.refusal) return file;
+  const name = renderingName(film, s);
+  const output = {name: `${name}.pgm`, digest: film.library.digest(file.at, file.count), bytes: file.count};
+  return {name, text: recordText(version, film, output, s, film)};
+}
+
+// What a saved view says of its film.
+export function saveView(film, s) {
+  const digest = digestOf(film);
+  return {name: renderingName(film, s), digest};
 }

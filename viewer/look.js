@@ -1,445 +1,534 @@
-'use strict';
-// Looking: which part of the film is seen, where it is painted, and what the pointer and the keys do to it. Both pictures
-// are always of the same window, so they move together.
+// Looking: which part of the film is seen, and how it comes on the screen. Both pictures are always of the same window, so they
+// move together.
+import {keepTimes, tellBusy} from './ask.js';
+import {canvases, element, frames, made, setText} from './dom.js';
+import {fillPanel} from './panel.js';
+import {parts} from './parts.js';
+import {STEPS, cellAt, cellCount, cellOfPixel, covers, fitZoom, heldZoom, isWhole, placeOf, stepBeside, toDot, toFilm,
+  zoomOf} from './place.js';
+import {displayOf, shadeCells, shadeTable} from './shades.js';
+import {fillCaptions} from './show.js';
+import {filmReady, state, want} from './state.js';
 
-const ZOOMS = [[1, 4], [1, 2], [1, 1], [2, 1], [4, 1], [8, 1]].map(([shown, film]) =>
-  ({shown, film, scale: shown / film, label: `${shown}:${film}`, id: `zoom-${shown}-${film}`}));
-const ONE_TO_ONE = 2;
-const WHEEL_STEP = 60;
-const PAN_SHARE = 8; // an arrow key moves by this part of the pane
+export const MODES = ['side', 'divide', 'turn', 'pair'];
+export const MARGIN_DOTS = 96; // drawn around what is seen
 const NEARLY = 1.25; // how much larger than its room a film may be opened
-const MARGIN_DOTS = 96; // drawn around what is seen
+const MOST_LATTICE = 24;
+const MOST_KEPT = 6; // films whose last pictures stay at hand
 
-const look = {
-  pane: null, // a picture's room on the screen, in the screen's own pixels
-  painted: null, // the place that is on the canvases now
-  sheets: [document.createElement('canvas'), document.createElement('canvas')],
-  sheetPlace: null, // the place that is on the sheets
-  scannedKey: '', // what the scanned side's sheet was made for
-  spare: {}, // the buffers of the picture before, for the worker to write over
+export const look = {
+  pane: null, // a picture's room on the screen, in the screen's own dots
+  painted: null, // the place of the film that is looked at, as it is on the canvases now
+  places: [], // the places of the two panes: of one film, or of two
+  pair: 0, // the number of the film that is looked at beside another
+  kept: new Map(), // of each film, by its number, the cells that were drawn last: its pictures, and what they were made with
+  drawings: 0, // how many drawings were kept
+  spare: {}, // buffers that are kept no longer, for the worker to write over
+  sheets: [{key: ''}, {key: ''}], // the cells as dots, for the two canvases
   pointer: null, // where the pointer is on the stage
   mode: 'side',
   turn: 'rendered',
   divide: 0.5,
-  drag: null,
-  wheel: 0,
 };
 
-function element(id) { return document.getElementById(id); }
-// A text that stays as it is leaves the page's layout alone.
-function setText(id, text) {
-  if (element(id).textContent !== text) element(id).textContent = text;
-}
-
-function frames() { return [...document.querySelectorAll('.frame')]; }
-function canvases() { return [element('canvas-scanned'), element('canvas-rendered')]; }
+export function zoomId(p) { return `zoom-${zoomOf(p).label.replace(':', '-')}`; }
+function glasses() { return [...document.querySelectorAll('.glass')]; }
 
 // ---- the window that is seen ----
 
-// Where the film's first column (or row) is painted: in the middle where all of it is seen, else so that no room is wasted.
-function edgeOf(middle, side, room, zoom) {
-  const shown = Math.ceil(side / zoom.film) * zoom.shown;
-  if (shown <= room) return Math.floor((room - shown) / 2);
-  return Math.max(room - shown, Math.min(0, Math.round(room / 2 - middle * zoom.scale)));
+export function placeNow(film, margin = 0) { return placeOf(film, film.view, look.pane, margin); }
+
+export function startView(film) {
+  film.view = {zoom: 1024, x: film.width / 2, y: film.height / 2, turn: 0, flip: false, fit: true, fresh: true};
 }
 
-// The part of one direction: from which pixel how many. At 1:4 and 1:2 it is whole blocks, always cut at the same places of
-// the film, so that a mean does not change when the film is moved.
-function spanOf(edge, side, room, zoom, margin) {
-  const first = Math.max(0, Math.floor((-edge - margin) / zoom.shown));
-  const end = Math.min(Math.ceil(side / zoom.film), Math.ceil((room - edge + margin) / zoom.shown));
-  const from = first * zoom.film;
-  return {from, length: Math.min(side, end * zoom.film) - from, cells: end - first};
-}
-
-// The window of the film that is seen, and margin dots more on each side where the film has them.
-function placeOf(film, pane, margin) {
-  const zoom = ZOOMS[film.view.zoom];
-  const edgeX = edgeOf(film.view.x, film.width, pane.width, zoom);
-  const edgeY = edgeOf(film.view.y, film.height, pane.height, zoom);
-  const x = spanOf(edgeX, film.width, pane.width, zoom, margin);
-  const y = spanOf(edgeY, film.height, pane.height, zoom, margin);
-  return {left: x.from, top: y.from, width: x.length, height: y.length, block: zoom.film, columns: x.cells, rows: y.cells,
-    edgeX, edgeY, zoom, pane};
-}
-
-function covers(outer, inner) {
-  return outer.left <= inner.left && outer.top <= inner.top && outer.left + outer.width >= inner.left + inner.width &&
-    outer.top + outer.height >= inner.top + inner.height;
-}
-
-function fitZoom(film, pane) {
-  let best = 0;
-  ZOOMS.forEach((zoom, i) => {
-    if (film.width * zoom.scale <= pane.width && film.height * zoom.scale <= pane.height) best = i;
-  });
-  return best;
-}
-
-// A film is opened as large as it fits. But where the next larger zoom shows nearly all of it, that one is taken: at 1:2 what
-// is fine in the film is lost for a few columns more.
-function firstView(film, pane) {
-  const next = ZOOMS[film.view.zoom + 1];
-  film.view.fresh = false;
-  if (film.view.zoom >= ONE_TO_ONE) return;
-  if (film.width * next.scale > NEARLY * pane.width || film.height * next.scale > NEARLY * pane.height) return;
-  film.view.zoom++;
-  film.view.fit = false;
+// A film is opened as large as it fits. But where the next larger zoom, up to 1:1, shows nearly all of it, that one is taken: at
+// 1:2 what is fine in the film is lost for a few columns more.
+function firstView(film) {
+  const {view} = film;
+  view.fresh = false;
+  const next = stepBeside(view.zoom, 1) / 1024;
+  if (view.zoom >= 1024 || film.width * next > NEARLY * look.pane.width || film.height * next > NEARLY * look.pane.height) return;
+  view.zoom = next * 1024;
+  view.fit = false;
 }
 
 // Brings the view back to what can be seen, so that a drag beyond the edge is not saved up.
-function holdView(film) {
+export function holdView(film) {
   if (!look.pane) return;
-  const view = film.view;
-  if (view.fit) view.zoom = fitZoom(film, look.pane);
-  if (view.fresh) firstView(film, look.pane);
-  const zoom = ZOOMS[view.zoom];
-  view.x = (look.pane.width / 2 - edgeOf(view.x, film.width, look.pane.width, zoom)) / zoom.scale;
-  view.y = (look.pane.height / 2 - edgeOf(view.y, film.height, look.pane.height, zoom)) / zoom.scale;
+  const {view} = film;
+  if (view.fit) view.zoom = fitZoom(film, view, look.pane);
+  if (view.fresh) firstView(film);
+  [view.x, view.y] = toFilm(placeNow(film), look.pane.width / 2, look.pane.height / 2);
 }
 
 // ---- painting ----
 
-// The worker's picture is kept on two sheets, one dot for each pixel or block, with a margin around what is seen. So the film
-// follows the hand in the same frame, and what the margin does not have is painted when the library has drawn it.
-function layOnSheet(sheet, place, buffer) {
-  if (sheet.width !== place.columns || sheet.height !== place.rows) {
-    sheet.width = place.columns;
-    sheet.height = place.rows;
-  }
-  const dots = new Uint8ClampedArray(buffer, 0, 4 * place.columns * place.rows);
-  sheet.getContext('2d').putImageData(new ImageData(dots, place.columns, place.rows), 0, 0);
+// What stands on the two canvases: a film and which of its sides.
+export function panes() {
+  const film = state.film;
+  if (look.mode === 'pair') return [{film, side: look.turn}, {film: pairFilm(), side: look.turn}];
+  return [{film, side: 'scanned'}, {film, side: 'rendered'}];
 }
 
-function paintSheet(canvas, sheet, place) {
-  const {zoom, pane} = place;
-  const from = look.sheetPlace;
-  if (canvas.width !== pane.width || canvas.height !== pane.height) {
-    canvas.width = pane.width;
-    canvas.height = pane.height;
+// The film beside the one that is looked at: the one that was chosen, or the next.
+export function pairFilm() {
+  const others = state.films.filter(film => film.ready && film !== state.film);
+  const next = others.find(film => state.films.indexOf(film) > state.films.indexOf(state.film));
+  return others.find(film => film.number === look.pair) || next || others[0] || null;
+}
+
+// The place of another film with the same pixel on the same dot.
+export function placeUnder(other, film, margin = 0) {
+  const place = placeNow(film);
+  return placeOf(other, film.view, look.pane, margin, place);
+}
+
+// Whether what is kept of the film beside has all that is seen of it.
+export function pairIsThere(other, film) {
+  const kept = keptOf(other);
+  const place = placeUnder(other, film);
+  if (place.width === 0 || place.height === 0) return true;
+  return Boolean(kept) && isOfSettings(kept, other) && keptFits(kept, place) && covers(kept.place, place);
+}
+
+// The cells are kept as greys with a margin around what is seen. So the film follows the hand in the same frame, a new level or
+// window needs no drawing, and what the margin does not have is painted when the library has drawn it.
+export function keepDrawn(film, drawn, {scanned, rendered}) {
+  const before = look.kept.get(film.number) || {};
+  look.kept.delete(film.number);
+  look.kept.set(film.number, {...drawn, scanned: scanned || before.scanned, rendered, drawing: ++look.drawings});
+  if (before.rendered) look.spare.rendered = before.rendered;
+  if (before.scanned && scanned) look.spare.scanned = before.scanned;
+  if (look.kept.size > MOST_KEPT) look.kept.delete(look.kept.keys().next().value);
+}
+
+export function keptOf(film) { return film ? look.kept.get(film.number) : undefined; }
+
+function isOfSettings(kept, film) {
+  return Object.keys(film.settings).every(key => Object.is(kept.settings[key], film.settings[key]));
+}
+
+// Whether what is kept of a film was drawn at the zoom, turn and room that it is seen with now.
+function keptFits(kept, place) {
+  return kept.place.zoom.p === place.zoom.p && kept.place.pane.width === place.pane.width &&
+    kept.place.pane.height === place.pane.height && Object.keys(place.turn).every(key => kept.place.turn[key] === place.turn[key]);
+}
+
+function layOnSheet(sheet, {film, side}, kept) {
+  const {columns, rows, turn} = kept.place;
+  const display = displayOf(film, side);
+  const key = [film.number, side, kept.drawing, ...Object.values(display), ...Object.values(turn)].join();
+  if (sheet.key === key) return;
+  const [wide, high] = turn.aside ? [rows, columns] : [columns, rows];
+  if (!sheet.canvas) sheet.canvas = document.createElement('canvas');
+  if (!sheet.image || sheet.image.width !== wide || sheet.image.height !== high) {
+    sheet.image = new ImageData(wide, high);
+    sheet.canvas.width = wide;
+    sheet.canvas.height = high;
   }
+  const cells = new Uint16Array(kept[side], 0, columns * rows);
+  shadeCells(cells, columns, rows, turn, shadeTable(display), new Uint32Array(sheet.image.data.buffer));
+  sheet.canvas.getContext('2d').putImageData(sheet.image, 0, 0);
+  sheet.key = key;
+}
+
+// Where the first cell of a sheet lies on a canvas.
+function sheetEdge(place, drawn) {
+  const {zoom, turn, film} = place;
+  const firstX = turn.reverseX ? cellCount(zoom, film.width) - drawn.cellX - drawn.columns : drawn.cellX;
+  const firstY = turn.reverseY ? cellCount(zoom, film.height) - drawn.cellY - drawn.rows : drawn.cellY;
+  const [right, down] = turn.aside ? [firstY, firstX] : [firstX, firstY];
+  return [place.edgeX + right * zoom.shown, place.edgeY + down * zoom.shown];
+}
+
+// A canvas that is sized anew is made anew, which takes time.
+function sizeTo(canvas, pane) {
+  if (canvas.width === pane.width && canvas.height === pane.height) return;
+  canvas.width = pane.width;
+  canvas.height = pane.height;
+}
+
+function clearCanvas(canvas) { canvas.getContext('2d').clearRect(0, 0, canvas.width, canvas.height); }
+
+function paintPane(i, pane, place) {
+  const canvas = canvases()[i];
+  const sheet = look.sheets[i];
+  const kept = keptOf(pane.film);
+  sizeTo(canvas, place.pane);
+  clearCanvas(canvas);
+  if (!kept || !kept[pane.side] || kept.place.columns === 0 || kept.place.rows === 0) return;
+  if (pane.film !== state.film && !(isOfSettings(kept, pane.film) && keptFits(kept, place))) return;
+  layOnSheet(sheet, pane, kept);
   const pen = canvas.getContext('2d');
-  pen.clearRect(0, 0, pane.width, pane.height);
   pen.imageSmoothingEnabled = false; // a pixel is a square
-  pen.drawImage(sheet, place.edgeX + from.left * zoom.scale, place.edgeY + from.top * zoom.scale,
-    from.columns * zoom.shown, from.rows * zoom.shown);
+  const {shown} = place.zoom;
+  pen.drawImage(sheet.canvas, ...sheetEdge(place, kept.place), sheet.canvas.width * shown, sheet.canvas.height * shown);
 }
 
-// Paints the sheets where the view has them now. A sheet of another zoom is painted as it was asked for.
-function paintView(film) {
-  const now = placeOf(film, look.pane, 0);
-  const drawn = look.sheetPlace;
-  const fits = drawn.zoom === now.zoom && drawn.pane.width === now.pane.width && drawn.pane.height === now.pane.height;
-  const place = fits ? now : drawn;
-  canvases().forEach((canvas, i) => paintSheet(canvas, look.sheets[i], place));
+// Paints what is kept where the view has it now; what was drawn for another zoom or turn stays as it was asked for. Gives
+// whether all that is seen was there.
+export function paintView(film) {
+  const kept = keptOf(film);
+  const now = placeNow(film);
+  const fits = keptFits(kept, now);
+  const place = fits ? now : kept.seen;
   look.painted = place;
-  tellHow(place);
+  look.places = panes().map(pane => pane.film === film || !pane.film ? place : placeUnder(pane.film, film));
+  panes().forEach((pane, i) => paintPane(i, pane, look.places[i]));
+  tellHow(film, place);
   placeMarks();
-  return fits && covers(drawn, now);
+  return fits && covers(kept.place, now);
 }
 
-// The scanned side is the same while film, window and display are.
-function scannedKey(film, place) {
-  return [film.number, place.left, place.top, place.width, place.height, place.block, ...Object.values(film.display)].join();
+// A change of the display alone.
+export function repaint(what, event) {
+  const film = filmReady();
+  if (!film || !keptOf(film) || !look.painted) return;
+  paintView(film);
+  keepTimes([{what, at: event ? event.timeStamp : performance.now()}]);
+  tellBusy();
 }
 
-function paintBoth(film, place, picture) {
-  for (const [i, side] of ['scanned', 'rendered'].entries()) {
-    if (!picture[side]) continue;
-    layOnSheet(look.sheets[i], place, picture[side]);
-    look.spare[side] = picture[side];
-  }
-  look.sheetPlace = place;
-  look.scannedKey = place.scannedKey;
-  // the view may have gone on since this was asked for
-  if (!paintView(film)) want('draw');
+// What was drawn for these settings and is still at hand is painted at once. Gives whether that is all that is wanted.
+export function paintKept(film) {
+  const kept = keptOf(film);
+  if (!kept || !look.pane || film.refusal) return false;
+  return isOfSettings(kept, film) && keptFits(kept, placeNow(film)) && paintView(film);
 }
 
 // No picture stays up: neither half.
-function clearPanes() {
-  for (const canvas of canvases()) canvas.getContext('2d').clearRect(0, 0, canvas.width, canvas.height);
+export function clearPanes() {
+  canvases().forEach(clearCanvas);
   look.painted = null;
-  look.sheetPlace = null;
-  look.scannedKey = '';
+  look.places = [];
   setText('how', '');
   placeMarks();
 }
 
-function tellHow(place) {
-  const {zoom} = place;
-  const bits = Math.ceil(Math.log2(state.film.maxval + 1));
-  const of = zoom.film > 1 ? `means of ${zoom.film} by ${zoom.film} pixels`
-    : zoom.shown > 1 ? 'pixels as squares, not smoothed' : 'pixel for pixel';
-  setText('how', `${zoom.label}: ${of}${bits > 8 ? `; ${bits} bits shown as 8` : ''}`);
+export function howShown(zoom) {
+  if (zoom.block === 1) return zoom.shown > 1 ? 'pixels as squares, not smoothed' : 'pixel for pixel';
+  if (zoom.block > 1) return `means of ${zoom.block} by ${zoom.block} pixels`;
+  return zoom.p > 1024 ? 'pixels as unequal squares, not smoothed' : 'means of unequal blocks of pixels';
 }
 
-// ---- the pixel under the pointer ----
+function tellHow(film, place) {
+  const bits = Math.ceil(Math.log2(film.maxval + 1));
+  setText('how', `${place.zoom.label}: ${howShown(place.zoom)}${bits > 8 ? `; ${bits} bits shown as 8` : ''}`);
+}
 
-function pixelAt(event, place) {
-  if (!place) return null;
-  for (const frame of frames()) {
-    const box = frame.getBoundingClientRect();
-    const x = (event.clientX - box.left) * place.pane.width / box.width;
-    const y = (event.clientY - box.top) * place.pane.height / box.height;
-    const hidden = look.mode !== 'side' && frame !== frames()[0];
-    if (hidden || x < 0 || y < 0 || x >= place.pane.width || y >= place.pane.height) continue;
-    return pixelOf(x, y, place, frame);
+// The part of the film that is on the canvases: what is seen and has been drawn.
+export function partShown() {
+  const {painted} = look;
+  const kept = keptOf(state.film).place;
+  const left = Math.max(painted.left, kept.left);
+  const top = Math.max(painted.top, kept.top);
+  const right = Math.min(painted.left + painted.width, kept.left + kept.width) - 1;
+  const bottom = Math.min(painted.top + painted.height, kept.top + kept.height) - 1;
+  return {left, top, right, bottom, zoom: painted.zoom};
+}
+
+// ---- what is pointed at ----
+
+// The dot of a pane at a place of the page, also where that lies beside the pane.
+export function dotIn(event, frame) {
+  const box = frame.querySelector('.glass').getBoundingClientRect();
+  return {x: (event.clientX - box.left) * look.pane.width / box.width,
+    y: (event.clientY - box.top) * look.pane.height / box.height, frame};
+}
+
+// The same for the pane in which it lies; null beside both.
+export function dotAt(event) {
+  for (const frame of hasTwo() ? frames() : frames().slice(0, 1)) {
+    const dot = dotIn(event, frame);
+    if (dot.x >= 0 && dot.y >= 0 && dot.x < look.pane.width && dot.y < look.pane.height) return dot;
   }
   return null;
 }
 
-function pixelOf(x, y, place, frame) {
-  const {zoom} = place;
-  const column = Math.floor((x - place.edgeX) / zoom.shown) * zoom.film;
-  const row = Math.floor((y - place.edgeY) / zoom.shown) * zoom.film;
-  const film = state.film;
-  const inside = column >= 0 && row >= 0 && column < film.width && row < film.height;
-  return inside ? {x: column, y: row, frame} : null;
+// Whether the pictures lie beside each other.
+function hasTwo() { return look.mode === 'side' || look.mode === 'pair'; }
+
+// Which picture a dot shows.
+export function sideAt(dot) {
+  if (look.mode === 'side') return dot.frame === frames()[1] ? 'rendered' : 'scanned';
+  if (look.mode !== 'divide') return look.turn;
+  return dot.x < dividerDot() ? 'scanned' : 'rendered';
 }
 
-// The same place in the other picture: a cross where the pointer is not, and the outline of the tile in both.
-function placeMarks() {
+// The pixel that is read: the first of the dot's cell.
+export function pixelAt(event, place) {
+  const dot = place && dotAt(event);
+  const cell = dot && cellAt(place, dot.x, dot.y);
+  return cell ? {x: cell.x, y: cell.y, cell, frame: dot.frame} : null;
+}
+
+// A pixel that is read, though nothing points at it.
+export function pixelOf(film, x, y) {
+  const cell = look.painted ? cellOfPixel(look.painted.zoom, film, x, y) : {x, y, width: 1, height: 1};
+  return {x, y, cell, frame: null};
+}
+
+// ---- what lies over the pictures ----
+
+// The same place in the other picture: a cross where the pointer is not, the outline of the tile in both, and what other modules
+// draw.
+export function placeMarks() {
   const place = look.painted;
   const at = place ? state.at : null;
   const tile = at && state.tileShown && state.tile;
   for (const frame of frames()) {
     const cross = frame.querySelector('.cross');
-    const shown = at && at.frame !== frame && (look.mode === 'side' || !at.frame);
+    const shown = at && at.frame !== frame && (hasTwo() || !at.frame);
     cross.style.display = shown ? 'block' : 'none';
-    if (shown) moveTo(cross, place, at.x + place.zoom.film / 2, at.y + place.zoom.film / 2);
+    if (shown) moveTo(cross, ...toDot(place, at.cell.x + at.cell.width / 2, at.cell.y + at.cell.height / 2));
     outlineTile(frame.querySelector('.tile-mark'), place, tile);
   }
+  drawOverlays();
+  for (const act of parts.watches) act(place);
 }
 
-function moveTo(mark, place, x, y) {
-  const perDot = frames()[0].clientWidth / place.pane.width;
-  const left = (place.edgeX + x * place.zoom.scale) * perDot;
-  const top = (place.edgeY + y * place.zoom.scale) * perDot;
-  mark.style.transform = `translate(${left}px, ${top}px)`;
-}
+function moveTo(mark, x, y) { mark.style.transform = `translate(${x / devicePixelRatio}px, ${y / devicePixelRatio}px)`; }
 
 function outlineTile(mark, place, tile) {
   mark.style.display = tile ? 'block' : 'none';
   if (!tile) return;
-  const perDot = frames()[0].clientWidth / place.pane.width;
-  moveTo(mark, place, tile.left, tile.top);
-  mark.style.width = `${tile.width * place.zoom.scale * perDot}px`;
-  mark.style.height = `${tile.height * place.zoom.scale * perDot}px`;
+  const [a, b] = toDot(place, tile.left, tile.top);
+  const [c, d] = toDot(place, tile.left + tile.width, tile.top + tile.height);
+  moveTo(mark, Math.min(a, c), Math.min(b, d));
+  mark.style.width = `${Math.abs(c - a) / devicePixelRatio}px`;
+  mark.style.height = `${Math.abs(d - b) / devicePixelRatio}px`;
+}
+
+// To be called when what a module draws over the pictures has changed.
+export function drawOverlays() {
+  for (const [i, pane] of panes().entries()) {
+    const canvas = frames()[i].querySelector('.overlay');
+    const place = pane.film && look.painted ? look.places[i] : null;
+    if (!place || parts.overlays.length === 0) {
+      canvas.width = canvas.width && 0;
+      continue;
+    }
+    sizeTo(canvas, place.pane);
+    const pen = canvas.getContext('2d');
+    pen.clearRect(0, 0, canvas.width, canvas.height);
+    for (const draw of parts.overlays) {
+      pen.save();
+      draw(pen, place, pane.film, pane.side);
+      pen.restore();
+    }
+  }
 }
 
 // ---- zoom and pan ----
 
-// dot: where the film stays in its place, in the pane's pixels; the pane's middle unless given.
-function zoomTo(index, event, dot) {
-  const film = state.film;
-  if (!film || !film.ready || !look.pane) return;
-  const view = film.view;
-  const next = Math.max(0, Math.min(ZOOMS.length - 1, index));
+// dot: where the film stays in its place, in the pane's dots; the pane's middle unless given.
+export function zoomTo(p, event, dot) {
+  const film = filmReady();
+  if (!film || !look.pane) return;
+  const {view} = film;
   const from = dot || {x: look.pane.width / 2, y: look.pane.height / 2};
-  const place = placeOf(film, look.pane, 0);
-  const scale = ZOOMS[next].scale;
-  view.x = (from.x - place.edgeX) / place.zoom.scale + (look.pane.width / 2 - from.x) / scale;
-  view.y = (from.y - place.edgeY) / place.zoom.scale + (look.pane.height / 2 - from.y) / scale;
-  view.zoom = next;
+  const [x, y] = toFilm(placeNow(film), from.x, from.y);
+  view.zoom = heldZoom(p);
   view.fit = false;
+  [view.x, view.y] = [x, y];
+  // the film's place at the dot, put where the dot is
+  const place = {...placeNow(film), edgeX: 0, edgeY: 0};
+  const [right, down] = toDot(place, x, y);
+  [view.x, view.y] = toFilm(place, right + look.pane.width / 2 - from.x, down + look.pane.height / 2 - from.y);
   viewChanged('zoom', event);
 }
 
-function fit(event) {
-  if (!state.film || !state.film.ready) return;
-  state.film.view.fit = true;
+// The next fixed zoom.
+export function zoomBeside(way, event, dot) {
+  const film = filmReady();
+  if (film) zoomTo(stepBeside(film.view.zoom, way), event, dot);
+}
+
+export function fit(event) {
+  const film = filmReady();
+  if (!film) return;
+  film.view.fit = true;
   viewChanged('zoom', event);
 }
 
-function pan(x, y, event) {
-  const film = state.film;
-  if (!film || !film.ready || !look.pane) return;
-  const scale = ZOOMS[film.view.zoom].scale;
-  film.view.x -= x / scale;
-  film.view.y -= y / scale;
-  if (film.view.fit) {
-    film.view.fit = false;
+// By dots of the screen.
+export function pan(x, y, event) {
+  const film = filmReady();
+  if (!film || !look.pane) return;
+  const {view} = film;
+  [view.x, view.y] = toFilm(placeNow(film), look.pane.width / 2 - x, look.pane.height / 2 - y);
+  if (view.fit) {
+    view.fit = false;
     fillViewBar();
   }
+  moveOn(film, event);
+}
+
+// The view's middle, in the film's pixels.
+export function centreOn(x, y, event) {
+  const film = filmReady();
+  if (!film || !look.pane) return;
+  [film.view.x, film.view.y] = [x, y];
+  moveOn(film, event);
+}
+
+// What is kept is painted in this frame; the library draws anew when half of the margin is used up.
+function moveOn(film, event) {
   holdView(film);
-  // what the sheets have is painted in this frame; the library draws anew when half of the margin is used up
-  const painted = look.sheetPlace && paintView(film);
-  if (painted) keepTimes([{what: 'pan', at: event.timeStamp}]);
+  const painted = keptOf(film) && paintView(film);
+  if (painted) keepTimes([{what: 'pan', at: event ? event.timeStamp : performance.now()}]);
   readBeneath(film);
-  if (painted && covers(look.sheetPlace, placeOf(film, look.pane, MARGIN_DOTS / 2))) want('probe');
+  if (painted && covers(keptOf(film).place, placeNow(film, MARGIN_DOTS / 2))) want('probe');
   else want('draw', painted ? 'pan-drawn' : 'pan', event);
 }
 
 // The film moves beneath a pointer that rests.
 function readBeneath(film) {
-  if (look.pointer && look.painted) state.at = pixelAt(look.pointer, placeOf(film, look.pane, 0));
+  if (look.pointer && look.painted) state.at = pixelAt(look.pointer, placeNow(film));
 }
 
-function viewChanged(what, event) {
-  holdView(state.film);
+export function viewChanged(what, event) {
+  const film = state.film;
+  holdView(film);
   fillViewBar();
-  readBeneath(state.film);
+  readBeneath(film);
   want('draw', what, event);
 }
 
-function fillViewBar() {
-  const film = state.film && state.film.ready ? state.film : null;
-  ZOOMS.forEach((zoom, i) => {
-    element(zoom.id).setAttribute('aria-pressed', String(Boolean(film) && film.view.zoom === i));
-    element(zoom.id).disabled = !film;
-  });
-  for (const id of ['zoom-in', 'zoom-out', 'fit']) element(id).disabled = !film;
-  element('fit').setAttribute('aria-pressed', String(Boolean(film) && film.view.fit));
+export function fillViewBar() {
+  const film = filmReady();
+  for (const p of STEPS) {
+    const button = element(zoomId(p));
+    button.setAttribute('aria-pressed', String(Boolean(film) && film.view.zoom === p));
+    button.disabled = !film;
+  }
+  for (const id of ['zoom-in', 'zoom-out', 'fit', 'turn-right', 'flip']) element(id).disabled = !film;
+  const fitted = Boolean(film && look.pane) && isWhole(placeNow(film)) && film.view.zoom === fitZoom(film, film.view, look.pane);
+  element('fit').setAttribute('aria-pressed', String(fitted));
+  element('flip').setAttribute('aria-pressed', String(Boolean(film) && film.view.flip));
+  const quarter = film ? film.view.turn : 0;
+  element('turn-right').setAttribute('aria-pressed', String(quarter !== 0));
+  setText('turn-note', quarter ? `${90 * quarter}°` : '');
+  fillPair(film);
+}
+
+// The films that may be looked at beside this one.
+function fillPair(film) {
+  const list = element('pair-with');
+  const other = look.mode === 'pair' && film ? pairFilm() : null;
+  list.hidden = look.mode !== 'pair';
+  list.replaceChildren(...state.films.filter(each => each.ready && each !== film).map(each =>
+    made('option', {value: String(each.number), textContent: `film ${each.number} ${each.name}`, selected: each === other})));
+}
+
+export function choosePair(number, event) {
+  look.pair = number;
+  fillCaptions();
+  if (filmReady()) viewChanged('mode', event);
+}
+
+// ---- turned and mirrored: the display alone ----
+
+export function turnRight(event) {
+  const film = filmReady();
+  if (!film) return;
+  film.view.turn = (film.view.turn + 1) % 4;
+  viewChanged('turn', event);
+}
+
+// Left and right as they are seen change places, however the film is turned.
+export function flip(event) {
+  const film = filmReady();
+  if (!film) return;
+  film.view.flip = !film.view.flip;
+  if (film.view.turn % 2 === 1) film.view.turn = (film.view.turn + 2) % 4;
+  viewChanged('turn', event);
 }
 
 // ---- ways of looking ----
 
-function setMode(mode, event) {
+export function setMode(mode, event) {
   look.mode = mode;
   document.documentElement.dataset.mode = mode;
   document.documentElement.dataset.turn = look.turn;
-  for (const each of ['side', 'divide', 'turn']) {
+  for (const each of MODES) {
     element(`mode-${each}`).setAttribute('aria-pressed', String(each === mode));
   }
   measurePane();
-  if (state.film && state.film.ready) viewChanged('mode', event);
+  fillViewBar();
+  fillCaptions();
+  if (filmReady()) viewChanged('mode', event);
 }
 
-// Both pictures are painted, so the other one only has to be shown.
-function blink(event) {
-  if (look.mode !== 'turn') return setMode('turn', event);
+// Both pictures are painted, so the other one only has to be shown. Of two films the other sides are.
+export function blink(event) {
+  if (look.mode !== 'turn' && look.mode !== 'pair') return setMode('turn', event);
   look.turn = look.turn === 'rendered' ? 'scanned' : 'rendered';
   document.documentElement.dataset.turn = look.turn;
+  fillCaptions();
+  if (look.mode === 'pair') return repaint('blink', event);
   keepTimes([{what: 'blink', at: event.timeStamp}]);
   tellBusy();
 }
 
-function setDivide(share) {
+// The first column of dots that is the rendered picture's.
+export function dividerDot() { return Math.round(look.divide * look.pane.width); }
+
+export function setDivide(share) {
   look.divide = Math.max(0, Math.min(1, share));
-  element('stage').style.setProperty('--divide', `${100 * look.divide}%`);
+  const glass = glasses()[0];
+  const stage = element('stage');
+  const at = look.pane ? dividerDot() / devicePixelRatio : 0;
+  const left = glass.getBoundingClientRect().left - stage.getBoundingClientRect().left;
+  stage.style.setProperty('--divide', `${at}px`);
+  stage.style.setProperty('--divider', `${left + at}px`);
   element('divider').setAttribute('aria-valuenow', String(Math.round(100 * look.divide)));
 }
 
-// The room for a picture in the screen's own pixels, so that 1:1 is one to one also where the page itself is zoomed. What the
-// browser says it is to the pixel is taken where it is near to what follows from the ratio.
-function measurePane(entry) {
-  const frame = frames()[0];
-  const size = entry && entry.devicePixelContentBoxSize && entry.devicePixelContentBoxSize[0];
-  const exact = (told, length) => {
-    const worked = Math.round(length * devicePixelRatio);
-    return told && Math.abs(told - worked) <= 1 ? told : worked;
-  };
-  const width = exact(size && size.inlineSize, frame.clientWidth);
-  const height = exact(size && size.blockSize, frame.clientHeight);
-  const changed = !look.pane || look.pane.width !== width || look.pane.height !== height;
-  if (width > 0 && height > 0) look.pane = {width, height};
+// ---- the panes ----
+
+// The shortest of the page's lengths that is a whole number of dots: places at multiples of it are whole in both, so that no
+// browser rounds them. {length, dots}; without one, as near as lengths go.
+function latticeOf(ratio) {
+  for (let length = 1; length <= MOST_LATTICE; length++) {
+    const dots = Math.round(length * ratio);
+    if (Math.abs(length * ratio - dots) < 0.001) return {length, dots};
+  }
+  return {length: 1 / ratio, dots: 1};
+}
+
+// A pane's glass lies on whole dots of the screen, whatever the page's scale is, and so do the canvases in it: no dot of theirs is
+// spread over two. Both have the same size.
+export function measurePane() {
+  const {length, dots} = latticeOf(devicePixelRatio);
+  const boxes = frames().map(frame => frame.getBoundingClientRect());
+  const firsts = boxes.map(box => [Math.ceil(box.left / length - 0.01), Math.ceil(box.top / length - 0.01)]);
+  const width = Math.min(...boxes.map((box, i) => Math.floor(box.right / length + 0.01) - firsts[i][0]));
+  const height = Math.min(...boxes.map((box, i) => Math.floor(box.bottom / length + 0.01) - firsts[i][1]));
+  if (width <= 0 || height <= 0) return false;
+  glasses().forEach((glass, i) => {
+    glass.style.left = `${firsts[i][0] * length - boxes[i].left}px`;
+    glass.style.top = `${firsts[i][1] * length - boxes[i].top}px`;
+    glass.style.width = `${width * length}px`;
+    glass.style.height = `${height * length}px`;
+  });
+  const pane = {width: width * dots, height: height * dots};
+  const changed = !look.pane || look.pane.width !== pane.width || look.pane.height !== pane.height;
+  look.pane = pane;
+  setDivide(look.divide);
   return changed;
 }
 
-function paneResized(entries) {
-  if (measurePane(entries && entries[entries.length - 1]) && state.film && state.film.ready) viewChanged('size', null);
+export function paneResized() {
+  if (measurePane() && filmReady()) viewChanged('size', null);
+  fillPanel();
 }
 
 // A page that is zoomed, or moved to another screen, has another ratio though its lengths are the same.
-function watchRatio() {
+export function watchRatio() {
   matchMedia(`(resolution: ${devicePixelRatio}dppx)`).addEventListener('change', () => {
     watchRatio();
-    paneResized(null);
-    fillPanel();
+    paneResized();
   }, {once: true});
-}
-
-// ---- pointer and wheel ----
-
-function dotOf(event) {
-  const frame = frames().find(each => look.mode !== 'side' || each.contains(event.target)) || frames()[0];
-  const box = frame.getBoundingClientRect();
-  return {x: (event.clientX - box.left) * look.pane.width / box.width,
-    y: (event.clientY - box.top) * look.pane.height / box.height};
-}
-
-function pressed(event) {
-  if (event.target.closest('button, #refusal, #welcome') || !look.painted) return;
-  const divider = event.target.closest('#divider');
-  look.drag = {kind: divider ? 'divide' : event.button === 2 ? 'display' : 'pan', x: event.clientX, y: event.clientY};
-  element('stage').setPointerCapture(event.pointerId);
-  if (look.drag.kind === 'pan') element('stage').classList.add('dragged');
-}
-
-function moved(event) {
-  const drag = look.drag;
-  look.pointer = {clientX: event.clientX, clientY: event.clientY};
-  if (drag) {
-    const x = event.clientX - drag.x;
-    const y = event.clientY - drag.y;
-    drag.x = event.clientX;
-    drag.y = event.clientY;
-    dragged(drag, x, y, event);
-  }
-  if (!drag) readAt(pixelAt(event, look.painted));
-}
-
-function dragged(drag, x, y, event) {
-  if (drag.kind === 'divide') {
-    const box = frames()[0].getBoundingClientRect();
-    setDivide((event.clientX - box.left) / box.width);
-  } else if (drag.kind === 'display') {
-    moveDisplay(x, y, event);
-  } else if (x !== 0 || y !== 0) {
-    pan(x * devicePixelRatio, y * devicePixelRatio, event);
-  }
-}
-
-function released() {
-  look.drag = null;
-  element('stage').classList.remove('dragged');
-}
-
-// A wheel gives large steps, a touch pad many small ones: both come to one zoom for the same way.
-function wheeled(event) {
-  if (!look.painted || event.target.closest('#refusal')) return;
-  event.preventDefault();
-  look.wheel += event.deltaY * (event.deltaMode === 1 ? 30 : event.deltaMode === 2 ? 300 : 1);
-  if (Math.abs(look.wheel) < WHEEL_STEP) return;
-  const step = look.wheel < 0 ? 1 : -1;
-  look.wheel = 0;
-  zoomTo(state.film.view.zoom + step, event, dotOf(event));
-}
-
-function dividerKey(event) {
-  const step = {ArrowLeft: -0.02, ArrowRight: 0.02, Home: -1, End: 1}[event.key];
-  if (!step) return;
-  event.preventDefault();
-  event.stopPropagation();
-  setDivide(look.divide + step);
-}
-
-function wireStage() {
-  const stage = element('stage');
-  stage.addEventListener('pointerdown', pressed);
-  stage.addEventListener('pointermove', moved);
-  stage.addEventListener('pointerup', released);
-  stage.addEventListener('pointercancel', released);
-  // the last reading stays, so that its plot can be looked at; crosses in both pictures say where it was
-  stage.addEventListener('pointerleave', () => {
-    look.pointer = null;
-    if (state.at) readAt({...state.at, frame: null});
-  });
-  stage.addEventListener('wheel', wheeled, {passive: false});
-  stage.addEventListener('contextmenu', event => { if (look.painted) event.preventDefault(); });
-  element('divider').addEventListener('keydown', dividerKey);
-  for (const mode of ['side', 'divide', 'turn']) element(`mode-${mode}`).onclick = event => setMode(mode, event);
-  element('blink').onclick = blink;
-  ZOOMS.forEach((zoom, i) => { element(zoom.id).onclick = event => zoomTo(i, event); });
-  element('zoom-in').onclick = event => zoomTo(state.film.view.zoom + 1, event);
-  element('zoom-out').onclick = event => zoomTo(state.film.view.zoom - 1, event);
-  element('fit').onclick = fit;
-  const observer = new ResizeObserver(paneResized);
-  try {
-    observer.observe(frames()[0], {box: 'device-pixel-content-box'});
-  } catch {
-    observer.observe(frames()[0]);
-  }
-  watchRatio();
-  setDivide(0.5);
 }

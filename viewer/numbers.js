@@ -1,11 +1,11 @@
-'use strict';
 // Numbers as they are typed and chosen. What a number may be is for the library to say; here it is only read.
+import {exactOf} from './record.js';
 
-const MOST_WHOLE = 4294967295;
+export const MOST_WHOLE = 4294967295;
 const MOST_CHOSEN_BINS = 1024;
 
 // Digits only, and within 32 bits; else null.
-function wholeOf(text) {
+export function wholeOf(text) {
   const word = text.trim();
   return /^[0-9]+$/.test(word) && Number(word) <= MOST_WHOLE ? Number(word) : null;
 }
@@ -36,7 +36,7 @@ function wordAgainst(word, x) {
 
 // A factor as C's strtof reads it, rounded once from the decimal word to 32 bits; null where the word is no number. By way
 // of 64 bits alone a word close to the middle of two floats would be rounded twice.
-function factorOf(text) {
+export function factorOf(text) {
   const word = text.trim();
   if (/^[+-]?nan$/i.test(word)) return NaN;
   if (/^[+-]?inf(inity)?$/i.test(word)) return word[0] === '-' ? -Infinity : Infinity;
@@ -59,7 +59,7 @@ function factorHolds(whole, pixels, bins, greys) {
 
 // As the command line chooses: a bin for each grey of the range, up to 1024, and as many of them as hold the factor in the
 // least tile. A range that will be refused has no greys to go by, and a refused factor clips nothing.
-function chosenBins(s, film) {
+export function chosenBins(s, film) {
   const greys = s.max - s.min + 1;
   const most = Math.min(s.max > s.min ? greys : 128, MOST_CHOSEN_BINS);
   const side = (length, tiles) => tiles === 0 ? length : Math.floor(length / tiles);
@@ -77,7 +77,7 @@ function chosenBins(s, film) {
 
 // The grid nearest to the one wished among those that fit, the smaller of two; the one wished where none fits, for the
 // library to refuse.
-function nearestGrid(wished, fits) {
+export function nearestGrid(wished, fits) {
   return fits.reduce((best, grid) => Math.abs(grid - wished) < Math.abs(best - wished) ? grid : best, fits[0] || wished);
 }
 
@@ -95,17 +95,17 @@ function factorSteps() {
   return steps;
 }
 
-const FACTORS = factorSteps();
+export const FACTORS = factorSteps();
 
 // 2 to the most that the range takes, eight to a doubling.
-function binSteps(most) {
+export function binSteps(most) {
   const steps = new Set();
   for (let k = 8; 2 ** (k / 8) < most; k++) steps.add(Math.round(2 ** (k / 8)));
   steps.add(most);
   return [...steps];
 }
 
-function nearestStep(list, value) {
+export function nearestStep(list, value) {
   let best = 0;
   for (let i = 1; i < list.length; i++) if (Math.abs(list[i] - value) < Math.abs(list[best] - value)) best = i;
   return best;
@@ -114,6 +114,4 @@ function nearestStep(list, value) {
 // ---- how numbers are shown ----
 
 // A factor in at most five digits behind the point; all its digits stand in the record.
-function shownFactor(x) { return Number.isFinite(x) ? String(Math.round(x * 1e5) / 1e5) : String(x); }
-
-function baseName(name) { return name.replace(/\.pgm$/i, ''); }
+export function shownFactor(x) { return Number.isFinite(x) ? String(Math.round(x * 1e5) / 1e5) : String(x); }

@@ -1,191 +1,66 @@
-'use strict';
-// The page's state and its wiring. The state says what is wanted; the newest state is what is asked for next.
+// The page's beginning: its keys, its wiring, and the worker.
+import {asking, bytesOfBase64, pump, startWorker, times} from './ask.js';
+import {wireCopy} from './copy.js';
+import {element, tell} from './dom.js';
+import {addDropped} from './drop.js';
+import {addFiles, chooseBeside, dueClosing, dueOpening, listFilms, showFilm} from './films.js';
+import {dueGreys} from './greys.js';
+import {isUnsaved, redo, undo} from './history.js';
+import {fillKeys, wireKeys} from './keys.js';
+import {wireLens} from './lens.js';
+import {MODES, blink, choosePair, fit, flip, look, measurePane, setMode, turnRight, zoomBeside, zoomId, zoomTo} from './look.js';
+import {wireMarks} from './marks_panel.js';
+import {dueMeasures, wireMeasures} from './measure_panel.js';
+import './overlay.js';
+import {dueOverview, wireOverview} from './overview.js';
+import {changeClip, fillPanel, forgetTyping, resetDisplay, setInvert, stepFactor, wirePanel} from './panel.js';
+import {addKey, parts} from './parts.js';
+import {STEPS} from './place.js';
+import {chooseTool, wirePointer} from './pointer.js';
+import {showTile} from './reading.js';
+import {dueReading, dueReport, wireReport} from './report_panel.js';
+import {ask, askView, dueSaving} from './save.js';
+import {dueShow, fillCaptions} from './show.js';
+import {filmReady, state, want} from './state.js';
 
-const state = {
-  films: [],
-  film: null, // the one that is looked at
-  at: null, // the pixel that is read, {x, y, frame}
-  tile: null,
-  tileShown: false,
-};
+// ---- undo ----
 
-// How often each part was wished for, and which of these wishes was sent last.
-const wanted = {draw: 0, drawn: 0, probe: 0, probed: 0, marks: []};
-
-// What is moved by a slider, and has to be seen at once.
-const HASTY = ['factor', 'settings', 'display'];
-
-function want(part, what, event) {
-  wanted[part]++;
-  if (what) wanted.marks.push({what, at: event ? event.timeStamp : performance.now()});
-  pump();
-}
-
-// ---- what is shown ----
-
-function dueShow() {
-  const film = state.film;
-  if (!film || !film.ready || !look.pane) return null;
-  const draw = wanted.draw !== wanted.drawn;
-  if (!draw && (wanted.probe === wanted.probed || film.refusal)) return null;
-  wanted.probed = wanted.probe;
-  return draw ? drawRequest(film) : showRequest(film, null, {}, []);
-}
-
-function drawRequest(film) {
-  const marks = wanted.marks.splice(0);
-  // a moved setting is not kept waiting for what is not seen
-  const margin = marks.some(({what}) => HASTY.includes(what)) ? 0 : MARGIN_DOTS;
-  const spare = look.spare;
-  look.spare = {};
-  wanted.drawn = wanted.draw;
-  return showRequest(film, placeOf(film, look.pane, margin), spare, marks);
-}
-
-function showRequest(film, place, spare, marks) {
-  const settings = {...film.settings};
-  const {left, top, width, height, block} = place || {};
-  // as it is now: by the time of the answer the display may be another
-  if (place) place.scannedKey = scannedKey(film, place);
-  const scannedIsThere = Boolean(place) && look.scannedKey === place.scannedKey;
-  return {
-    message: {kind: 'show', number: film.number, settings, display: film.display,
-      place: place && {left, top, width, height, block, scannedIsThere},
-      at: state.at && {x: state.at.x, y: state.at.y}, spare},
-    transfer: Object.values(spare),
-    slow: `rendering ${film.name}`,
-    done: answer => shown(film, settings, place, answer, marks),
-  };
-}
-
-// An answer for a film that is no longer looked at paints nothing.
-function shown(film, settings, place, answer, marks) {
-  const before = Boolean(film.refusal);
-  film.refusal = answer.refusal || (answer.fault ? {number: null, sentence: answer.fault, more: []} : null);
-  if (before !== Boolean(film.refusal)) listFilms();
-  if (state.film !== film) return;
-  showRefusal(film.refusal);
-  fillFooter(film.refusal ? null : answer.footer, settings, film);
-  if (film.refusal) {
-    state.at = null;
-    clearPanes();
-    fillReading(null);
-  } else {
-    if (answer.picture) paintBoth(film, place, answer.picture);
-    fillReading(answer.probe || null);
-  }
-  tellState();
-  keepTimes(marks);
-}
-
-// In the film's place, in red: the library's number and sentence, and the numbers that help.
-function showRefusal(refusal) {
-  if (!refusal && element('refusal').hidden) return;
-  element('refusal').hidden = !refusal;
-  element('refusal-number').textContent = refusal && refusal.number !== null ? `Refused, ${refusal.number}:` : '';
-  element('refusal-sentence').textContent = refusal ? refusal.sentence : '';
-  element('refusal-more').replaceChildren(...(refusal ? refusal.more : []).map(text => {
-    const line = document.createElement('li');
-    line.textContent = text;
-    return line;
-  }));
-}
-
-function tell(text) { element('message').textContent = text; }
-
-function tellState() {
-  const film = state.film;
-  const kind = !film ? 'none' : film.refusal ? 'refused' : film.ready ? 'ready' : 'reading';
-  document.documentElement.dataset.film = kind;
-  for (const id of ['save-pgm', 'save-record', 'save-png']) element(id).disabled = kind !== 'ready';
-  const count = state.films.length;
-  const open = count === 0 ? 'no film open' : `${count} film${count > 1 ? 's' : ''} open`;
-  setText('state', film && film.about ? `${open}. ${film.about}` : open);
-  const title = film ? `${film.name}: Tzofnadir` : 'Tzofnadir: the reading page';
-  if (document.title !== title) document.title = title;
-}
-
-// ---- the pixel that is read ----
-
-function readAt(at) {
-  const film = state.film;
-  if (!film || !film.ready || film.refusal) return;
-  const same = at && state.at && at.x === state.at.x && at.y === state.at.y;
-  state.at = at;
-  if (same) return placeMarks();
-  if (at) want('probe');
-  else fillReading(null);
-}
-
-// From the pixel that is read, or from the middle of what is seen.
-function moveReading(x, y) {
-  const film = state.film;
-  if (!film || !film.ready || !look.painted) return;
-  const place = look.painted;
-  const from = state.at || {x: place.left + (place.width >> 1), y: place.top + (place.height >> 1)};
-  const hold = (value, side) => Math.max(0, Math.min(side - 1, value));
-  look.pointer = null;
-  readAt({x: hold(from.x + x, film.width), y: hold(from.y + y, film.height), frame: null});
+function takeBack(way, event) {
+  const film = filmReady();
+  if (!film || !way(film)) return;
+  forgetTyping();
+  fillPanel();
+  fillCaptions();
+  want('draw', 'settings', event);
 }
 
 // ---- keys ----
 
-const ARROWS = {ArrowLeft: [-1, 0], ArrowRight: [1, 0], ArrowUp: [0, -1], ArrowDown: [0, 1]};
+function onceEach(act) { return event => { if (!event.repeat) act(event); }; }
 
-const KEYS = {
-  'o': () => element('open-input').click(),
-  '[': event => chooseBeside(-1, event),
-  ']': event => chooseBeside(1, event),
-  'PageUp': event => chooseBeside(-1, event),
-  'PageDown': event => chooseBeside(1, event),
-  '1': event => setMode('side', event),
-  '2': event => setMode('divide', event),
-  '3': event => setMode('turn', event),
-  'b': event => { if (!event.repeat) blink(event); },
-  ' ': event => { if (!event.repeat) blink(event); },
-  '+': event => zoomTo(state.film.view.zoom + 1, event),
-  '=': event => zoomTo(state.film.view.zoom + 1, event),
-  '-': event => zoomTo(state.film.view.zoom - 1, event),
-  '0': event => zoomTo(ONE_TO_ONE, event),
-  'f': fit,
-  ',': event => stepFactor(-1, event),
-  '.': event => stepFactor(1, event),
-  'c': event => changeClip(!state.film.settings.clip, event),
-  'i': event => setInvert(!state.film.display.invert, event),
-  'r': resetDisplay,
-  't': () => element('tile-shown').click(),
-  '?': () => element('keys-panel').showModal(),
-};
-const WITHOUT_FILM = ['o', '[', ']', 'PageUp', 'PageDown', '1', '2', '3', 'b', ' ', 't', '?'];
-const OF_SLIDERS = ['ArrowLeft', 'ArrowRight', 'ArrowUp', 'ArrowDown', 'PageUp', 'PageDown', 'Home', 'End'];
-
-function arrow(event) {
-  const [x, y] = ARROWS[event.key];
-  event.preventDefault();
-  if (event.shiftKey) return moveReading(x, y);
-  const step = look.pane ? Math.round(Math.min(look.pane.width, look.pane.height) / PAN_SHARE) : 0;
-  pan(-x * step, -y * step, event);
-}
-
-function pressedKey(event) {
-  const target = event.target;
-  if (event.ctrlKey || event.metaKey || event.altKey || document.querySelector('dialog[open]')) return;
-  if (target.classList.contains('box')) {
-    if (event.key === 'Escape') {
-      dropTyped(target.id);
-      target.blur();
-    }
-    return;
-  }
-  // a control that has the focus keeps the keys that are its own
-  if (OF_SLIDERS.includes(event.key) && target.matches('[type="range"], [role="slider"]')) return;
-  if (event.key === ' ' && target.matches('button, input')) return;
-  if (ARROWS[event.key]) return arrow(event);
-  const key = event.key.length === 1 ? event.key.toLowerCase() : event.key;
-  if (!KEYS[key] || (!WITHOUT_FILM.includes(key) && !(state.film && state.film.ready))) return;
-  event.preventDefault();
-  KEYS[key](event);
-}
+addKey({keys: ['o'], what: 'open films', bare: true, act: () => element('open-input').click()});
+addKey({keys: ['PageUp', '['], what: 'the film before', bare: true, act: event => chooseBeside(-1, event)});
+addKey({keys: ['PageDown', ']'], what: 'the next film', bare: true, act: event => chooseBeside(1, event)});
+addKey({keys: ['1'], what: 'side by side', bare: true, act: event => setMode('side', event)});
+addKey({keys: ['2'], what: 'divider', bare: true, act: event => setMode('divide', event)});
+addKey({keys: ['3'], what: 'in turn', bare: true, act: event => setMode('turn', event)});
+addKey({keys: ['4'], what: 'two films', bare: true, act: event => setMode('pair', event)});
+addKey({keys: ['b', ' '], what: 'blink: show the other one', bare: true, act: onceEach(blink)});
+addKey({keys: ['+', '='], what: 'larger (also the wheel)', act: event => zoomBeside(1, event)});
+addKey({keys: ['-'], what: 'smaller', act: event => zoomBeside(-1, event)});
+addKey({keys: ['0'], what: '1:1', act: event => zoomTo(1024, event)});
+addKey({keys: ['f'], what: 'fit: the whole film', act: fit});
+addKey({keys: ['q'], what: 'turn the film by a quarter, for display', act: turnRight});
+addKey({keys: ['h'], what: 'mirror the film, for display', act: flip});
+addKey({keys: [','], what: 'factor down', act: event => stepFactor(-1, event)});
+addKey({keys: ['.'], what: 'factor up', act: event => stepFactor(1, event)});
+addKey({keys: ['c'], what: 'clip off, on', act: event => changeClip(!state.film.settings.clip, event)});
+addKey({keys: ['i'], what: 'invert the display', act: event => setInvert(!state.film.display.invert, event)});
+addKey({keys: ['r'], what: 'reset the display', act: resetDisplay});
+addKey({keys: ['t'], what: 'outline the tile under the pointer', bare: true, act: () => showTile(!state.tileShown)});
+addKey({keys: ['ctrl+z'], what: 'undo: settings, display, marks', act: event => takeBack(undo, event)});
+addKey({keys: ['ctrl+y', 'ctrl+shift+z'], what: 'redo', act: event => takeBack(redo, event)});
+addKey({keys: ['?'], what: 'this list', bare: true, act: () => element('keys-panel').showModal()});
 
 // ---- wiring ----
 
@@ -204,7 +79,22 @@ function wireFiles() {
   element('films').addEventListener('wheel', event => { element('films').scrollLeft += event.deltaY; }, {passive: true});
   element('save-pgm').onclick = () => ask('film');
   element('save-record').onclick = () => ask('record');
-  element('save-png').onclick = savePng;
+  element('save-png').onclick = askView;
+}
+
+function wireViewBar() {
+  for (const mode of MODES) element(`mode-${mode}`).onclick = event => setMode(mode, event);
+  element('blink').onclick = blink;
+  for (const p of STEPS) element(zoomId(p)).onclick = event => zoomTo(p, event);
+  element('zoom-in').onclick = event => zoomBeside(1, event);
+  element('zoom-out').onclick = event => zoomBeside(-1, event);
+  element('fit').onclick = fit;
+  element('pair-with').onchange = event => choosePair(Number(event.target.value), event);
+  element('turn-right').onclick = turnRight;
+  element('flip').onclick = flip;
+  element('undo').onclick = event => takeBack(undo, event);
+  element('redo').onclick = event => takeBack(redo, event);
+  element('tile-shown').onchange = event => showTile(event.target.checked);
 }
 
 // Files may be dropped anywhere on the page; else the browser would leave the page for the file.
@@ -219,30 +109,66 @@ function wireDrop() {
   addEventListener('drop', event => {
     event.preventDefault();
     page.classList.remove('dropping');
-    if (event.dataTransfer.files.length > 0) addFiles(event.dataTransfer.files, event);
+    addDropped(event);
   });
 }
 
-function wireDialogs(version) {
+function wireDialogs() {
   element('proved').onclick = () => element('proved-panel').showModal();
   element('keys').onclick = () => element('keys-panel').showModal();
-  element('version-line').textContent = `Tzofnadir ${version}`;
+  element('version-line').textContent = `Tzofnadir ${state.version}`;
+}
+
+// What modules added: their sections stand beneath the page's own, their tools have keys.
+function takeParts() {
+  for (const {id, title, body} of parts.sections) {
+    const section = document.createElement('details');
+    section.id = id;
+    section.className = 'part';
+    section.append(document.createElement('summary'), body);
+    section.firstChild.textContent = title;
+    element('panel').append(section);
+  }
+  for (const tool of parts.tools) {
+    if (tool.key) addKey({keys: [tool.key], what: tool.title, act: () => chooseTool(tool)});
+  }
+}
+
+// The browser asks before a page is left where something was done and not saved.
+function wireLeaving() {
+  addEventListener('beforeunload', event => {
+    if (!state.films.some(isUnsaved)) return;
+    event.preventDefault();
+    event.returnValue = true; // for browsers that ask by this
+  });
 }
 
 function begin() {
-  const version = element('version').textContent.trim();
+  state.version = element('version').textContent.trim();
+  takeParts();
   wireFiles();
+  wireViewBar();
   wireDrop();
-  wireDialogs(version);
+  wireDialogs();
   wirePanel();
-  wireStage();
-  addEventListener('keydown', pressedKey);
-  asking.sources = [dueShow, dueSaving, dueClosing, dueOpening];
-  startWorker(version, tell);
+  wireMeasures();
+  wireMarks();
+  wireReport();
+  wirePointer();
+  wireKeys();
+  wireLeaving();
+  wireCopy();
+  wireLens();
+  wireOverview();
+  fillKeys();
+  asking.sources = [dueShow, dueMeasures, dueSaving, dueReport, dueGreys, dueClosing, dueOverview, dueOpening, dueReading];
+  startWorker(state.version, tell);
   measurePane();
   showFilm(null);
   listFilms();
   pump();
 }
 
+// For tests and for who is curious: what the page shows now. Nothing of the page reads it.
+window.tzofnadir = {state, look, times};
 begin();

@@ -1,6 +1,18 @@
-'use strict';
-// The panel: settings of the rendering, the display, and the readings. Boxes hand any number to the library as it is typed;
+// The panel: settings of the rendering, and the display. Boxes hand any number to the library as it is typed;
 // sliders stay within what it takes.
+import {asking, tellBusy} from './ask.js';
+import {USUAL_BINS} from './calls.js';
+import {element, setText} from './dom.js';
+import {canRedo, canUndo, keepStep} from './history.js';
+import {repaint} from './look.js';
+import {FACTORS, MOST_WHOLE, binSteps, chosenBins, factorOf, nearestGrid, nearestStep, shownFactor,
+  wholeOf} from './numbers.js';
+import {addKept, parts} from './parts.js';
+import {drawHistogram, greyToX} from './plots.js';
+import {printG} from './record.js';
+import {displayLow, displayOf} from './shades.js';
+import {fillCaptions} from './show.js';
+import {filmReady, state, want} from './state.js';
 
 const KEY_STEPS = 5;
 const TYPING = 400; // ms without a key until a typed number is taken; Enter takes it at once
@@ -13,7 +25,7 @@ const typing = new Map(); // timers of boxes that are being typed into
 
 // ---- what the film starts with ----
 
-function startSettings(film) {
+export function startSettings(film) {
   const across = nearestGrid(8, film.fits.across);
   const down = nearestGrid(8, film.fits.down);
   film.settings = {across, down, bins: 0, min: 0, max: film.maxval, clip: 1, factor: 3};
@@ -22,30 +34,31 @@ function startSettings(film) {
   film.notes = [];
   if (across !== 8) film.notes.push(`8 tiles across do not fit into ${film.width} pixels: ${across} taken.`);
   if (down !== 8) film.notes.push(`8 tiles down do not fit into ${film.height} pixels: ${down} taken.`);
-  film.view = {zoom: ONE_TO_ONE, x: film.width / 2, y: film.height / 2, fit: true, fresh: true};
   film.display = wholeDisplay(film);
 }
 
-function wholeDisplay(film) { return {level: Math.floor((film.maxval + 1) / 2), width: film.maxval + 1, invert: false}; }
+function wholeDisplay(film) {
+  return {level: Math.floor((film.maxval + 1) / 2), width: film.maxval + 1, invert: false, auto: false};
+}
+
+// What undo brings back of them.
+addKept({name: 'settings', unsaved: true, read: film => ({...film.settings, binsChosen: film.binsChosen}),
+  write: (film, {binsChosen, ...settings}) => Object.assign(film, {settings, binsChosen})});
+addKept({name: 'display', unsaved: false, read: film => ({...film.display}),
+  write: (film, display) => { film.display = {...display}; }});
 
 // The rendering may reach above the file's maxval where the range does.
-function mostLevel(film) { return Math.max(film.maxval, Math.min(4095, film.settings.max)); }
+export function mostLevel(film) { return Math.max(film.maxval, Math.min(4095, film.settings.max)); }
 
 // ---- a setting changes ----
 
-function change(id, value, event) {
-  const film = state.film;
-  if (!film || !film.ready) return;
-  if (DISPLAY.includes(id)) {
-    film.display[id] = id === 'width' ? Math.max(1, value) : value;
-  } else {
-    film.settings[id] = value;
-    if (id === 'factor') film.settings.clip = 1; // who sets a factor wants it to count
-    if (id === 'bins') film.binsChosen = false;
-    chooseBins(film);
-  }
-  element(id).removeAttribute('aria-invalid');
-  want('draw', id === 'factor' ? 'factor' : DISPLAY.includes(id) ? 'display' : 'settings', event);
+// act changes the settings of a film, or its display: one step for undo, and then it is seen. what: its name, by which changes in
+// quick succession are one step.
+export function changeSettings(film, what, event, act) {
+  keepStep(film, 'settings', what);
+  act(film.settings);
+  chooseBins(film);
+  if (film === state.film) want('draw', what === 'factor' || what === 'clip' ? 'factor' : 'settings', event);
   fillPanel();
 }
 
@@ -53,25 +66,39 @@ function chooseBins(film) {
   if (film.binsChosen) film.settings.bins = chosenBins(film.settings, film);
 }
 
-function changeRange(min, max, event) {
-  const film = state.film;
-  film.settings.min = min;
-  film.settings.max = max;
-  chooseBins(film);
-  want('draw', 'settings', event);
+export function changeDisplay(film, what, event, act) {
+  keepStep(film, 'display', what);
+  act(film.display);
+  repaint('display', event);
+  fillCaptions();
   fillPanel();
 }
 
-function changeClip(on, event) {
-  if (!state.film || !state.film.ready) return;
-  state.film.settings.clip = on ? 1 : 0;
-  chooseBins(state.film);
-  want('draw', 'factor', event);
-  fillPanel();
+function change(id, value, event) {
+  const film = filmReady();
+  if (!film) return;
+  element(id).removeAttribute('aria-invalid');
+  if (DISPLAY.includes(id)) {
+    return changeDisplay(film, id, event, display => { display[id] = id === 'width' ? Math.max(1, value) : value; });
+  }
+  changeSettings(film, id, event, settings => {
+    settings[id] = value;
+    if (id === 'factor') settings.clip = 1; // who sets a factor wants it to count
+    if (id === 'bins') film.binsChosen = false;
+  });
+}
+
+function changeRange(min, max, event) {
+  changeSettings(state.film, 'range', event, settings => Object.assign(settings, {min, max}));
+}
+
+export function changeClip(on, event) {
+  const film = filmReady();
+  if (film) changeSettings(film, 'clip', event, settings => { settings.clip = on ? 1 : 0; });
 }
 
 // By the keys: some steps of the slider down or up.
-function stepFactor(way, event) {
+export function stepFactor(way, event) {
   const film = state.film;
   if (!film || !film.ready) return;
   const step = nearestStep(FACTORS, film.settings.factor) + way * KEY_STEPS;
@@ -80,29 +107,39 @@ function stepFactor(way, event) {
 
 // ---- the display ----
 
-function resetDisplay(event) {
-  if (!state.film || !state.film.ready) return;
-  state.film.display = wholeDisplay(state.film);
-  want('draw', 'display', event);
-  fillPanel();
+export function resetDisplay(event) {
+  const film = filmReady();
+  if (film) changeDisplay(film, 'reset', event, display => Object.assign(display, wholeDisplay(film), {auto: display.auto}));
 }
 
-function setInvert(on, event) {
-  if (!state.film || !state.film.ready) return;
-  state.film.display.invert = on;
-  want('draw', 'display', event);
-  fillPanel();
+export function setInvert(on, event) {
+  const film = filmReady();
+  if (film) changeDisplay(film, 'invert', event, display => { display.invert = on; });
 }
 
-// By dragging: up is brighter, right is wider.
-function moveDisplay(x, y, event) {
+export function setAuto(on, event) {
+  const film = filmReady();
+  if (film) changeDisplay(film, 'auto', event, display => { display.auto = on; });
+}
+
+// By dragging: up is brighter, right is wider. A pointer may move by parts of a dot: what is less than a grey is left for later.
+const carried = {level: 0, width: 0};
+
+export function moveDisplay(x, y, event) {
   const film = state.film;
   const most = mostLevel(film);
   const grain = Math.max(1, Math.round(most / 512));
-  film.display.level = Math.max(0, Math.min(most, film.display.level + y * grain));
-  film.display.width = Math.max(1, Math.min(most + 1, film.display.width + x * grain));
-  want('draw', 'display', event);
-  fillPanel();
+  const moved = (id, by) => {
+    carried[id] += by * grain;
+    const whole = Math.trunc(carried[id]);
+    carried[id] -= whole;
+    return whole;
+  };
+  const {level, width} = film.display;
+  const to = {level: Math.max(0, Math.min(most, level + moved('level', y))),
+    width: Math.max(1, Math.min(most + 1, width + moved('width', x)))};
+  if (to.level === level && to.width === width) return;
+  changeDisplay(film, 'drag', event, display => Object.assign(display, to));
 }
 
 // ---- boxes ----
@@ -118,8 +155,8 @@ function stopTyping(id) {
 
 function takeBox(id, event) {
   stopTyping(id);
-  const film = state.film;
-  if (!film || !film.ready) return tellBusy();
+  const film = filmReady();
+  if (!film) return tellBusy();
   const value = readBox(id);
   const held = DISPLAY.includes(id) ? film.display[id] : film.settings[id];
   if (value !== null) element(id).removeAttribute('aria-invalid');
@@ -130,11 +167,17 @@ function takeBox(id, event) {
 }
 
 // Leaves a box as it was.
-function dropTyped(id) {
+export function dropTyped(id) {
   stopTyping(id);
   element(id).removeAttribute('aria-invalid');
   fillPanel();
   tellBusy();
+}
+
+export function forgetTyping() {
+  for (const id of [...typing.keys()]) stopTyping(id);
+  for (const box of document.querySelectorAll('.box')) box.removeAttribute('aria-invalid');
+  element('typed-note').hidden = true;
 }
 
 // A number that does not count now counts again when it is given once more.
@@ -212,7 +255,7 @@ function setSlider(id, min, max, value) {
 // What each end may be without a refusal: all pixels inside, and as many greys as bins where these were set by hand.
 function endLimits(film) {
   const {min, max, bins} = film.settings;
-  const apart = film.binsChosen ? 1 : Math.max(1, (bins || 128) - 1);
+  const apart = film.binsChosen ? 1 : Math.max(1, (bins || USUAL_BINS) - 1);
   return {
     min: {from: 0, to: Math.max(0, Math.min(film.least, max - apart))},
     max: {from: Math.min(film.maxval, Math.max(film.greatest, min + apart)), to: film.maxval},
@@ -234,7 +277,7 @@ function endDragged(id, event) {
 }
 
 function endKey(id, event) {
-  const steps = {ArrowLeft: -1, ArrowDown: -1, ArrowRight: 1, ArrowUp: 1, PageDown: -64, PageUp: 64, Home: -4096, End: 4096};
+  const steps = {ArrowLeft: -1, ArrowDown: -1, ArrowRight: 1, ArrowUp: 1, Home: -4096, End: 4096};
   const step = steps[event.key];
   if (!step || !state.film || !state.film.ready) return;
   event.preventDefault();
@@ -251,13 +294,17 @@ function wireEnd(id, handle) {
 
 // ---- filling the panel ----
 
-function fillPanel() {
+export function fillPanel() {
   const film = state.film;
   const ready = Boolean(film && film.ready);
   for (const part of document.querySelectorAll('#settings-part, #display-part')) {
     for (const control of part.querySelectorAll('input, button')) control.disabled = !ready;
   }
   fillHead(film);
+  for (const section of parts.sections) section.fill(ready ? film : null);
+  element('undo').disabled = !ready || !canUndo(film);
+  element('redo').disabled = !ready || !canRedo(film);
+  element('copy').disabled = !ready;
   if (!ready) return emptyPanel();
   fillBoxes(film);
   fillSliders(film);
@@ -267,7 +314,7 @@ function fillPanel() {
 
 function emptyPanel() {
   for (const id of [...SETTINGS, ...DISPLAY]) element(id).value = '';
-  for (const id of ['film-size', 'film-greys', 'bins-note', 'display-note']) element(id).textContent = '';
+  for (const id of ['film-size', 'film-greys', 'bins-note', 'display-note', 'auto-note']) element(id).textContent = '';
   for (const id of ['range-low', 'range-high']) element(id).style.display = 'none';
   element('typed-note').hidden = true;
   drawHistogram(null);
@@ -304,9 +351,17 @@ function fillBoxes(film) {
   element('clip').checked = settings.clip === 1;
   for (const id of ['factor', 'factor-slider']) element(id).classList.toggle('idle', settings.clip === 0);
   element('invert').checked = display.invert;
-  const low = display.level - Math.floor(display.width / 2);
+  element('auto').checked = display.auto;
+  element('display-note').textContent = endsOf(display);
+  const own = displayOf(film, 'scanned');
+  element('auto-note').textContent = display.auto ? endsOf(own) : '';
+}
+
+// Which greys are black and white.
+export function endsOf(display) {
+  const low = displayLow(display);
   const [dark, light] = display.invert ? ['white', 'black'] : ['black', 'white'];
-  element('display-note').textContent = `${dark} ${low}, ${light} ${low + display.width - 1}`;
+  return `${dark} ${low}, ${light} ${low + display.width - 1}`;
 }
 
 function fillSliders(film) {
@@ -318,7 +373,7 @@ function fillSliders(film) {
     element(`${id}-slider`).setAttribute('aria-valuetext', `${settings[id]} tiles`);
   }
   const bins = binSteps(mostBins(film));
-  setSlider('bins', 0, bins.length - 1, nearestStep(bins, settings.bins || 128));
+  setSlider('bins', 0, bins.length - 1, nearestStep(bins, settings.bins || USUAL_BINS));
   element('bins-slider').setAttribute('aria-valuetext', `${settings.bins} bins`);
   setSlider('factor', 0, FACTORS.length - 1, nearestStep(FACTORS, settings.factor));
   element('factor-slider').setAttribute('aria-valuetext', settings.clip ? `factor ${settings.factor}` : 'clip off');
@@ -339,9 +394,9 @@ function fillEnds(film) {
   }
 }
 
-// ---- footer and readings ----
+// ---- footer ----
 
-function fillFooter(footer, settings, film) {
+export function fillFooter(footer, settings, film) {
   const texts = footer ? [String(footer.limit), shownFactor(footer.asked), shownFactor(footer.used)] : ['', '', ''];
   ['limit', 'asked', 'used'].forEach((id, i) => setText(`footer-${id}`, texts[i]));
   element('footer-asked').title = footer ? printG(footer.asked, 9) : '';
@@ -358,29 +413,9 @@ function footerNote(footer, settings, film) {
   return notes.join('; ');
 }
 
-// What clipping took of the tile: what stood above its limit, and how many bins the walk that hands the rest out looks at.
-function tileNote(probe) {
-  if (!probe) return '';
-  return probe.mapping ? `E ${probe.excess}, looks ${probe.looks}` : 'factor 1.0: nothing is mapped';
-}
-
-function fillReading(probe) {
-  state.tile = probe ? probe.tile : null;
-  for (const [id, key] of [['at-column', 'x'], ['at-row', 'y'], ['at-scanned', 'scanned'], ['at-rendered', 'rendered']]) {
-    setText(id, probe ? String(probe[key]) : '–');
-  }
-  const tile = state.tile;
-  setText('at-tile', tile ? `${tile.across + 1} across, ${tile.down + 1} down` : '–');
-  setText('at-rectangle', tile ? `columns ${tile.left} to ${tile.left + tile.width - 1}, ` +
-    `rows ${tile.top} to ${tile.top + tile.height - 1}` : '');
-  setText('tile-note', tileNote(probe));
-  drawTilePlot(probe);
-  placeMarks();
-}
-
 // ---- wiring ----
 
-function wirePanel() {
+export function wirePanel() {
   for (const id of [...SETTINGS, ...DISPLAY]) {
     element(id).addEventListener('input', event => typed(id, event));
     element(id).addEventListener('change', event => takeBox(id, event));
@@ -388,12 +423,9 @@ function wirePanel() {
     const slider = element(`${id}-slider`);
     if (slider) slider.addEventListener('input', event => slid(id, event));
   }
-  element('bins-chosen').onchange = event => {
+  element('bins-chosen').onchange = event => changeSettings(state.film, 'bins-chosen', event, () => {
     state.film.binsChosen = event.target.checked;
-    chooseBins(state.film);
-    want('draw', 'settings', event);
-    fillPanel();
-  };
+  });
   element('clip').onchange = event => changeClip(event.target.checked, event);
   element('range-all').onclick = event => changeRange(0, state.film.maxval, event);
   element('range-film').onclick = event => {
@@ -401,8 +433,8 @@ function wirePanel() {
     changeRange(least < greatest ? least : 0, least < greatest ? greatest : maxval, event);
   };
   element('invert').onchange = event => setInvert(event.target.checked, event);
+  element('auto').onchange = event => setAuto(event.target.checked, event);
   element('display-reset').onclick = resetDisplay;
-  element('tile-shown').onchange = event => { state.tileShown = event.target.checked; placeMarks(); };
   wireEnd('min', 'range-low');
   wireEnd('max', 'range-high');
 }

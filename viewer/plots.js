@@ -1,11 +1,12 @@
-'use strict';
 // The film's histogram beneath Min and Max, and the plot of a tile's counts, limit and mapping.
+import {element} from './dom.js';
+import {mostLevel} from './panel.js';
 
-const INK = {bar: '#6f6f6f', faint: '#4a4a4a', text: '#9a9a9a', line: '#e0e0e0', limit: '#d8a54a', out: '#2b2b2b'};
+export const INK = {bar: '#6f6f6f', faint: '#4a4a4a', text: '#9a9a9a', line: '#e0e0e0', limit: '#d8a54a', out: '#2b2b2b'};
 const AXIS = 12; // room for the numbers beneath
 
 // A pen for the canvas at the screen's own pixels, with lengths in the page's.
-function penFor(canvas) {
+export function penFor(canvas) {
   const width = canvas.clientWidth;
   const height = canvas.clientHeight;
   canvas.width = Math.round(width * devicePixelRatio);
@@ -30,10 +31,17 @@ function columnsOf(counts, width) {
 // ---- the histogram ----
 
 // From 0 to the file's maxval, or to Max where that is above it.
-function greyToX(film, grey, width) { return Math.max(0, Math.min(1, grey / mostLevel(film))) * (width - 1); }
+export function greyToX(film, grey, width) { return Math.max(0, Math.min(1, grey / mostLevel(film))) * (width - 1); }
 
-function drawHistogram(film) {
-  const {pen, width, height} = penFor(element('histogram'));
+let histogramKey = ''; // what it was drawn for: a display that is dragged leaves it alone
+
+export function drawHistogram(film) {
+  const canvas = element('histogram');
+  const key = film ? [film.number, film.settings.min, film.settings.max, canvas.clientWidth, canvas.clientHeight,
+    devicePixelRatio].join() : '';
+  if (film && key === histogramKey) return;
+  histogramKey = key;
+  const {pen, width, height} = penFor(canvas);
   if (!film) return;
   const high = height - AXIS;
   const columns = columnsOf(film.histogram, width * (film.maxval + 1) / (mostLevel(film) + 1));
@@ -68,7 +76,7 @@ function histogramText(pen, film, width, height) {
 
 const MARGIN = {left: 34, right: 34, top: 13, bottom: 24};
 
-function drawTilePlot(probe) {
+export function drawTilePlot(probe) {
   const {pen, width, height} = penFor(element('tile-plot'));
   const box = {x: MARGIN.left, y: MARGIN.top, width: width - MARGIN.left - MARGIN.right,
     height: height - MARGIN.top - MARGIN.bottom};

@@ -1,10 +1,10 @@
-'use strict';
 // The record of a rendering: the same text as the command line's --record, down to the last digit.
+import {USUAL_BINS} from './calls.js';
 
 const HALF_VIEW = new DataView(new ArrayBuffer(8));
 
 // A finite number above 0 as a whole number times a power of two, exactly.
-function exactOf(x) {
+export function exactOf(x) {
   HALF_VIEW.setFloat64(0, x);
   const bits = HALF_VIEW.getBigUint64(0);
   const power = Number(bits >> 52n & 0x7ffn);
@@ -36,7 +36,7 @@ function decimalOf(x, digits) {
 function withoutZeros(text) { return text.includes('.') ? text.replace(/\.?0*$/, '') : text; }
 
 // x as C prints it with %.<digits>g.
-function printG(x, digits) {
+export function printG(x, digits) {
   if (Number.isNaN(x)) return 'nan';
   const sign = x < 0 || Object.is(x, -0) ? '-' : '';
   if (!Number.isFinite(x)) return `${sign}inf`;
@@ -64,7 +64,7 @@ function fileText(what, name, digest, bytes, film) {
 
 // All settings as used: bins 0 stands as 128, and a factor that does not count as null.
 function settingsText(s) {
-  const bins = s.bins === 0 ? 128 : s.bins;
+  const bins = s.bins || USUAL_BINS;
   const factor = s.clip ? printG(Math.fround(s.factor), 9) : 'null';
   return `  "settings": {\n    "across": ${s.across},\n    "down": ${s.down},\n    "bins": ${bins},\n    "min": ${s.min},\n` +
     `    "max": ${s.max},\n    "clip": ${s.clip ? 'true' : 'false'},\n    "factor": ${factor},\n    "by_bytes": false\n  },\n`;
@@ -77,7 +77,7 @@ function tilesText(what, which, s, looks) {
 }
 
 // made: what map made of the film with these settings, its footer and its list of looks
-function recordText(version, film, output, s, made) {
+export function recordText(version, film, output, s, made) {
   const footer = made.footer;
   return `{\n  "program": "tzofnadir",\n  "version": "${version}",\n  "command": "enhance",\n` +
     fileText('input', film.name, film.digest, film.bytes, film) +

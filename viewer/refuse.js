@@ -1,6 +1,7 @@
-'use strict';
 // What is told behind a refusal's sentence: this film's numbers and, where there is one, the way out. The same numbers as the
 // command line's messages have (station/refuse.c), in the words of the page. Messages alone hang on what is read here.
+import {LEAST_GRID, MOST_GREY, MOST_GRID, MOST_SIDE, USUAL_BINS} from './calls.js';
+import {printG} from './record.js';
 
 function isWhite(byte) { return byte === 32 || byte === 9 || byte === 13 || byte === 10; }
 function isDigit(byte) { return byte >= 48 && byte <= 57; }
@@ -165,7 +166,7 @@ function moreOfSample(input, front) {
   return lines;
 }
 
-function moreOfFile(refusal, input) {
+export function moreOfFile(refusal, input) {
   const ways = {20: moreOfHeader, 21: moreOfComment, 22: moreOfSize, 23: moreOfMaxval, 24: moreOfRaster, 25: moreOfRaster,
     26: moreOfSample};
   return ways[refusal] ? ways[refusal](input, frontOf(input.bytes)) : [];
@@ -173,7 +174,7 @@ function moreOfFile(refusal, input) {
 
 // ---- the settings ----
 
-function gridsThatFit(side) {
+export function gridsThatFit(side) {
   const fit = [];
   for (let tiles = LEAST_GRID; tiles <= MOST_GRID; tiles++) if (side >= tiles) fit.push(tiles);
   return fit;
@@ -229,14 +230,14 @@ function moreOfAll(film, s) {
     `range ${s.min} to ${s.max} (${s.max >= s.min ? s.max - s.min + 1 : 0} greys), ${clip}.`];
 }
 
-function moreOfSettings(refusal, film, s) {
+export function moreOfSettings(refusal, film, s) {
   const ways = {3: moreOfGrid, 4: moreOfGrid, 5: moreOfSides, 6: moreOfSides, 7: moreOfRange, 8: moreOfRange,
     13: moreOfPixel, 31: moreOfBins};
   return (ways[refusal] || moreOfAll)(film, s);
 }
 
 // The film's own samples were in order, so what is above maxval is the rendering.
-function moreOfRendering(film, s) {
+export function moreOfRendering(film, s) {
   return [
     'The rendering has greys above the file\'s maxval: the top of the range is above it.',
     `The file's maxval is ${film.maxval}, the top of the range ${s.max}: Max ${film.maxval} keeps below it.`,

@@ -1,12 +1,12 @@
-'use strict';
-// From greys to the bytes that are shown. This is the display alone: nothing here reaches the rendering or what is saved
-// of it. A grey is shown as one of 256 shades; 12 bits lose their lower four that way.
+// From greys to the dots that are shown. This is the display alone: nothing here reaches the rendering or what is saved of it. A
+// grey is shown as one of 256 shades; 12 bits lose their lower four that way.
+import {MOST_GREY} from './calls.js';
 
 // The lowest grey of the display window. Whole numbers, so that level 2048 and width 4096 show grey g as shade g / 16.
-function displayLow(display) { return display.level - Math.floor(display.width / 2); }
+export function displayLow(display) { return display.level - Math.floor(display.width / 2); }
 
-// For each grey the pixel to be painted, red, green, blue and full cover in the order of the bytes.
-function shadeTable(display) {
+// For each grey the dot to be painted, red, green, blue and full cover in the order of the bytes.
+export function shadeTable(display) {
   const low = displayLow(display);
   const table = new Uint32Array(MOST_GREY + 1);
   for (let grey = 0; grey < table.length; grey++) {
@@ -18,59 +18,48 @@ function shadeTable(display) {
   return table;
 }
 
-// A pixel of the film for each pixel painted; where it is enlarged, the page makes squares of them.
-function shadePixels(greys, from, stride, place, table, shown) {
-  const {width, height} = place;
-  let to = 0;
-  for (let y = 0; y < height; y++) {
-    const row = greys.subarray(from + y * stride, from + y * stride + width);
-    for (let x = 0; x < width; x++) shown[to++] = table[row[x]];
+// Lays cells, row by row as the film has them, on dots as they are seen: mirrored and turned.
+export function shadeCells(cells, columns, rows, turn, table, dots) {
+  if (!turn.aside && !turn.reverseX && !turn.reverseY) {
+    for (let i = 0; i < dots.length; i++) dots[i] = table[cells[i]];
+    return;
+  }
+  const wide = turn.aside ? rows : columns;
+  const high = turn.aside ? columns : rows;
+  const stepX = turn.reverseX ? -1 : 1;
+  const stepY = turn.reverseY ? -columns : columns;
+  const start = (turn.reverseX ? columns - 1 : 0) + (turn.reverseY ? (rows - 1) * columns : 0);
+  const [right, below] = turn.aside ? [stepY, stepX] : [stepX, stepY];
+  for (let y = 0, to = 0; y < high; y++) {
+    for (let x = 0, at = start + y * below; x < wide; x++, at += right) dots[to++] = table[cells[at]];
   }
 }
 
-// Adds a row of the film to the sums of its blocks.
-function addRow(sums, row, block) {
-  const whole = row.length - row.length % block;
-  let k = 0;
-  let x = 0;
-  for (; x < whole; x += block) {
-    let sum = row[x] + row[x + 1];
-    if (block === 4) sum += row[x + 2] + row[x + 3];
-    sums[k++] += sum;
-  }
-  for (; x < row.length; x++) sums[k] += row[x];
-}
+// ---- a display of the scan's own ----
 
-// The mean of each block of 2 by 2 or 4 by 4 pixels, rounded to the nearest grey. A block at the right or the lower edge is
-// the mean of the pixels that it has.
-function shadeMeans(greys, from, stride, place, table, shown) {
-  const {width, height, block} = place;
-  const columns = Math.ceil(width / block);
-  const rows = Math.ceil(height / block);
-  const sums = new Uint32Array(columns);
-  for (let k = 0; k < rows; k++) {
-    const high = Math.min(block, height - k * block);
-    sums.fill(0);
-    for (let y = k * block; y < k * block + high; y++) {
-      addRow(sums, greys.subarray(from + y * stride, from + y * stride + width), block);
+const LEFT_OUT = 200; // one pixel of so many is left out at each end
+
+// The window from the grey below which one pixel of 200 lies to the one above which one of 200 lies: a flat scan uses few of the
+// screen's shades, and would flatter the rendering.
+export function autoWindow(histogram) {
+  const total = histogram.reduce((sum, count) => sum + count, 0);
+  const end = way => {
+    let sum = 0;
+    let grey = way > 0 ? 0 : histogram.length - 1;
+    while (LEFT_OUT * (sum + histogram[grey]) <= total && grey + way >= 0 && grey + way < histogram.length) {
+      sum += histogram[grey];
+      grey += way;
     }
-    meansOfRow(sums, shown.subarray(k * columns), width, block, high, table);
-  }
+    return grey;
+  };
+  const low = end(1);
+  const high = Math.max(low, end(-1));
+  const width = high - low + 1;
+  return {level: low + Math.floor(width / 2), width};
 }
 
-function meansOfRow(sums, shown, width, block, high, table) {
-  const area = high * block;
-  const last = sums.length - 1;
-  for (let x = 0; x < last; x++) shown[x] = table[(sums[x] + (area >> 1)) / area | 0];
-  const rest = high * (width - last * block);
-  shown[last] = table[(sums[last] + (rest >> 1)) / rest | 0];
-}
-
-// spare: a buffer that was painted before and may be written over, so that moving a film all day leaves nothing to clear away.
-function shade(greys, from, stride, place, table, spare) {
-  const count = Math.ceil(place.width / place.block) * Math.ceil(place.height / place.block);
-  const buffer = spare && spare.byteLength >= 4 * count && spare.byteLength <= 16 * count ? spare : new ArrayBuffer(4 * count);
-  const way = place.block === 1 ? shadePixels : shadeMeans;
-  way(greys, from, stride, place, table, new Uint32Array(buffer, 0, count));
-  return buffer;
+// The display that a side of a film is shown with.
+export function displayOf(film, side) {
+  const {level, width, invert, auto} = film.display;
+  return side === 'scanned' && auto ? {...autoWindow(film.histogram), invert} : {level, width, invert};
 }

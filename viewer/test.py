@@ -55,6 +55,7 @@ class Films:
         "shallow": lambda expected, films: expected.noisy("shallow.pgm", 160, 120, 255),
         "odd": lambda expected, films: expected.noisy("odd.pgm", 77, 63),
         "small": lambda expected, films: expected.noisy("small.pgm", 12, 10),
+        "long": lambda expected, films: expected.noisy("long.pgm", 1600, 64),
         "narrow": lambda expected, films: expected.noisy("narrow.pgm", 5, 40),
         "square": lambda expected, films: expected.noisy("square.pgm", 2048, 2048),
         "largest": lambda expected, films: expected.four_of("largest.pgm", films.square),
@@ -99,11 +100,17 @@ def go(ways, person, films):
 def all_ways():
     """The ways in their order."""
     import ways_films
+    import ways_hand
     import ways_load
     import ways_looking
+    import ways_marks
+    import ways_measure
     import ways_out
+    import ways_report
+    import ways_screen
     import ways_settings
-    return ways_films.WAYS + ways_settings.WAYS + ways_looking.WAYS + ways_out.WAYS + ways_load.WAYS
+    return (ways_films.WAYS + ways_settings.WAYS + ways_looking.WAYS + ways_screen.WAYS + ways_hand.WAYS + ways_out.WAYS
+            + ways_measure.WAYS + ways_marks.WAYS + ways_report.WAYS + ways_load.WAYS)
 
 
 def begin(words, room):

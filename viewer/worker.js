@@ -1,5 +1,9 @@
-'use strict';
 // The worker's messages. It holds all films; the page asks for one thing at a time and is answered once for each.
+import {NoMemory, makeLedger} from './calls.js';
+import {MOST_BYTES, closeFilm, digestOf, greysOfWindow, openFilm, picture, probe, saveFilm, saveRecord, saveView,
+  scanCells, settle} from './film.js';
+import {gridsThatFit} from './refuse.js';
+import {makeReport, measured, readReport} from './reporter.js';
 
 const held = {module: null, version: '', ledger: null, films: new Map()};
 
@@ -45,16 +49,29 @@ function toShow(message) {
   const answer = settle(film, message.settings);
   if (answer.refusal) return answer;
   answer.footer = film.footer;
-  if (message.place) answer.picture = picture(film, message.settings, message.place, message.display, message.spare);
+  if (message.place) answer.picture = picture(film, message.settings, message.place, message.spare);
   if (answer.picture && answer.picture.refusal) return answer.picture;
   if (message.at) answer.probe = probe(film, message.settings, message.at);
+  if (message.at && message.lens) answer.lens = greysOfWindow(film, message.settings, message.lens);
   return answer.probe && answer.probe.refusal ? answer.probe : answer;
 }
 
 function toSave(message) {
   const film = held.films.get(message.number);
-  return message.what === 'record' ? saveRecord(film, message.settings, held.version, message.outName)
-    : saveFilm(film, message.settings);
+  const ways = {film: saveFilm, record: saveRecord, view: saveView};
+  return ways[message.what](film, message.settings, held.version);
+}
+
+// The scan alone in the cells of a place: for the overview.
+function toScan(message) { return {scanned: scanCells(held.films.get(message.number), message.place)}; }
+function toGreys(message) { return greysOfWindow(held.films.get(message.number), message.settings, message.window); }
+function toDigest(message) { return {digest: digestOf(held.films.get(message.number))}; }
+
+function toMeasure(message) { return measured(held.films.get(message.number), message.wish); }
+function toReadReport(message) { return readReport(held, message); }
+
+function toReport(message) {
+  return makeReport(held.films.get(message.number), message.settings, message.reading, {version: held.version});
 }
 
 // The buffers that change hands instead of being copied.
@@ -62,7 +79,8 @@ function buffersOf(answer) {
   const found = [];
   if (answer.picture) found.push(answer.picture.rendered);
   if (answer.picture && answer.picture.scanned) found.push(answer.picture.scanned);
-  if (answer.bytes) found.push(answer.bytes);
+  if (answer.lens) found.push(answer.lens.scanned, answer.lens.rendered);
+  for (const key of ['bytes', 'scanned', 'rendered']) if (answer[key]) found.push(answer[key]);
   return found;
 }
 
@@ -71,7 +89,8 @@ function faultText(fault) {
 }
 
 async function answerTo(message) {
-  const ways = {start: toStart, open: toOpen, close: toClose, show: toShow, save: toSave};
+  const ways = {start: toStart, open: toOpen, close: toClose, show: toShow, save: toSave, greys: toGreys, digest: toDigest,
+    scan: toScan, measure: toMeasure, report: toReport, 'read-report': toReadReport};
   try {
     return await ways[message.kind](message);
   } catch (fault) {

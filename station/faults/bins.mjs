@@ -1,13 +1,7 @@
 // bins.mjs TABLE: the page's choice of bins, held to the table. Prints each row that says another number.
 import { readFileSync } from 'node:fs';
-import { dirname, join } from 'node:path';
-import { fileURLToPath } from 'node:url';
-import { runInThisContext } from 'node:vm';
+import { chosenBins, factorOf } from '../../viewer/numbers.js';
 
-const top = join(dirname(fileURLToPath(import.meta.url)), '..', '..');
-for (const name of ['record.js', 'numbers.js']) runInThisContext(readFileSync(join(top, 'viewer', name), 'utf8'));
-const chosen = runInThisContext('chosenBins');
-const read = runInThisContext('factorOf');
 let wrong = 0;
 for (const line of readFileSync(process.argv[2], 'utf8').split('\n')) {
   if (line === '' || line.startsWith('#')) continue;
@@ -15,8 +9,8 @@ for (const line of readFileSync(process.argv[2], 'utf8').split('\n')) {
   const [width, height] = size.split('x').map(Number);
   const [across, down] = grid.split('x').map(Number);
   const [min, max] = range.split(':').map(Number);
-  const s = { across, down, min, max, clip: clip === 'off' ? 0 : 1, factor: clip === 'off' ? 3 : read(clip) };
-  const found = chosen(s, { width, height });
+  const s = { across, down, min, max, clip: clip === 'off' ? 0 : 1, factor: clip === 'off' ? 3 : factorOf(clip) };
+  const found = chosenBins(s, { width, height });
   if (found !== Number(bins)) {
     console.log(`${line} and by the page ${found}`);
     wrong++;

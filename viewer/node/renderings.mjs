@@ -18,7 +18,7 @@ const ODD = [
 ];
 
 /** What `tzofnadir enhance` writes of a film, and its record. */
-function commandLine(room, film, words) {
+export function commandLine(room, film, words) {
   const out = `${room}/out.pgm`, record = `${room}/out.json`;
   execFileSync('target/station/tzofnadir', ['enhance', film, out, '--quiet', '--force', '--record', record, ...words]);
   return { file: readFileSync(out), record: JSON.parse(readFileSync(record, 'utf8')) };

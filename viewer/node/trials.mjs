@@ -4,6 +4,9 @@ import { existsSync, readFileSync } from 'node:fs';
 import { run } from './program.mjs';
 import { renderings } from './renderings.mjs';
 import { helpers } from './helpers.mjs';
+import { modules } from './modules.mjs';
+import { measuring } from './measuring.mjs';
+import { reporting } from './reporting.mjs';
 
 const [room, ...programs] = process.argv.slice(2);
 let tried = 0, good = 0;
@@ -36,5 +39,8 @@ for (const program of programs) trial(`the program ${program}`, () => printed(pr
 const wasm = readFileSync('target/viewer/tzofnadir.wasm');
 renderings(wasm, room, trial);
 helpers(wasm, trial);
+modules(wasm, room, trial);
+measuring(trial);
+reporting(trial);
 console.log(`${tried} tried, ${good} as expected`);
 process.exitCode = good === tried ? 0 : 1;

@@ -2,6 +2,7 @@
 library, the command line or the page."""
 
 import base64
+import hashlib
 import os
 import random
 import re
@@ -105,6 +106,20 @@ def footer_of(film, asked):
             struct.unpack(">d", struct.pack(">Q", footer.used))[0])
 
 
+def saved_name(film, number, asked, data=None):
+    """The name of a saved rendering, without its ending: no other film, number or setting has it."""
+    factor = factor_of(asked)
+    clip = "clipoff" if factor is None else "clip%.9g" % factor
+    return "%s-rendered-film%d-%dx%d-%dbins-%dto%d-%s-%s" % (
+        film.name[:-4], number, asked.across, asked.down, asked.bins or 128, asked.min, asked.max, clip,
+        digest_of(film, data)[:12])
+
+
+def digest_of(film, data=None):
+    """The SHA-256 of a film's file."""
+    return hashlib.sha256(data or film.file()).hexdigest()
+
+
 # ---- films ----
 
 def film_of(name, data):
@@ -160,8 +175,30 @@ def shades(level, width, invert=False):
     return [255 - shade for shade in table] if invert else table
 
 
+def spans(side, zoom):
+    """Where each cell of a side begins and ends at a zoom of so many 1024ths: from floor(k 1024 / zoom) to where the next one
+    begins, and at least one pixel."""
+    return [(k * 1024 // zoom, min(side, max(k * 1024 // zoom + 1, (k + 1) * 1024 // zoom)))
+            for k in range(-(-side * zoom // 1024))]
+
+
+def any_cells(film, greys, zoom):
+    """The same for any zoom, in 1024ths: the means of the pixels that each cell has."""
+    across, down = spans(film.width, zoom), spans(film.height, zoom)
+    means = []
+    for top, bottom in down:
+        rows = [greys[y * film.width:(y + 1) * film.width] for y in range(top, bottom)]
+        for left, right in across:
+            part = sum(sum(row[left:right]) for row in rows)
+            count = (bottom - top) * (right - left)
+            means.append((2 * part + count) // (2 * count))
+    return len(across), len(down), means
+
+
 def cells(film, greys, zoom):
     """Columns, rows and greys of what is shown at a zoom: pixels, or the means of blocks, rounded to the nearest."""
+    if isinstance(zoom, int):
+        return any_cells(film, greys, zoom)
     block = ZOOMS[zoom][1]
     if block == 1:
         return film.width, film.height, greys
@@ -175,15 +212,25 @@ def cells(film, greys, zoom):
     return columns, rows, means
 
 
+def turned(columns, rows, seen, mirrored, quarters):
+    """Cells mirrored left to right, and then turned clockwise by quarters."""
+    lines = [seen[y * columns:(y + 1) * columns] for y in range(rows)]
+    if mirrored:
+        lines = [line[::-1] for line in lines]
+    for _ in range(quarters):
+        lines = [list(line) for line in zip(*lines[::-1])]
+    return len(lines[0]), len(lines), [grey for line in lines for grey in line]
+
+
 class Shown:
     """What one canvas has to hold: the film's cells as shades, each a square of `size` dots."""
 
-    def __init__(self, film, greys, zoom, table):
-        self.size = ZOOMS[zoom][0]
+    def __init__(self, film, greys, zoom, table, turn=(False, 0)):
+        self.size = 1 if isinstance(zoom, int) else ZOOMS[zoom][0]
         key = "cells", id(greys), zoom
         if key not in film.kept:
             film.kept[key] = cells(film, greys, zoom)
-        self.columns, self.rows, seen = film.kept[key]
+        self.columns, self.rows, seen = turned(*film.kept[key], *turn) if any(turn) else film.kept[key]
         self.bytes = bytes(table[grey] for grey in seen)
 
     def row(self, y):
@@ -248,6 +295,13 @@ class Canvas:
     def blank(self):
         """Whether nothing is on it."""
         return self.covered == 0
+
+
+def own_window(film):
+    """Level and width of the scan's own display: one pixel of 200 left out at each end."""
+    ordered, left_out = sorted(film.greys), len(film.greys) // 200
+    low, high = ordered[left_out], ordered[-1 - left_out]
+    return low + (high - low + 1) // 2, high - low + 1
 
 
 def sentences():

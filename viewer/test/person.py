@@ -15,7 +15,7 @@ from selenium.webdriver.common.keys import Keys
 
 import expected
 
-PATIENCE = 60  # seconds
+PATIENCE = 180  # seconds; a machine with other work beside takes its time
 
 READ_CANVAS = """
 const canvas = document.getElementById(arguments[0]), {width, height} = canvas;
@@ -82,15 +82,16 @@ class Person:
         """Runs a script in the page."""
         return self.driver.execute_script(text, *words)
 
-    def size(self, width, height):
-        """Makes the page's room on the screen this large."""
-        self.tell("Emulation.setDeviceMetricsOverride", width=width, height=height, deviceScaleFactor=1, mobile=False)
+    def size(self, width, height, scale=1, fingers=False):
+        """Makes the page's room on the screen this large, with so many dots to each length, and fingers for a mouse."""
+        self.tell("Emulation.setDeviceMetricsOverride", width=width, height=height, deviceScaleFactor=scale, mobile=fingers)
+        self.tell("Emulation.setTouchEmulationEnabled", enabled=fingers, maxTouchPoints=2 if fingers else 1)
 
-    def arrive(self, width=1600, height=1000, mark=""):
+    def arrive(self, width=1600, height=1000, mark="", scale=1, fingers=False):
         """Opens the page anew, with no film."""
         self.driver.get("about:blank")
         self.complaints()
-        self.size(width, height)
+        self.size(width, height, scale, fingers)
         self.driver.get("file://" + self.page + mark)
         self.settled()
 
@@ -151,15 +152,52 @@ class Person:
         self.settled()
 
     def saved_file(self, name, button):
-        """Saves by a button, and gives the file's bytes."""
+        """Saves by a button, and gives the file's bytes; no other file may come of it."""
         path = os.path.join(self.saved, name)
         if os.path.exists(path):
             os.remove(path)
+        before = set(os.listdir(self.saved))
         self.click(button)
-        self.until("saved " + name, lambda: os.path.exists(path))
+        self.until("saved " + name, lambda: os.path.exists(path) or self.until_saved(before, name))
         self.settled()
         with open(path, "rb") as file:
             return file.read()
+
+    def until_saved(self, before, name):
+        """Ends the way where a file under another name comes."""
+        new = [each for each in set(os.listdir(self.saved)) - before if not each.endswith(".crdownload") and each[0] != "."]
+        hold(not new or name in new, "saved as %s, expected %s" % (new, name))
+
+    def folder(self, name):
+        """A folder of its own inside this person's."""
+        path = os.path.join(self.room, name)
+        os.makedirs(path, exist_ok=True)
+        return path
+
+    # ---- fingers ----
+
+    def touch(self, kind, *points):
+        """What fingers do: where they are, each by its number."""
+        self.tell("Input.dispatchTouchEvent", type=kind,
+                  touchPoints=[{"x": x, "y": y, "id": i} for i, (x, y) in enumerate(points)])
+
+    def tap(self, x, y):
+        """A finger down and up."""
+        self.touch("touchStart", (x, y))
+        self.touch("touchEnd")
+        time.sleep(0.05)
+        self.settled()
+
+    def two(self, starts, ends, steps=8):
+        """Two fingers from where they begin to where they end."""
+        self.touch("touchStart", starts[0])
+        self.touch("touchStart", *starts)
+        for i in range(1, steps + 1):
+            self.touch("touchMove", *[tuple(a + (b - a) * i / steps for a, b in zip(start, end))
+                                      for start, end in zip(starts, ends)])
+        self.touch("touchEnd")
+        time.sleep(0.05)
+        self.settled()
 
     # ---- controls ----
 
@@ -217,10 +255,10 @@ class Person:
         self.mouse("mouseReleased", to_x, to_y, button="left", clickCount=1)
         self.settled()
 
-    def wheel(self, x, y, down):
+    def wheel(self, x, y, down, shift=False):
         """Turns the wheel at a place."""
         self.mouse("mouseMoved", x, y)
-        self.mouse("mouseWheel", x, y, deltaX=0, deltaY=down)
+        self.mouse("mouseWheel", x, y, deltaX=0, deltaY=down, modifiers=8 if shift else 0)
         time.sleep(0.05)
         self.settled()
 
@@ -246,18 +284,24 @@ class Person:
                          clip={"x": left, "y": top, "width": width, "height": height, "scale": 1})
         return picture_of(base64.b64decode(shot["data"]))
 
-    def sees(self, film, asked, zoom="1-1", table=None):
-        """Holds both canvases to the film and its rendering; gives where the film's first dot lies on them."""
+    def sees(self, film, asked, zoom="1-1", table=None, turn=(False, 0), scan_table=None):
+        """Holds both canvases to the film and its rendering; gives where the film's first dot lies on them. turn: whether it is
+        mirrored, and by how many quarters it is turned; scan_table: the shades of the scan, where they are others."""
         table = table or expected.shades((film.maxval + 1) // 2, film.maxval + 1)
         places = []
         for which, greys in (("scanned", film.greys), ("rendered", film.rendered(asked))):
-            canvas = self.canvas(which)
-            same("dots that are no grey on the %s canvas" % which, canvas.tinted, 0)
-            place = expected.Shown(film, greys, zoom, table).edge(canvas)
-            hold(place, "%s, %s canvas at %s: not the picture of %s" % (film.name, which, zoom, words_of(asked)))
-            places.append(place)
+            own = scan_table if scan_table and which == "scanned" else table
+            places.append(self.sees_on(which, film, greys, zoom, own, turn))
         same("places of the two pictures", places[1], places[0])
         return places[0]
+
+    def sees_on(self, which, film, greys, zoom, table, turn=(False, 0)):
+        """Holds one canvas to greys of a film; gives where its first dot lies."""
+        canvas = self.canvas(which)
+        same("dots that are no grey on the %s canvas" % which, canvas.tinted, 0)
+        place = expected.Shown(film, greys, zoom, table, turn).edge(canvas)
+        hold(place, "%s, %s canvas at %s: not the picture that is expected" % (film.name, which, zoom))
+        return place
 
     def footed(self, film, asked):
         """Holds the footer to the second program."""
@@ -294,13 +338,6 @@ class Person:
                  for word in [entry["message"].split('"url":"', 1)[1].split('"', 1)[0]]
                  if not word.startswith(("file:", "blob:", "data:", "about:"))]
         return worse + asked
-
-
-def words_of(asked):
-    """Settings in words."""
-    factor = expected.factor_of(asked)
-    return "grid %d by %d, %d bins, range %d to %d, %s" % (
-        asked.across, asked.down, asked.bins, asked.min, asked.max, "clip off" if factor is None else "factor %.9g" % factor)
 
 
 # ---- PNG files ----

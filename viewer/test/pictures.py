@@ -57,7 +57,8 @@ def keep(person, name):
 
 def dot_of(person, x, y):
     """Where a pixel of the film lies on the page."""
-    edge_x, edge_y, scale = person.script("return [look.painted.edgeX, look.painted.edgeY, look.painted.zoom.scale]")
+    edge_x, edge_y, scale = person.script(
+        "const {painted} = tzofnadir.look; return [painted.edgeX, painted.edgeY, painted.zoom.scale]")
     left, top, _, _ = person.box("canvas-scanned")
     return left + edge_x + (x + 0.5) * scale, top + edge_y + (y + 0.5) * scale
 
@@ -86,8 +87,8 @@ def divided(person):
     person.click("zoom-1-1")
     person.settled()
     x, y = dot_of(person, *LINE)
-    person.wheel(x, y, -120)
-    person.wheel(x, y, -120)
+    person.wheel(x, y, -480)
+    person.wheel(x, y, -480)
     across, down = person.middle("divider")
     person.drag(across, down, round(dot_of(person, *LINE)[0]), down)
     point(person, LINE[0] + 12, LINE[1])

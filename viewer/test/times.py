@@ -1,4 +1,5 @@
-"""How long the page takes: from what a hand does to the painted window of 1024 by 768, medians of 50.
+"""How long the page takes: from what a hand does to the painted window of 1024 by 768, medians of 50; of 15 where a film is
+opened, of 20 where bins are changed.
 
 The clock starts at the event's own time stamp, when the browser got the input, and stops right behind the paint of the
 frame in which the rendered canvas was drawn on: the frame's callback posts a message that is delivered behind its paint.
@@ -11,15 +12,19 @@ import statistics
 import subprocess
 import time
 
+from selenium.webdriver.common.keys import Keys
+
 from person import hold, same
 
 TURNS = 50
 WIDE, HIGH = 1024, 768
 LIMITS = {"factor": 50, "pan": 20}
+LARGEST = {"first": 350, "factor": 40, "bins": 250, "display": 16, "film": 100}  # a film of 4096 by 4096
+OPENINGS, BINS = 15, 20
 
 CLOCK = """
 window.clock = {start: 0, ends: []};
-for (const kind of ['pointermove', 'keydown', 'wheel'])
+for (const kind of ['pointermove', 'keydown', 'wheel', 'drop'])
   addEventListener(kind, event => { clock.start = event.timeStamp; }, {capture: true});
 const draws = CanvasRenderingContext2D.prototype.drawImage;
 CanvasRenderingContext2D.prototype.drawImage = function (...words) {
@@ -106,10 +111,66 @@ def pan(person, step, last):
     return ms
 
 
-def row(film, what, ms, limit):
+def first_picture(person, path):
+    """A film that is dropped, and closed again."""
+    ms = []
+    words = {"x": 500, "y": 400, "data": {"items": [], "files": [path], "dragOperationsMask": 1}}
+    for _ in range(OPENINGS):
+        for entry in person.entries():
+            person.click("close-%d" % entry["number"])
+        person.settled()
+        for kind in ("dragEnter", "dragOver"):
+            person.tell("Input.dispatchDragEvent", type=kind, **words)
+        ms.append(timed(person, lambda: person.tell("Input.dispatchDragEvent", type="drop", **words)))
+    return ms
+
+
+def by_key(person, name, keys, turns):
+    """A key on a control, one of two in turn."""
+    ms = []
+    person.script("document.getElementById(arguments[0]).focus()", name)
+    for i in range(turns):
+        ms.append(timed(person, lambda: person.keys(keys[i % len(keys)]), True))
+    return ms
+
+
+def display(person):
+    """Level and window, dragged with the right button."""
+    x, y = person.middle("canvas-rendered")
+    x -= 120
+    person.mouse("mouseMoved", x, y)
+    person.mouse("mousePressed", x, y, button="right", buttons=2, clickCount=1)
+    ms = []
+    for i in range(TURNS):
+        place = x + (9 if i % 2 == 0 else 0), y + (7 if i % 2 == 0 else 0)
+        ms.append(timed(person, lambda: person.mouse("mouseMoved", *place, button="right", buttons=2), True))
+    person.mouse("mouseReleased", x, y, button="right", clickCount=1)
+    person.settled()
+    return ms
+
+
+def largest(person, films):
+    """The rows of a film of 4096 by 4096, at 1:4; whether all limits are kept."""
+    film, name = films.largest, "4096 by 4096, 1:4"
+    path = person.file(film.name, film.file())
+    fitted(person, films.sample)
+    kept = row("4096 by 4096", "dropped, to its first picture", first_picture(person, path), LARGEST["first"], OPENINGS)
+    person.click("zoom-1-4")
+    person.settled()
+    kept &= row(name, "factor moved", factor(person), LARGEST["factor"])
+    kept &= row(name, "bins changed", by_key(person, "bins-slider", (Keys.ARROW_LEFT, Keys.ARROW_RIGHT), BINS), LARGEST["bins"], BINS)
+    kept &= row(name, "level and window dragged", display(person), LARGEST["display"])
+    person.open(path)
+    person.click("zoom-1-4")
+    person.keys(Keys.PAGE_DOWN, Keys.PAGE_UP)
+    kept &= row(name, "film changed", by_key(person, "stage", (Keys.PAGE_DOWN, Keys.PAGE_UP), TURNS), LARGEST["film"])
+    return kept
+
+
+def row(film, what, ms, limit, turns=TURNS):
     """A row of the table."""
     ms = sorted(ms)
-    same("turns", len(ms), TURNS)
+    same("turns", len(ms), turns)
     print("| %s | %s | %.1f | %.1f | %.1f | %s |" % (film, what, statistics.median(ms), ms[4], ms[-5], limit or ""), flush=True)
     return not limit or statistics.median(ms) <= limit
 
@@ -128,5 +189,6 @@ def measure(person, films):
         kept &= row(named, "panned by 60 dots", pan(person, 60, False), LIMITS["pan"])
         row(named, "the same, to the window drawn anew", pan(person, 60, True), None)
         row(named, "panned by 300 dots, to the whole window", pan(person, 300, True), None)
+    kept &= largest(person, films)
     print("\nLoad behind: %.2f." % load())
     return 0 if kept else 1

@@ -168,6 +168,62 @@ def refused_among_good(person, films):
     return "films %s" % numbers
 
 
+# Whether all of an element is seen: each of its lines, at both ends and in the middle.
+SEEN = """
+const element = document.querySelector(arguments[0]);
+return element.scrollWidth <= element.clientWidth + 1 && [...element.getClientRects()].every(({left, top, width, height, right}) =>
+  width > 0 && [left + 1, left + width / 2, right - 1].every(x => { const found = document.elementFromPoint(x, top + height / 2);
+    return found && (element === found || element.contains(found)); }));
+"""
+
+# The least contrast of what is written in an element, by the definition of WCAG 2.
+CONTRAST = """
+const light = ([r, g, b]) => [r, g, b].map(part => part / 255).map(part => part <= 0.03928 ? part / 12.92 : ((part + 0.055) / 1.055) ** 2.4)
+  .reduce((sum, part, i) => sum + part * [0.2126, 0.7152, 0.0722][i], 0);
+const parts = colour => colour.match(/[\\d.]+/g).map(Number);
+const ground = element => { for (; element; element = element.parentElement) {
+  const own = parts(getComputedStyle(element).backgroundColor); if (own.length < 4 || own[3] > 0) return own; } return [0, 0, 0]; };
+const element = document.querySelector(arguments[0]);
+return Math.min(...[element, ...element.querySelectorAll('*')].filter(each => [...each.childNodes].some(node => node.nodeType === 3))
+  .map(each => { const [a, b] = [light(parts(getComputedStyle(each).color)), light(ground(each))].sort((x, y) => y - x);
+    return (a + 0.05) / (b + 0.05); }));
+"""
+
+
+def told_apart(person, films):
+    """Films of 200 letters that differ in the last one: number and size stay in tab and captions, the panel has the whole name,
+    and the chosen tab can be read, also where its film is refused or being read."""
+    names = ["n" * 196 + end + ".pgm" for end in "ab"]
+    long = [expected.Film(name, films.odd.width, films.odd.height, films.odd.maxval, films.odd.greys) for name in names]
+    numbers = [person.open(person.file(film.name, film.file()))[0] for film in long]
+    for width, height in ((1600, 1000), (1280, 720)):
+        person.size(width, height)
+        for mode in ("side", "divide", "turn"):
+            person.click("mode-" + mode)
+            for number, name in zip(numbers, names):
+                person.choose(number)
+                told(person, number, name, mode)
+    least = 99
+    for state in ("", "refused", "reading"):
+        person.script("document.querySelector('#film-2').parentElement.className = 'film ' + arguments[0]", state)
+        least = min(least, person.script(CONTRAST, "#film-2"))
+    hold(least >= 4.5, "the contrast of the chosen tab is", least)
+    return "200 letters, three ways of looking; contrast %.1f at the least" % least
+
+
+def told(person, number, name, mode):
+    """Holds tab, captions and panel to a film."""
+    size = "77 × 63"
+    hold(person.script(SEEN, "#film-%d small" % number), "size and number are cut off in the tab")
+    same("in the tab", person.text("film-%d" % number), "%s%s · %d" % (name, size, number))
+    for side in ("scanned", "rendered"):
+        if mode != "turn" or person.element("label-" + side).is_displayed():
+            hold(person.script(SEEN, "#label-%s .what" % side), "size and number are cut off above the picture")
+        hold(person.text("label-" + side).startswith("film %d · %s · " % (number, size)), "the caption:", person.text("label-" + side))
+    same("in the panel", person.text("film-name"), name)
+    hold(person.script(SEEN, "#film-name"), "the name is cut off in the panel")
+
+
 def zeros(person, films):
     """100 MB of zeros: a message in red, and the open film stays."""
     first = person.show(films.twin)
@@ -197,4 +253,4 @@ def other_films(person, films):
 
 
 WAYS = [opens_from_the_disk, two_films_of_one_size, fast_switching, drop, close, refused_files, refused_among_good, zeros,
-        other_films]
+        other_films, told_apart]

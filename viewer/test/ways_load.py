@@ -1,5 +1,6 @@
 """Ways with much to carry: the largest film, memory that runs out, very many films."""
 
+import re
 import time
 
 import expected
@@ -56,8 +57,13 @@ def largest_film(person, films):
     acts += [("a factor", lambda i=i: factor(i)) for i in range(20)]
     acts += [("bins", lambda: person.type("bins", "4096")), ("panning", lambda: person.drag(400, 400, 200, 300))]
     acts += [("zoom " + zoom, lambda zoom=zoom: click("zoom-" + zoom)) for zoom in ("1-4", "1-2", "1-1")]
-    acts += [("saving", lambda: person.saved_file("largest-rendered.pgm", "save-pgm")),
-             ("the record", lambda: person.saved_file("largest-rendered.json", "save-record"))]
+
+    def saved(end, button):
+        number = int(person.text("film-number").split()[1])  # a turn more opens it once more
+        name = expected.saved_name(films.largest, number, films.largest.usual()._replace(bins=4096))
+        name = re.sub("clip[^-]*", "clip" + person.value("factor"), name)
+        person.saved_file(name + end, button)
+    acts += [("saving", lambda: saved(".pgm", "save-pgm")), ("the record", lambda: saved(".json", "save-record"))]
     worst = max(((name, held_by(person, act)) for name, act in acts), key=lambda each: max(each[1]))
     hold(max(worst[1]) <= MOST_HOLD, "%s held the page's thread for %.0f ms" % (worst[0], max(worst[1])))
     return "longest hold: %s, %.0f ms by a timer, %.0f ms by the browser's own count" % (worst[0], *worst[1])

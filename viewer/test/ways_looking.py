@@ -2,6 +2,7 @@
 
 import expected
 from person import hold, same
+from ways_films import SEEN
 
 from selenium.webdriver.common.keys import Keys
 
@@ -67,23 +68,20 @@ def arrow_keys(person, films):
 
 
 def wheel_at_the_pointer(person, films):
-    """The pixel under the pointer stays under it from 1:4 up to 8:1 and back."""
+    """The pixel under the pointer stays under it from 1:4 up to 8:1 and back, at the fixed zooms by Shift and the wheel."""
     film = films.noisy
     start(person, films)
     left, top, width, height = person.box("canvas-scanned")
     x, y = round(width * 0.4), round(height * 0.55)
     known = {}
     for zoom, turn in [("2-1", -120), ("4-1", -120), ("8-1", -120), ("4-1", 120), ("2-1", 120), ("1-1", 120)]:
-        person.wheel(left + x, top + y, turn)
+        person.wheel(left + x, top + y, turn, shift=True)
         edge, dots = look(person, films, zoom), expected.ZOOMS[zoom][0]
         known[zoom] = (x - edge[0]) // dots, (y - edge[1]) // dots
         hold(all(abs(a - b) <= 1 for a, b in zip(known[zoom], known["2-1"])), "under the pointer:", known)
-    person.wheel(left + x, top + y, 120)
-    look(person, films, "1-2")
-    person.wheel(left + x, top + y, 120)
-    look(person, films, "1-4")
-    person.wheel(left + x, top + y, 120)
-    look(person, films, "1-4")
+    for zoom in ("1-2", "1-4", "1-4"):
+        person.wheel(left + x, top + y, 120, shift=True)
+        look(person, films, zoom)
     return "column and row %d, %d of %d by %d stay" % (*known["8-1"], film.width, film.height)
 
 
@@ -189,12 +187,17 @@ def screens(person, films):
         person.arrive(width, height)
         person.show(films.sample)
         beyond = person.script("""return [...document.querySelectorAll('button, input, canvas, dd')].filter(each => {
+            if (each.closest('.part')) return false;
             const box = each.getBoundingClientRect();
             return box.width > 1 && (box.right > innerWidth + 1 || box.bottom > innerHeight + 1); }).map(each => each.id)""")
         same("beyond the screen of %d by %d" % (width, height), beyond, [])
-        scrolls = person.script("const panel = document.getElementById('panel'); return panel.scrollHeight - panel.clientHeight")
-        hold(scrolls <= 0, "at %d by %d the panel has to be scrolled by %d" % (width, height, scrolls))
+        scrolls = person.script("""const end = id => document.getElementById(id).getBoundingClientRect().bottom;
+            return end('tile-plot') - end('panel')""")
+        hold(scrolls <= 0, "at %d by %d the panel has to be scrolled by %d for the tile's plot" % (width, height, scrolls))
         person.sees(films.sample, films.sample.usual(), "1-1")
+        person.click("sample")
+        person.opened({1}, 1)
+        hold(person.script(SEEN, "#density") and person.script(SEEN, "#how"), "the foot is cut off at %d by %d" % (width, height))
     nameless = person.script("""return [...document.querySelectorAll('button, input')].filter(each =>
         !(each.labels && each.labels.length) && !each.getAttribute('aria-label') && !each.textContent.trim()).map(each => each.id)""")
     same("controls without a name", nameless, [])

@@ -1,21 +1,24 @@
 """Ways out: what is saved, and what is said."""
 
+import hashlib
+import json
 import os
+import re
 import subprocess
 
 import expected
 from person import hold, picture_of, same
+from ways_settings import set_now
 
 PROGRAM = os.path.join(expected.TOP, "station/render")
 
 
-def rendered_by_the_station(person, name, words):
+def rendered_by_the_station(person, name, words, base):
     """Has station/render render a film with the page's names, and gives the film's and the record's bytes."""
-    room = os.path.join(person.room, "station")
-    os.makedirs(room, exist_ok=True)
+    room = person.folder("station")
     with open(os.path.join(person.room, name), "rb") as file, open(os.path.join(room, name), "wb") as copy:
         copy.write(file.read())
-    out, record = name[:-4] + "-rendered.pgm", name[:-4] + "-rendered.json"
+    out, record = base + ".pgm", base + ".json"
     done = subprocess.run([PROGRAM, name, out, "--record", record, "--force", *words], cwd=room, capture_output=True, check=False)
     hold(done.returncode == 0, "station/render:", done.stderr.decode())
     return [open(os.path.join(room, each), "rb").read() for each in (out, record)]
@@ -33,52 +36,142 @@ TRIALS = [
 
 
 def save_film_and_record(person, films):
-    """The saved film is station/render's to the byte, and the record its --record."""
+    """The saved film is station/render's to the byte, and the record its --record; both name the film, its number, the settings
+    and a piece of its digest."""
     film = films.sample
     person.file(film.name, film.file())
     for boxes, words in TRIALS:
         person.arrive()
-        person.show(film)
-        for box, text in boxes.items():
-            if isinstance(text, bool):
-                person.check(box, text)
-            else:
-                person.type(box, text)
-        pgm, record = rendered_by_the_station(person, film.name, words)
-        hold(person.saved_file("weld-rendered.pgm", "save-pgm") == pgm, "not station/render's film:", words)
-        same("the record with %s" % words, person.saved_file("weld-rendered.json", "save-record").decode(), record.decode())
+        number = person.show(film)
+        set_boxes(person, boxes)
+        base = expected.saved_name(film, number, set_now(person))
+        pgm, record = rendered_by_the_station(person, film.name, words, base)
+        hold(person.saved_file(base + ".pgm", "save-pgm") == pgm, "not station/render's film:", words)
+        same("the record with %s" % words, person.saved_file(base + ".json", "save-record").decode(), record.decode())
     return "%d settings" % len(TRIALS)
 
 
+def set_boxes(person, boxes):
+    """Types into boxes, and sets switches."""
+    for box, text in boxes.items():
+        if isinstance(text, bool):
+            person.check(box, text)
+        else:
+            person.type(box, text)
+
+
+def two_films_of_one_name(person, films):
+    """weld.pgm from two folders, and two settings of each: four renderings of four names, and each record names the film that was
+    saved with it and has that file's digest."""
+    sides = [("one", films.sample), ("two", expected.Film("weld.pgm", films.twin.width, films.twin.height, films.twin.maxval,
+                                                           films.twin.greys))]
+    numbers = []
+    for folder, film in sides:
+        person.folder(folder)
+        numbers += person.open(person.file(os.path.join(folder, "weld.pgm"), film.file()))
+    names = set()
+    for factor in ("3", "3.0000002"):
+        for number, (_, film) in zip(numbers, sides):
+            person.choose(number)
+            person.type("factor", factor)
+            names.add(own_record(person, film, number))
+    same("names", len(names), 4)
+    return "4 renderings, 4 names, such as " + sorted(names)[0]
+
+
+def own_record(person, film, number):
+    """Saves film and record, and holds the record to the saved file; gives their name."""
+    asked = set_now(person)
+    base = expected.saved_name(film, number, asked)
+    record = json.loads(person.saved_file(base + ".json", "save-record"))
+    hold("not saved yet" in person.text("message"), "that the film is not saved is not told:", person.text("message"))
+    pgm = person.saved_file(base + ".pgm", "save-pgm")
+    same("what is told", person.text("message"), "Saved %s.pgm" % base)
+    same("the file that the record names", record["output"]["file"], base + ".pgm")
+    same("its digest", record["output"]["sha256"], hashlib.sha256(pgm).hexdigest())
+    same("the film's digest", record["input"]["sha256"], expected.digest_of(film))
+    same("its greys", expected.film_of("saved", pgm).greys, film.rendered(asked))
+    return base
+
+
 def save_shallow(person, films):
-    """A film of 8 bits, and one of the names that need care in the record."""
+    """A film of 8 bits under a name that needs care in the record and that no file system takes, and one with a name of 240
+    letters: the file has the name that its record says."""
     film = films.shallow
     odd = expected.Film('a "b" \\ é.pgm', film.width, film.height, film.maxval, film.greys)
-    person.show(odd)
-    pgm, record = rendered_by_the_station(person, odd.name, [])
-    person.click("save-pgm")
-    person.click("save-record")
-    person.settled()
+    long = expected.Film("é" * 120 + ".pgm", film.width, film.height, film.maxval, film.greys)
+    for number, each, name in ((1, odd, "a _b_ _ é.pgm"), (2, long, "é" * 50 + ".pgm")):
+        person.choose(person.show(each))
+        base = expected.saved_name(expected.Film(name, 0, 0, 0, []), number, film.usual(), film.file())
+        pgm, record = rendered_by_the_station(person, each.name, [], base)
+        hold(person.saved_file(base + ".pgm", "save-pgm") == pgm, "not station/render's film:", each.name)
+        same("the record of " + each.name, person.saved_file(base + ".json", "save-record").decode(), record.decode())
+    return "%r and %d letters" % (odd.name, len(long.name))
 
-    def saved(end):
-        found = [each for each in os.listdir(person.saved) if each.endswith(end) and "weld" not in each]
-        return os.path.join(person.saved, found[0]) if found else None
-    for end, wanted in ((".pgm", pgm), (".json", record)):
-        path = person.until("saved *" + end, lambda: saved(end))
-        with open(path, "rb") as file:
-            same("saved *" + end, file.read(), wanted)
-    return repr(odd.name)
+
+HOOK_TEXT = """
+window.drawn = [];
+const fillText = CanvasRenderingContext2D.prototype.fillText;
+CanvasRenderingContext2D.prototype.fillText = function (text, x, y) {
+  if (!this.canvas.isConnected) drawn.push({text, x, y, font: this.font, right: x + this.measureText(text).width,
+    width: this.canvas.width, height: this.canvas.height});
+  return fillText.call(this, text, x, y);
+};
+"""
+
+# The caption's dots once more, from the texts that were drawn, black on white.
+REDRAW = """
+const [lines, from] = arguments, [{width, height, font}] = lines, canvas = document.createElement('canvas');
+canvas.width = width; canvas.height = height - from;
+const pen = canvas.getContext('2d');
+pen.fillStyle = '#fff'; pen.fillRect(0, 0, width, height); pen.fillStyle = '#000'; pen.font = font; pen.textBaseline = 'top';
+for (const {text, x, y} of lines) pen.fillText(text, x, y - from);
+const data = pen.getImageData(0, 0, canvas.width, canvas.height).data, dots = [];
+for (let i = 0; i < data.length; i += 4) dots.push(data[i]);
+return dots;
+"""
+
+
+def caption(film, number, asked, display, part):
+    """What has to stand beneath a view."""
+    limit, factor, used = expected.footer_of(film, asked)
+    return " ".join([
+        "%s, film %d: %d × %d pixels, maxval %d" % (film.name, number, film.width, film.height, film.maxval),
+        "SHA-256 " + expected.digest_of(film),
+        "Rendering by Tzofnadir %s: grid %d by %d, %d bins, range %d to %d, factor asked %.9g, used %s, L %d" % (
+            open(os.path.join(expected.TOP, "VERSION"), encoding="utf-8").read().strip(), asked.across, asked.down, asked.bins,
+            asked.min, asked.max, factor, ("%.5f" % used).rstrip("0").rstrip("."), limit),
+        display, part, "Film density is not read off the rendered picture."])
+
+
+def view_saved(person, name, height):
+    """Saves the view under this name; gives the PNG's rows and the caption's words, and holds the caption's dots to them."""
+    person.script("drawn.length = 0")
+    sheet = picture_of(person.saved_file(name + ".png", "save-png"))
+    lines = person.script("return drawn")
+    same("size of the PNG", [len(sheet[0]), len(sheet)], [lines[0]["width"], lines[0]["height"]])
+    hold(max(line["right"] for line in lines) <= len(sheet[0]), "the caption is cut off on the right")
+    hold(max(line["y"] for line in lines) + 13 <= len(sheet), "the caption is cut off beneath")
+    wanted = person.script(REDRAW, lines, height)
+    same("the caption's dots", [dot for row in sheet[height:] for dot in row], [(shade,) * 3 for shade in wanted])
+    return sheet, " ".join(" ".join(line["text"] for line in lines).split())
 
 
 def save_view(person, films):
-    """The view as PNG: side by side, with the divider, and in turn, it is what is on the canvases."""
-    film = films.odd
-    person.show(film)
+    """The view as PNG: side by side, with the divider, and in turn, it is what is on the canvases, and beneath it stands what it
+    is: film, number, digest, sizes, settings, display and part."""
+    film, number = films.odd, person.show(films.odd)
+    asked = film.usual()
+    base = expected.saved_name(film, number, asked)
+    person.script(HOOK_TEXT)
     person.click("zoom-4-1")
     person.settled()
     left, right = [person.canvas(which) for which in ("scanned", "rendered")]
-    sheet = picture_of(person.saved_file("odd-view.png", "save-png"))
-    same("height", len(sheet), left.height)
+    plain = "Display: level 2048, window 4096, not inverted: black 0, white 4095"
+    part = "Part: columns 0 to 76, rows 0 to 62, at 4:1, pixels as squares, not smoothed; "
+    end = "-4to1-columns0to76-rows0to62-level2048-window4096"
+    sheet, words = view_saved(person, base + "-view-side" + end, left.height)
+    same("beneath the view", words, caption(film, number, asked, plain, part + "left as scanned, right rendered"))
     gap = len(sheet[0]) - left.width - right.width
     hold(gap >= 0, "the sheet is too narrow")
     held_to(sheet, left, 0, left.width)
@@ -86,16 +179,43 @@ def save_view(person, films):
     person.click("mode-divide")
     person.settled()
     left, right = [person.canvas(which) for which in ("scanned", "rendered")]
-    sheet = picture_of(person.saved_file("odd-view.png", "save-png"))
     half = left.width // 2
+    sheet, words = view_saved(person, base + "-view-divide" + end, left.height)
+    hold(re.search(r"as scanned in its first %d|%d columns of dots" % (half, half + 1), words), "beneath the view:", words)
     held_to(sheet, left, 0, half - 1)
     held_to([row[half + 1:] for row in sheet], right, -half - 1, right.width - half - 1)
     person.click("mode-turn")
     person.settled()
     shown = "rendered" if person.element("label-rendered").is_displayed() else "scanned"
-    sheet = picture_of(person.saved_file("odd-view.png", "save-png"))
+    sheet, words = view_saved(person, base + "-view-turn" + end, left.height)
+    hold("rendered alone" in words if shown == "rendered" else "as scanned alone" in words, "beneath the view:", words)
     held_to(sheet, person.canvas(shown), 0, len(sheet[0]))
     return "side by side, divider, in turn (%s)" % shown
+
+
+def save_part_of_view(person, films):
+    """A part of a film under a long name, with other settings and display, in a narrow window: the caption is whole and in
+    lines, and the name says what is shown."""
+    film = expected.Film("n" * 150 + ".pgm", films.noisy.width, films.noisy.height, films.noisy.maxval, films.noisy.greys)
+    film.kept = films.noisy.kept
+    person.arrive(1280, 720)
+    person.script(HOOK_TEXT)
+    number = person.show(film)
+    set_boxes(person, {"factor": "1.75", "bins": "200", "level": "1500", "width": "1000", "invert": True})
+    person.click("zoom-1-1")
+    person.settled()
+    asked = set_now(person)
+    edge = person.sees(film, asked, table=expected.shades(1500, 1000, True))
+    canvas = person.canvas("scanned")
+    columns, rows = (-edge[0], -edge[0] + canvas.width - 1), (-edge[1], -edge[1] + canvas.height - 1)
+    name = expected.saved_name(expected.Film("n" * 100 + ".pgm", 0, 0, 0, []), number, asked, film.file())
+    _, words = view_saved(person, name + "-view-side-1to1-columns%dto%d-rows%dto%d-level1500-window1000-inverted" % (
+        *columns, *rows), canvas.height)
+    wanted = caption(film, number, asked, "Display: level 1500, window 1000, inverted: white 1000, black 1999",
+                     "Part: columns %d to %d, rows %d to %d, at 1:1, pixel for pixel; left as scanned, right rendered" % (
+                         *columns, *rows))
+    same("beneath the view", words.replace(" ", ""), wanted.replace(" ", ""))
+    return "columns %d to %d, rows %d to %d" % (*columns, *rows)
 
 
 def held_to(sheet, canvas, shift, width):
@@ -135,4 +255,5 @@ def what_is_proved(person, films):
     return "panel, foot and keys"
 
 
-WAYS = [save_film_and_record, save_shallow, save_view, too_deep_to_save, what_is_proved]
+WAYS = [save_film_and_record, two_films_of_one_name, save_shallow, save_view, save_part_of_view, too_deep_to_save,
+        what_is_proved]

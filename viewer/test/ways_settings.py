@@ -5,10 +5,11 @@ from person import hold, same
 
 from selenium.webdriver.common.keys import Keys
 
-HOOK_PLOT = """
-const draw = window.drawTilePlot;
-window.drawTilePlot = probe => { window.plotted = probe && {pixels: probe.tile.pixels, counts: [...probe.counts],
-  limit: probe.limit, mapping: probe.mapping && [...probe.mapping], excess: probe.excess, looks: probe.looks}; return draw(probe); };
+PLOTTED = """
+const {probe} = tzofnadir.state;
+return probe && {pixels: probe.tile.pixels, counts: [...probe.counts], limit: probe.limit,
+  mapping: probe.mapping && [...probe.mapping],
+  excess: probe.excess, looks: probe.looks};
 """
 
 
@@ -149,8 +150,8 @@ def now_at(person):
 def display(person, films):
     """Level, window and invert change what is shown and nothing else."""
     film, asked = films.sample, films.sample.usual()
-    person.show(film)
-    wanted = person.saved_file("weld-rendered.pgm", "save-pgm")
+    name = expected.saved_name(film, person.show(film), asked) + ".pgm"
+    wanted = person.saved_file(name, "save-pgm")
     person.type("level", "1700")
     person.sees(film, asked, table=expected.shades(1700, 4096))
     person.type("width", "900")
@@ -162,7 +163,7 @@ def display(person, films):
     person.slide("level-slider", Keys.END)
     person.sees(film, asked, table=expected.shades(4095, 1, True))
     person.footed(film, asked)
-    hold(person.saved_file("weld-rendered.pgm", "save-pgm") == wanted, "the saved film changed with the display")
+    hold(person.saved_file(name, "save-pgm") == wanted, "the saved film changed with the display")
     person.click("display-reset")
     person.settled()
     person.sees(film, asked)
@@ -273,7 +274,6 @@ def read_one(person, film, asked, zoom, edge, i):
 def tile_plot(person, films):
     """What the plot is given: the pixels, the counts, the limit, the mapping, E and the looks of the tile under the pointer, each
     tile's own where they differ; and what is written beside it."""
-    person.script(HOOK_PLOT)
     for film, changes in ((films.sample, ({}, {"across": "4", "bins": "64", "factor": "1.2"})), (films.odd, ({}, {"bins": "16"}))):
         person.choose(person.show(film))
         for boxes in changes:
@@ -295,7 +295,7 @@ def plot_three(person, film):
         person.until("a reading", lambda: (person.text("at-column"), person.text("at-row")) == (str(x), str(y)), 5)
         person.settled()
         plot = film.plot(x, y, asked)
-        same("the plot of the tile at %d, %d" % (x, y), person.script("return window.plotted"), plot)
+        same("the plot of the tile at %d, %d" % (x, y), person.script(PLOTTED), plot)
         same("beside it", person.text("tile-note"), "E %d, looks %d" % (plot["excess"], plot["looks"]))
 
 

@@ -1,0 +1,62 @@
+// The page's own modules under node: a film from its file to its saved rendering, as the worker has it, against the command line;
+// and the ways from a film's pixels to dots and back.
+import { readFileSync } from 'node:fs';
+import { makeLedger } from '../calls.js';
+import { openFilm, saveFilm, saveRecord } from '../film.js';
+import { cellAt, cellEnd, cellStart, placeOf, toDot, toFilm, zoomOf } from '../place.js';
+import { commandLine } from './renderings.mjs';
+
+const TRIALS = [
+  { words: [], s: { across: 8, down: 8, bins: 1024, min: 0, max: 4095, clip: 1, factor: 3 } },
+  { words: ['--grid', '7x13', '--bins', '100', '--clip', '1.25'], s: { across: 7, down: 13, bins: 100, min: 0, max: 4095, clip: 1, factor: 1.25 } },
+];
+
+/** The film that the worker hands out, and the numbers of its record. */
+function saved(module, path, room, { words, s }) {
+  const wanted = commandLine(room, path, words);
+  const { film } = openFilm(module, makeLedger(Infinity), 7, { name: 'weld.pgm', cut: false, bytes: new Uint8Array(readFileSync(path)) });
+  const file = Buffer.from(saveFilm(film, s).bytes), { name, text } = saveRecord(film, s, wanted.record.version), record = JSON.parse(text);
+  if (!file.equals(wanted.file)) throw new Error('another PGM than the command line writes');
+  if (record.output.file !== `${name}.pgm`) throw new Error(`the record names ${record.output.file}`);
+  for (const part of ['input', 'output']) record[part].file = wanted.record[part].file;
+  if (JSON.stringify(record) !== JSON.stringify(wanted.record)) throw new Error('another record than the command line writes');
+  return `${name}.pgm, ${file.length} bytes`;
+}
+
+const random = (() => {
+  let state = 20261116;
+  return most => { state = (state * 1103515245 + 12345) % 2147483648; return state / 2147483648 * most; };
+})();
+
+/** Places of all turns at any zoom: a pixel's dot is its own, and what is seen has every cell that a dot shows. */
+function places() {
+  for (let i = 0; i < 4000; i++) {
+    const film = { width: 1 + Math.floor(random(300)), height: 1 + Math.floor(random(300)) };
+    const view = { zoom: Math.floor(16 + random(3000)), x: random(film.width), y: random(film.height), turn: i % 4, flip: i % 8 > 3 };
+    const place = placeOf(film, view, { width: 1 + Math.floor(random(400)), height: 1 + Math.floor(random(400)) }, 5);
+    const x = random(film.width), y = random(film.height), back = toFilm(place, ...toDot(place, x, y));
+    if (Math.abs(back[0] - x) + Math.abs(back[1] - y) > 1e-6) throw new Error(`${x}, ${y} comes back as ${back}`);
+    const cell = cellAt(place, random(place.pane.width), random(place.pane.height));
+    if (cell && (cell.x < place.left || cell.y < place.top || cell.x + cell.width > place.left + place.width || cell.y + cell.height > place.top + place.height))
+      throw new Error(`a cell at ${cell.x}, ${cell.y} lies beyond the window of ${JSON.stringify(view)}`);
+  }
+  return '4000 places';
+}
+
+/** Cells leave out no pixel below 1:1, and none is in two. */
+function cells() {
+  for (let p = 16; p <= 1024; p++) {
+    const zoom = zoomOf(p);
+    for (let k = 0, at = 0; k < 40; at = cellEnd(zoom, k, 1e9), k++)
+      if (cellStart(zoom, k) !== at) throw new Error(`cell ${k} at ${p} / 1024 begins at ${cellStart(zoom, k)}, expected ${at}`);
+  }
+  return '1009 zooms';
+}
+
+export function modules(wasm, room, trial) {
+  const module = new WebAssembly.Module(wasm);
+  for (const each of TRIALS)
+    trial(`the page's modules: film and record ${each.words.join(' ') || 'as README renders it'}`, () => saved(module, 'docs/weld.pgm', room, each));
+  trial('the page\'s modules: from pixels to dots and back', places);
+  trial('the page\'s modules: cells of every zoom below 1:1', cells);
+}

@@ -1,0 +1,70 @@
+// The pixel that is read: its greys, its tile, and the tile's plot.
+import {element, setText} from './dom.js';
+import {drawOverlays, look, pixelOf, placeMarks} from './look.js';
+import {drawTilePlot} from './plots.js';
+import {filmReady, state, want} from './state.js';
+
+// at: {x, y, cell, frame}, or null.
+export function readAt(at) {
+  const film = filmReady();
+  if (!film || film.refusal) return;
+  const same = at && state.at && at.x === state.at.x && at.y === state.at.y &&
+    ['x', 'y', 'width', 'height'].every(key => at.cell[key] === state.at.cell[key]);
+  state.at = at;
+  if (same) return placeMarks();
+  if (at) want('probe');
+  else fillReading(null);
+}
+
+// From the pixel that is read, or from the middle of what is seen. Gives the pixel.
+export function moveReading(x, y) {
+  const film = filmReady();
+  if (!film || !look.painted) return null;
+  const from = readNow();
+  const hold = (value, side) => Math.max(0, Math.min(side - 1, value));
+  look.pointer = null;
+  const at = pixelOf(film, hold(from.x + x, film.width), hold(from.y + y, film.height));
+  readAt(at);
+  return at;
+}
+
+// The pixel that is read, or the one in the middle of what is seen.
+export function readNow() {
+  const place = look.painted;
+  return state.at || pixelOf(state.film, place.left + (place.width >> 1), place.top + (place.height >> 1));
+}
+
+// Below 1:1 a dot is more than the pixel that is read.
+function dotWords({dot}) {
+  return dot ? `one pixel; the dot shows the mean of ${dot.width} by ${dot.height}: scanned ${dot.scanned}, ` +
+    `rendered ${dot.rendered}` : '';
+}
+
+// What clipping took of the tile: what stood above its limit, and how many bins the walk that hands the rest out looks at.
+function tileNote(probe) {
+  if (!probe) return '';
+  return probe.mapping ? `E ${probe.excess}, looks ${probe.looks}` : 'factor 1.0: nothing is mapped';
+}
+
+export function fillReading(probe) {
+  state.probe = probe;
+  state.tile = probe ? probe.tile : null;
+  for (const [id, key] of [['at-column', 'x'], ['at-row', 'y'], ['at-scanned', 'scanned'], ['at-rendered', 'rendered']]) {
+    setText(id, probe ? String(probe[key]) : '–');
+  }
+  const tile = state.tile;
+  setText('at-dot', probe ? dotWords(probe) : '');
+  setText('at-tile', tile ? `${tile.across + 1} across, ${tile.down + 1} down` : '–');
+  setText('at-rectangle', tile ? `columns ${tile.left} to ${tile.left + tile.width - 1}, ` +
+    `rows ${tile.top} to ${tile.top + tile.height - 1}` : '');
+  setText('tile-note', tileNote(probe));
+  drawTilePlot(probe);
+  placeMarks();
+}
+
+export function showTile(on) {
+  state.tileShown = on;
+  element('tile-shown').checked = on;
+  placeMarks();
+  drawOverlays();
+}
