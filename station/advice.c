@@ -58,7 +58,18 @@ static uint32_t most_bins(const struct run *run, const tz_settings *better)
     return most < 2 ? 2 : most;
 }
 
-/* Settings that need no warning: another range, as many bins as serve, and larger tiles where no bins hold the factor. */
+/* With at most so many tiles a side, the most bins that hold the factor; whether there are any. */
+static int with_tiles(const struct run *run, uint32_t tiles, uint32_t most, tz_settings *better)
+{
+    better->across = least(run->settings.across, tiles);
+    better->down = least(run->settings.down, tiles);
+    uint32_t pixels = least_tile(better, run->sizes.width, run->sizes.height);
+    better->bins = bins_that_hold(better, pixels, most);
+    return factor_holds(better, pixels, better->bins);
+}
+
+/* Settings that need no warning: another range, as many bins as serve, and larger tiles where no bins hold the factor.
+   Where none do at all, the tiles stay. */
 static tz_settings better_settings(const struct run *run)
 {
     tz_settings better = run->settings;
@@ -66,16 +77,12 @@ static tz_settings better_settings(const struct run *run)
         better.min = run->seen.least;
         better.max = run->seen.greatest;
     }
-    uint32_t most = most_bins(run, &better);
-    for (uint32_t tiles = TZ_MOST_GRID; tiles >= TZ_LEAST_GRID; tiles--) {
-        better.across = least(run->settings.across, tiles);
-        better.down = least(run->settings.down, tiles);
-        uint32_t pixels = least_tile(&better, run->sizes.width, run->sizes.height);
-        better.bins = bins_that_hold(&better, pixels, most);
-        if (factor_holds(&better, pixels, better.bins))
-            return better;
-    }
-    return run->settings;
+    uint32_t most = most_bins(run, &better), tiles = TZ_MOST_GRID;
+    while (tiles >= TZ_LEAST_GRID && !with_tiles(run, tiles, most, &better))
+        tiles--;
+    if (tiles < TZ_LEAST_GRID)
+        with_tiles(run, TZ_MOST_GRID, most, &better);
+    return better;
 }
 
 /* The words that turn the settings into the better ones. Bins that would be chosen anyway are left to be chosen. */

@@ -30,6 +30,10 @@ chmod -R a+rX "$room"
 cd "$room" || exit 2
 tz=$room/bin/tzofnadir out=$room/out/film.pgm
 tried=0 good=0
+# A shell has what it starts in the background ignore INT, and nohup has it ignore HUP; the program leaves that as it is, so
+# env undoes it.
+undo=''
+! env --default-signal=HUP,INT,QUIT,TERM true 2>/dev/null || undo='env --default-signal=HUP,INT,QUIT,TERM'
 
 # ---- films
 cp "$top/docs/weld.pgm" film.pgm || exit 2
@@ -406,10 +410,7 @@ else
     skip 'no memory: this shell sets no limit'
 fi
 
-# ---- kills at the moment the new file appears, until three came before the rename. A shell has what it starts in the
-# background ignore INT, and nohup has it ignore HUP; the program leaves that as it is, so env undoes it.
-undo=''
-! env --default-signal=HUP,INT,QUIT,TERM true 2>/dev/null || undo='env --default-signal=HUP,INT,QUIT,TERM'
+# ---- kills at the moment the new file appears, until three came before the rename
 # shellcheck disable=SC3045
 ulimit -c 0 2>/dev/null # QUIT and XCPU would leave cores
 kill_in_the_middle() { # SIGNAL STATUS

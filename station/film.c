@@ -16,7 +16,6 @@
 /* One film is open, so any number does. */
 #define FILM 1u
 
-
 /* ---- the film ---- */
 
 static void doing(const struct run *run, const char *what)

@@ -56,7 +56,8 @@ static struct task *tasks_of(const struct job *job, const struct films *films)
     struct task *tasks = calloc((size_t)films->count, sizeof *tasks);
     for (int i = 0; tasks != NULL && i < films->count; i++) {
         const char *name = last_part(films->names[i]);
-        tasks[i] = (struct task){.in = films->names[i], .out = path_in(job->into, name, ""), .which = i + 1, .of = films->count};
+        tasks[i] = (struct task){.in = films->names[i], .which = i + 1, .of = films->count};
+        tasks[i].out = path_in(job->into, name, "");
         if (records)
             tasks[i].record = path_in(job->into, name, ".json");
         if (tasks[i].out == NULL || (records && tasks[i].record == NULL)) {
@@ -78,7 +79,7 @@ static int say_failed(const struct job *job, const struct task *tasks, int count
         worst = codes[i] > worst ? codes[i] : worst;
     }
     if (failed == 0)
-        tell("%d films rendered into %s", count, job->into);
+        tell("%d %s rendered into %s", count, count == 1 ? "film" : "films", job->into);
     else
         say("%d of %d films were not rendered:", failed, count);
     for (int i = 0; i < count; i++)

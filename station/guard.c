@@ -92,8 +92,8 @@ static int check_taken(const struct task *tasks, int count)
         return 0;
     if (taken > MOST_NAMED)
         say_more("and %d more", taken - MOST_NAMED);
-    say_more("Give another %s, or say --force to have %s replaced.%s", count > 1 ? "folder" : "name", taken == 1 ? "it" : "them",
-             count > 1 ? "" : " Several films want --into FOLDER.");
+    say_more("Give another %s, or say --force to have %s replaced.%s", count > 1 ? "folder" : "name",
+             taken == 1 ? "it" : "them", count > 1 ? "" : " Several films want --into FOLDER.");
     return BAD_WORDS;
 }
 

@@ -20,7 +20,8 @@
 static int take(struct films *films, char *name)
 {
     int full = (films->count & (films->count - 1)) == 0;
-    char **more = !full ? films->names : realloc(films->names, (films->count == 0 ? 1 : 2 * (size_t)films->count) * sizeof *more);
+    size_t room = films->count == 0 ? 1 : 2 * (size_t)films->count;
+    char **more = !full ? films->names : realloc(films->names, room * sizeof *more);
     if (name == NULL || more == NULL) {
         free(name);
         return no_memory();

@@ -101,7 +101,8 @@ static void start_some(struct work *work)
         if (!started && work->begun > work->done)
             return;
         if (!started) {
-            work->codes[work->begun] = (unsigned char)fault(NO_MEMORY, "cannot start a process for", work->tasks[work->begun].in);
+            const char *film = work->tasks[work->begun].in;
+            work->codes[work->begun] = (unsigned char)fault(NO_MEMORY, "cannot start a process for", film);
             work->done++;
         }
         work->begun++;

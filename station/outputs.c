@@ -97,7 +97,7 @@ static int lay_beside(struct output *out, int which)
     out->held = fcntl(to, F_DUPFD_CLOEXEC, 0);
     if (!close_after(out->held >= 0 && write_all(to, out->bytes, out->count) && fsync(to) == 0, to))
         return fault(IO_FAULT, "cannot write", out->name);
-    return give_mode(out->held, out) ? 0 : fault(IO_FAULT, "cannot give the mode of the file that it replaces to", out->name);
+    return give_mode(out->held, out) ? 0 : fault(IO_FAULT, "cannot give the replaced file's mode to", out->name);
 }
 
 /* ---- given its place ---- */

@@ -4,3 +4,5 @@
  */
 #define TZ_FUNCTION __attribute__((visibility("default")))
 #include "tzofnadir.h"
+
+TZ_FUNCTION const char *tz_version(void) { return TZ_VERSION; }

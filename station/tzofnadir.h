@@ -15,8 +15,9 @@
  *   - a buffer that a call writes overlaps no other buffer of the same call.
  *
  * Calls may run on any threads at once, each on buffers of its own: the library has no variables, keeps nothing from one
- * call to the next, and allocates nothing. Buffers that calls only read may be shared. It needs x86-64 Linux and, of a C
- * library, memset; linked with the toolchain's C library, as the command line is, glibc 2.34 or later.
+ * call to the next, and allocates nothing. Buffers that calls only read may be shared. It needs x86-64 Linux, or aarch64
+ * where it was made for that (station/install --native), and, of a C library, memset; linked with the toolchain's C library,
+ * as the command line is, glibc 2.34 or later.
  *
  * A picture is `width` times `height` greys, row by row from the top, each 0 to 4095 in 16 bits. The calls named .._bytes
  * take a film of bytes: picture, mappings and output are bytes, each 0 to 255, by the same rules.
@@ -40,8 +41,9 @@ extern "C" {
 #define TZ_FUNCTION static inline
 #endif
 
-/* The edition of the library that is linked or loaded. */
-TZ_FUNCTION const char *tz_version(void) { return TZ_VERSION; }
+/* The edition of the library that is linked or loaded. It has no body here: what is compiled with this header and loads
+   another edition is told that one's. */
+const char *tz_version(void);
 
 /* ---- limits ---- */
 

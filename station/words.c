@@ -45,6 +45,21 @@ static int factor(const char *word, tz_settings *s)
     return end != word && *end == '\0';
 }
 
+/* A name is kept as it is, and none is empty. */
+static int kept(const char **place, const char *word)
+{
+    *place = word;
+    return *word != '\0';
+}
+
+static int range(const char *word, struct job *job)
+{
+    if (strcmp(word, "auto") != 0)
+        return pair(word, ':', &job->settings.min, &job->settings.max);
+    job->given |= OWN_RANGE;
+    return 1;
+}
+
 static int value(enum given which, const char *word, struct job *job)
 {
     tz_settings *s = &job->settings;
@@ -55,38 +70,26 @@ static int value(enum given which, const char *word, struct job *job)
     case BINS:
         return whole(word, &s->bins);
     case RANGE:
-        job->given |= strcmp(word, "auto") == 0 ? OWN_RANGE : 0;
-        return (job->given & OWN_RANGE) != 0 || pair(word, ':', &s->min, &s->max);
+        return range(word, job);
     case CLIP:
         return factor(word, s);
     case AT:
         return pair(word, ',', &w->left, &w->top);
     case SIZE:
         return pair(word, 'x', &w->width, &w->height);
-    case OUTPUT:
-        job->out = word;
-        return 1;
-    case RECORD:
-        job->record = word;
-        return *word != '\0';
-    case INTO:
-        job->into = word;
-        return *word != '\0';
-    case SCAN:
-        job->scan = word;
-        return *word != '\0';
     case JOBS:
         return whole(word, &job->jobs) && job->jobs >= 1;
-    case BYTES: /* these have none */
-    case RECORDS:
-    case QUIET:
-    case VERBOSE:
-    case AS_JSON:
-    case OWN_RANGE:
-    case FORCE:
+    case OUTPUT:
+        return kept(&job->out, word);
+    case RECORD:
+        return kept(&job->record, word);
+    case INTO:
+        return kept(&job->into, word);
+    case SCAN:
+        return kept(&job->scan, word);
+    default: /* the others have none */
         return 1;
     }
-    return 0;
 }
 
 /* ---- options ---- */

@@ -52,7 +52,7 @@ holds 'a list with a film that is not there: the other one' 'b.pgm'
 saw=$?
 if [ "$saw" -eq 0 ] && [ -f batch_out/@odd.pgm ]; then ok=yes; else ok=no; fi
 report "$ok" 'a film whose name begins with @, behind --' "status $saw"
-many 'a folder of renderings that is there, and what it holds is not' 0 '1 films rendered' batch/in/b.pgm
+many 'a folder of renderings that is there, and what it holds is not' 0 '1 film rendered into batch_out' batch/in/b.pgm
 mkdir batch_out/c.pgm
 cp little.pgm batch/c.pgm
 try 'a folder in the place of a rendering' 73 enhance --into batch_out batch/in/b.pgm batch/c.pgm
@@ -121,8 +121,6 @@ killed() { # SIGNAL STATUS
     [ "$saw" -eq 0 ] && [ "$there" -eq 200 ] && [ "$other" -eq 0 ] && scans_left && no_leftover batch_out || ok=no
     report "$ok" '200 films run again with --force: all there, no new file left' "status $saw: $there films, $other of another scan"
 }
-undo=''
-! env --default-signal=HUP,INT,QUIT,TERM true 2>/dev/null || undo='env --default-signal=HUP,INT,QUIT,TERM'
 killed TERM 143
 killed KILL 137
 differ=0

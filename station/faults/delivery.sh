@@ -59,20 +59,37 @@ over enhance film.pgm alone.pgm 2>said
 if [ -n "$prefix" ] && command -v cc >/dev/null; then
     # shellcheck disable=SC2016
     sed -n '/^```c$/,/^```$/p' "$top/README.md" | sed '/^```/d' >render.c
-    flags="-I$prefix/include -L$prefix/lib -ltzofnadir" how='no pkg-config here'
+    # README's own lines, in this folder, the prefix being none of the system's
+    readme() { sed -n 's/^    \(PKG_CONFIG_PATH=\|export PKG\|cc render\.c\)/\1/p' "$top/README.md" | sed "s|PREFIX|$prefix|g"; }
+    unset LD_LIBRARY_PATH PKG_CONFIG_PATH
     if command -v pkg-config >/dev/null; then
-        flags=$(PKG_CONFIG_PATH=$prefix/lib/pkgconfig pkg-config --cflags --libs tzofnadir)
-        how="pkg-config: $(PKG_CONFIG_PATH=$prefix/lib/pkgconfig pkg-config --modversion tzofnadir)"
+        rm -f render
+        { echo 'set -e'; readme | sed '/\.a$/d'; } >lines
+        sh lines >wrote 2>said && ./render <film.pgm >from_c.pgm 2>>said
+        saw=$?
+        if [ "$saw" -eq 0 ] && cmp -s alone.pgm from_c.pgm; then ok=yes; else ok=no; fi
+        report "$ok" "README's program in C, with the shared library" "status $saw: $(tail -n 1 lines | cut -c 1-60)"
+    else
+        skip "README's program in C with the shared library: there is no pkg-config here"
     fi
-    # shellcheck disable=SC2086
-    cc -std=c11 -Wall -Wextra -Werror -o render render.c $flags >wrote 2>said && LD_LIBRARY_PATH=$prefix/lib ./render <film.pgm >from_c.pgm 2>>said
-    saw=$?
-    if [ "$saw" -eq 0 ] && cmp -s alone.pgm from_c.pgm; then ok=yes; else ok=no; fi
-    report "$ok" "README's program in C, with the shared library" "status $saw, $how"
-    cc -std=c11 -o render render.c "-I$prefix/include" "$prefix/lib/libtzofnadir.a" >wrote 2>said && ./render <film.pgm >from_c.pgm 2>>said
+    rm -f render
+    readme | grep '\.a$' >lines
+    sh lines >wrote 2>said && ./render <film.pgm >from_c.pgm 2>>said
     saw=$?
     if [ "$saw" -eq 0 ] && cmp -s alone.pgm from_c.pgm; then ok=yes; else ok=no; fi
     report "$ok" "README's program in C, with the archive" "status $saw: $(tail -n 1 said)"
+    cc -std=c11 -Wall -Wextra -Werror -o warned render.c "-I$prefix/include" "$prefix/lib/libtzofnadir.a" >wrote 2>said
+    saw=$?
+    if [ "$saw" -eq 0 ]; then ok=yes; else ok=no; fi
+    report "$ok" "README's program in C, and no warning" "status $saw: $(tail -n 1 said)"
+    # compiled with another edition's header: the version is the loaded library's
+    mkdir -p another
+    sed 's/^#define TZ_VERSION .*/#define TZ_VERSION "9.9.9"/' "$prefix/include/tzofnadir.h" >another/tzofnadir.h
+    printf '#include <stdio.h>\n#include <tzofnadir.h>\nint main(void) { printf("%%s %%s", TZ_VERSION, tz_version()); }\n' >which.c
+    cc -std=c11 -o which which.c -Ianother "-L$prefix/lib" -ltzofnadir "-Wl,-rpath,$prefix/lib" >wrote 2>said
+    saw=$(./which 2>>said)
+    if [ "$saw" = "9.9.9 $version" ]; then ok=yes; else ok=no; fi
+    report "$ok" "tz_version() is the loaded library's, whatever the header" "$saw$(tail -n 1 said)"
     ./render <short.pgm >from_c.pgm 2>said
     saw=$?
     if [ "$saw" -eq 24 ] && [ ! -s from_c.pgm ] && [ -s said ]; then ok=yes; else ok=no; fi

@@ -47,7 +47,7 @@ if command -v strace >/dev/null && strace -f -o trace -e trace=fsync true 2>/dev
         cp before "$out"
         cp before out/film.json
         [ "$4" != gone ] || rm out/film.json
-        strace -f -o trace -e 'trace=/^rename' -e "inject=/^rename:$3" "$tz" enhance --force film.pgm "$out" --record out/film.json >wrote 2>said
+        $undo strace -f -o trace -e 'trace=/^rename' -e "inject=/^rename:$3" "$tz" enhance --force film.pgm "$out" --record out/film.json >wrote 2>said
         saw=$?
         ok=yes
         [ "$saw" -eq "$2" ] && no_leftover out || ok=no

@@ -378,7 +378,7 @@ as_clear() {
     "$scan_python" -B "$top/station/contrast.py" seen/itself.pgm seen/kept.pgm seen/plain.pgm seen/sixteen.pgm seen/scaled.pgm \
         seen/diconde.pgm >measured 2>>said
     ok=$(awk -F '\t' 'NR == 1 { over = $3 } $3 < 0.98 * over || $3 > 1.02 * over { bad = 1 }
-        END { print NR == 6 && over > 4 && !bad ? "yes" : "no" }' measured)
+        END { print (NR == 6 && over > 4 && !bad) ? "yes" : "no" }' measured)
     report "$ok" 'contrast over noise: PGM, TIFF, PNG, DICONDE within 2 %' "$(cut -f 3 measured | tr '\n' ' ')"
 }
 

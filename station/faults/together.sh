@@ -30,6 +30,81 @@ eight_render '8 station/render at once, the program to be built' 1
 rm -r "$clone/target/station"
 eight_render '8 station/render at once, no program there' 1
 
+# who has to wait for another build says so
+touch "$clone/station/tzofnadir.c"
+rm -f built_by_now
+# shellcheck disable=SC2016
+flock "$clone/target/station.lock" sh -c 'for i in $(seq 600); do [ -e built_by_now ] || sleep 0.1; done' &
+holder=$!
+sleep 1
+: >said
+"$clone/station/build" 2>said &
+child=$!
+for i in $(seq 500); do grep -q waits said || sleep 0.1; done
+: >built_by_now
+wait "$child"
+saw=$?
+wait "$holder"
+if [ "$saw" -eq 0 ] && grep -q 'another build is at work here, and this one waits' said; then ok=yes; else ok=no; fi
+report "$ok" 'a build that waits for another says so' "status $saw: $(head -n 1 said)"
+
+# a line for each crate that is proved, and all that rt says in a log: a stand-in says what rt says, and proves nothing
+mkdir -p fake
+cat >fake/rt <<END
+#!/bin/sh
+seq -f 'fn lists::f%g: proved' 400
+echo 'rt: lists proved (10 s)'
+echo 'rt: clip proved (unchanged since it was last proved)'
+[ ! -e "$room/broken" ] || { echo 'rt: scan NOT PROVED: a goal is open'; exit 1; }
+cp "$top/target/staticlib/lib\$2.a" target/staticlib/
+echo "rt: target/staticlib/lib\$2.a has the functions of \$2"
+END
+chmod +x fake/rt
+proving() { # WHAT WANTED TOLD
+    touch "$clone/crates.txt"
+    own=$("$top/toolchain/kit")
+    RATTLE_HOME=${own%/on/*} PATH=$room/fake:$PATH "$clone/station/build" >wrote 2>said
+    saw=$?
+    if [ "$saw" -eq "$2" ] && grep -q "$3" said && [ "$(wc -l <said)" -lt 40 ] && [ "$(wc -l <"$clone/target/staticlib/build.log")" -ge 400 ]; then ok=yes; else ok=no; fi
+    report "$ok" "$1" "status $saw, $(wc -l <said) lines: $(head -n 1 said)"
+}
+proving 'a first build: a line a crate, the rest in a log' 0 ': 1 of [0-9]*: lists proved, 10 s$'
+saw=$(sed -n 's/.*: \([0-9]*\) of [0-9]*: \([a-z_]*\) compiled, [0-9]* s$/\1 \2/p' said | tr '\n' ' ')
+if [ "$saw" = '3 abi 4 abi_files 5 abi_bytes 6 abi_counts ' ]; then ok=yes; else ok=no; fi
+report "$ok" 'a first build: what was proved before is counted' "$saw"
+: >broken
+proving 'a first build that fails: what failed, and the end of the log' 1 'scan NOT PROVED'
+rm broken
+proving 'built again' 0 ': 1 of [0-9]*: lists proved, 10 s$'
+
+# what removes target/, as the gate does: program, library and the sample's rendering are as they were
+"$clone/station/render" >wrote 2>said
+what_is_built() { (cd "$clone" && find target/lib target/station target/staticlib target/weld-rendered.pgm -type f -exec ls -l --full-time {} + && sha256sum target/weld-rendered.pgm); }
+what_is_built >was
+(cd "$clone" && toolchain/keep sh -c 'rm -rf target && mkdir -p target/rlib target/stamp && exit 3') 2>said
+saw=$?
+what_is_built >is
+if [ "$saw" -eq 3 ] && cmp -s was is && [ -d "$clone/target/rlib" ]; then ok=yes; else ok=no; fi
+report "$ok" 'the gate leaves program, library and rendering as they were' "status $saw: $(head -n 1 said | cut -c 1-60)"
+(cd "$clone" && exec toolchain/keep sh -c 'rm -rf target && sleep 2') 2>said &
+child=$!
+sleep 1
+kill "$child"
+wait "$child"
+saw=$?
+what_is_built >is
+if [ "$saw" -ne 0 ] && cmp -s was is; then ok=yes; else ok=no; fi
+report "$ok" 'a gate that is stopped: the same' "status $saw"
+"$clone/station/build" 2>said
+saw=$?
+if [ "$saw" -eq 0 ] && [ ! -s said ]; then ok=yes; else ok=no; fi
+report "$ok" 'behind the gate nothing is to be built' "status $saw"
+"$clone/station/render" >wrote 2>said
+saw=$?
+if [ "$saw" -eq 0 ] && cmp -s alone.pgm "$clone/target/weld-rendered.pgm"; then ok=yes; else ok=no; fi
+report "$ok" 'station/render without words, its rendering being there' "status $saw: $(cat wrote)"
+rm -f "$clone/target/weld-rendered.pgm"
+
 ln -s "$clone/target/station/tzofnadir" runner
 rm -f "$out"
 ./runner enhance film.pgm "$out" 2>said

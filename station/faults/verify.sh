@@ -63,7 +63,7 @@ END
 fi
 
 # ---- what is not as recorded
-alter other.json '"factor": 2.29999995' '"factor": 2.4'
+alter other.json '"factor": 2.29999995' '"factor": 9'
 held 'verify: another factor' 76 'rendered again, the film is not the one of the record' 'scan=same settings=other rendering=other file=same ' rendered/other.json
 alter other.json '"limit": [0-9]*' '"limit": 1'
 held 'verify: another limit' 76 'rendered again' 'scan=same settings=other rendering=same file=same ' rendered/other.json
