@@ -84,6 +84,15 @@ taken-most l q c = go (cases l q c)
 
 -- ---- all bins
 
+-- the excess of no bin, and of a bin with those behind it
+pub excess-none : (l : ℕ) → excess l [] ≡ 0
+unfolding excess
+excess-none l = refl
+
+pub excess-bin : (l c : ℕ) (cs : List ℕ) → excess l (c ∷ cs) ≡ c - l + excess l cs
+unfolding excess
+excess-bin l c cs = refl
+
 -- the excess from a place on: of its bin, and of the bins behind it
 pub excess-next : (l : ℕ) (cs : List ℕ) (i : ℕ) → i < length cs → excess l (drop i cs) ≡ getD cs i 0 - l + excess l (drop (i + 1) cs)
 unfolding excess
