@@ -16,7 +16,7 @@ use Rattle.lists.specs.Lists.{all}
 use Rattle.lists.proofs.Tabs.{and-left, and-right, and-both}
 use Rattle.header.specs.declared.Number.the-variants.{Read, Misfit}
 use Rattle.header.specs.declared.Head.the-variants.{Found, Refused}
-use Rattle.header.specs.Header.{isWhite, isDigit, misfitOf, whiteOf, digitsOf, firstDigit, numberOf, behind, endOf, headerOf}
+use Rattle.header.specs.Header.{isWhite, isDigit, misfitOf, whiteOf, digitsOf, firstDigit, numberOf, behind, endOf, fieldsOf, headerOf}
 use Rattle.header.specs.Grammar.{valueOf, Numeral, Header}
 use Rattle.header.proofs.Reading.{white-within, digit-within, digit-not-white, white-head, white-cons, white-step, digit-nil, digit-cons, digit-other, digit-step, first-digits, number-behind, end-found, behind-read, behind-found, header-magic, magic-within}
 
@@ -62,7 +62,7 @@ digit-head [] k v i h = digit-nil k v i
 digit-head (b ∷ bs) k v i h = digit-other b bs k v i h
 
 -- digits for which there is room, in front of another byte, are read as a whole
-digits-run : (ds t : List ℕ) (k v i : ℕ) → all isDigit ds ≡ true → length ds ≤ k → isDigit (getD t 0 0) ≡ false
+pub digits-run : (ds t : List ℕ) (k v i : ℕ) → all isDigit ds ≡ true → length ds ≤ k → isDigit (getD t 0 0) ≡ false
     → digitsOf k (ds ++ t) v i ≡ Read (valueOf v ds) (i + length ds)
 unfolding all valueOf
 digits-run [] t k v i a l h = digit-head t k v i h ∙ ap (Read v) (sym (add-zero i))
@@ -286,7 +286,7 @@ magic-bytes s h =
 
 -- a header that is found is one of the grammar, and its raster starts within the bytes
 pub header-sound : (s : List ℕ) {w h m at : ℕ} → headerOf s ≡ Found w h m at → (at ≤ length s) × Header s w h m (drop at s)
-unfolding headerOf
+unfolding headerOf fieldsOf
 header-sound s {w} {h} {m} {at} q = go (eqb (getD s 0 0) 80 && eqb (getD s 1 0) 53) refl q
   where
     joined : {a b c i j k : ℕ} → s ≡ (80 ∷ 53 ∷ []) ++ drop 2 s → NumberAt s 2 a i → NumberAt s i b j → NumberAt s j c k → Ends s a b c k w h m at

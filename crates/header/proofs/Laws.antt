@@ -16,7 +16,7 @@ use Rattle.lists.proofs.Tabs.{and-both}
 use Rattle.lists.proofs.Alls.{all-one, all-both}
 use Rattle.header.specs.declared.Number.the-variants.{Misfit}
 use Rattle.header.specs.declared.Head.the-variants.{Found, Refused}
-use Rattle.header.specs.Header.{isWhite, isDigit, misfitOf, whiteOf, digitsOf, firstDigit, numberOf, behind, endOf, headerOf, decimalOf, headerBytes}
+use Rattle.header.specs.Header.{isWhite, isDigit, misfitOf, whiteOf, digitsOf, firstDigit, numberOf, behind, endOf, fieldsOf, headerOf, decimalOf, headerBytes}
 use Rattle.header.specs.Grammar.{valueOf, Numeral, Header}
 use Rattle.header.proofs.Reading.{digits-never, behind-refused, tens}
 use Rattle.header.proofs.Writing.{decimal-one, decimal-more, count-most, count-least, length-header}
@@ -70,7 +70,7 @@ end-refused s w h m i {n} q = go (isWhite (getD s i 0)) q
 
 -- "20" and "21" are the only refusals of a header
 pub refused-number : (s : List ℕ) {n : ℕ} → headerOf s ≡ Refused n → (n ≡ 20) ⊎ (n ≡ 21)
-unfolding headerOf
+unfolding headerOf fieldsOf
 refused-number s {n} q = go (eqb (getD s 0 0) 80 && eqb (getD s 1 0) 53) q
   where
     go : (t : Bool)
@@ -101,7 +101,7 @@ unfolding isDigit
 digit-of n h = and-both (leb 48 (48 + n)) (leb (48 + n) 57) (le-leb 48 (48 + n) (omega arith)) (le-leb (48 + n) 57 (omega arith))
 
 -- what the writer lays down for a number is digits
-decimal-digits : (k n : ℕ) → all isDigit (decimalOf k n) ≡ true
+pub decimal-digits : (k n : ℕ) → all isDigit (decimalOf k n) ≡ true
 unfolding decimalOf all
 decimal-digits zero n = refl
 decimal-digits (suc k) n =
@@ -124,7 +124,7 @@ value-more k n h q =
     ∙ (value-append 0 (decimalOf k (n / 10)) ((48 + n % 10) ∷ []) ∙ (ap (λ v. v * 10 + (48 + n % 10 - 48)) q ∙ omega arith))
 
 -- and their value is the number
-decimal-value : (k n : ℕ) → n < tens k → valueOf 0 (decimalOf k n) ≡ n
+pub decimal-value : (k n : ℕ) → n < tens k → valueOf 0 (decimalOf k n) ≡ n
 unfolding decimalOf valueOf tens
 decimal-value zero n l = omega arith
 decimal-value (suc k) n l =

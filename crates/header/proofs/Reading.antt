@@ -7,8 +7,8 @@ use mathlib.Core.Logic.{_⊎_, ⊎-elim}
 use mathlib.Core.Path.{_≡_, refl, sym, ap, _∙_}
 use lib.Dec.{leb, eqb}
 use lib.ListN.{length, drop, getD, drop-of-length-le, List·getD-eq-default, length-drop}
-use lib.Seq.{drop-cons}
-use native.Mathlib.Nat.{mul-assoc, mul-le-mul-right, le-mul-of-pos-right, not-suc-le-zero}
+use lib.Seq.{drop-cons, drop-drop, getD-drop}
+use native.Mathlib.Nat.{add-zero, le-refl, mul-assoc, mul-le-mul-right, le-mul-of-pos-right, not-suc-le-zero}
 use native.Mathlib.Omega.{arith}
 use native.Mathlib.Numerals.{add-one}
 use borrow.Author.Tests.{leb-true, eq-eqb, ne-eqb}
@@ -18,7 +18,7 @@ use Rattle.header.specs.declared.Number.{Number}
 use Rattle.header.specs.declared.Number.the-variants.{Read, Misfit}
 use Rattle.header.specs.declared.Head.{Head}
 use Rattle.header.specs.declared.Head.the-variants.{Found, Refused}
-use Rattle.header.specs.Header.{isWhite, isDigit, misfitOf, whiteOf, digitsOf, firstDigit, numberOf, behind, endOf, headerOf}
+use Rattle.header.specs.Header.{isWhite, isDigit, misfitOf, whiteOf, digitsOf, firstDigit, numberOf, behind, endOf, fieldsOf, headerOf}
 
 -- ---- a byte that is something lies within the bytes
 
@@ -290,8 +290,99 @@ header-second s p h = rw (eq-eqb (getD s 0 0) 80 p, ne-eqb (getD s 1 0) 53 h) re
 -- both are right
 pub header-magic : (s : List ℕ) → getD s 0 0 ≡ 80 → getD s 1 0 ≡ 53
     → headerOf s ≡ behind (numberOf s 2) (λ w e. behind (numberOf s e) (λ h e. behind (numberOf s e) (λ m e. endOf s w h m e)))
-unfolding headerOf
+unfolding headerOf fieldsOf
 header-magic s p q = rw (eq-eqb (getD s 0 0) 80 p, eq-eqb (getD s 1 0) 53 q) refl
+
+-- then the numbers behind them decide
+pub header-fields : (s : List ℕ) → getD s 0 0 ≡ 80 → getD s 1 0 ≡ 53 → headerOf s ≡ fieldsOf s
+unfolding headerOf
+header-fields s p q = rw (eq-eqb (getD s 0 0) 80 p, eq-eqb (getD s 1 0) 53 q) refl
+
+-- a number that was read, or not, behind the first two bytes
+pub fields-read : (s : List ℕ) {w e : ℕ} → numberOf s 2 ≡ Read w e → fieldsOf s ≡ behind (numberOf s e) (λ h e. behind (numberOf s e) (λ m e. endOf s w h m e))
+unfolding fieldsOf
+fields-read s q = behind-read _ q
+
+pub fields-misfit : (s : List ℕ) {n : ℕ} → numberOf s 2 ≡ Misfit n → fieldsOf s ≡ Refused n
+unfolding fieldsOf
+fields-misfit s q = behind-misfit _ q
+
+-- ---- what stands behind the first two bytes decides alone
+
+byte-same : (s t : List ℕ) (at : ℕ) → drop at s ≡ drop at t → getD s at 0 ≡ getD t at 0
+byte-same s t at q =
+    ap (λ i. getD s i 0) (sym (add-zero at)) ∙ (sym (getD-drop at s 0 0) ∙ (ap (λ u. getD u 0 0) q ∙ (getD-drop at t 0 0 ∙ ap (λ i. getD t i 0) (add-zero at))))
+
+behind-same : (s t : List ℕ) (at e : ℕ) → at ≤ e → drop at s ≡ drop at t → drop e s ≡ drop e t
+behind-same s t at e l q =
+    let z : at + (e - at) ≡ e = omega arith in
+    ap (λ k. drop k s) (sym z) ∙ (sym (drop-drop (e - at) at s) ∙ (ap (drop (e - at)) q ∙ (drop-drop (e - at) at t ∙ ap (λ k. drop k t) z)))
+
+white-from : (bs : List ℕ) (i : ℕ) → i ≤ whiteOf bs i
+unfolding whiteOf
+white-from [] i = le-refl i
+white-from (b ∷ bs) i = go (isWhite b) (white-from bs (i + 1))
+  where
+    go : (t : Bool) → i + 1 ≤ whiteOf bs (i + 1) → i ≤ elim t [ true ↦ whiteOf bs (i + 1) | false ↦ i ]
+    go true h = omega arith
+    go false h = le-refl i
+
+digits-from : (k : ℕ) (bs : List ℕ) (v i w e : ℕ) → digitsOf k bs v i ≡ Read w e → i ≤ e
+unfolding digitsOf
+digits-from zero bs v i w e h = let q : i ≡ e = cc in omega arith
+digits-from (suc k) [] v i w e h = let q : i ≡ e = cc in omega arith
+digits-from (suc k) (b ∷ bs) v i w e h = go (isDigit b) (λ q. digits-from k bs (v * 10 + (b - 48)) (i + 1) w e q) h
+  where
+    go : (t : Bool) → (digitsOf k bs (v * 10 + (b - 48)) (i + 1) ≡ Read w e → i + 1 ≤ e)
+        → elim t [ true ↦ digitsOf k bs (v * 10 + (b - 48)) (i + 1) | false ↦ Read v i ] ≡ Read w e → i ≤ e
+    go true f h = omega (arith, f h)
+    go false f h = let q : i ≡ e = cc in omega arith
+
+first-from : (s : List ℕ) (at v e : ℕ) → firstDigit s at ≡ Read v e → at ≤ e
+unfolding firstDigit
+first-from s at v e h = go (isDigit (getD s at 0)) h
+  where
+    go : (t : Bool) → cond t (digitsOf 5 (drop at s) 0 at) (Misfit (misfitOf (getD s at 0))) ≡ Read v e → at ≤ e
+    go true h = digits-from 5 (drop at s) 0 at v e h
+    go false h = let z : _≡_ {A = ℕ} 0 1 = cc in omega arith
+
+number-from : (s : List ℕ) (at v e : ℕ) → numberOf s at ≡ Read v e → at ≤ e
+unfolding numberOf
+number-from s at v e h = go (isWhite (getD s at 0)) h
+  where
+    go : (t : Bool) → cond t (firstDigit s (whiteOf (drop at s) at)) (Misfit (misfitOf (getD s at 0))) ≡ Read v e → at ≤ e
+    go true h = omega (arith, white-from (drop at s) at, first-from s (whiteOf (drop at s) at) v e h)
+    go false h = let z : _≡_ {A = ℕ} 0 1 = cc in omega arith
+
+first-same : (s t : List ℕ) (at : ℕ) → drop at s ≡ drop at t → firstDigit s at ≡ firstDigit t at
+unfolding firstDigit
+first-same s t at q = rw (byte-same s t at q, q) refl
+
+number-same : (s t : List ℕ) (at : ℕ) → drop at s ≡ drop at t → numberOf s at ≡ numberOf t at
+unfolding numberOf
+number-same s t at q =
+    let start : ℕ = whiteOf (drop at t) at in
+    rw (byte-same s t at q, q) (ap (λ x. cond (isWhite (getD t at 0)) x (Misfit (misfitOf (getD t at 0)))) (first-same s t start (behind-same s t at start (white-from (drop at t) at) q)))
+
+end-same : (s t : List ℕ) (w h m at : ℕ) → drop at s ≡ drop at t → endOf s w h m at ≡ endOf t w h m at
+unfolding endOf
+end-same s t w h m at q = rw (byte-same s t at q) refl
+
+-- two headers that are read the same up to a number are read the same behind it
+then-same : (s t : List ℕ) (at : ℕ) (k l : ℕ → ℕ → Head) → drop at s ≡ drop at t → ((v e : ℕ) → drop e s ≡ drop e t → k v e ≡ l v e)
+    → behind (numberOf s at) k ≡ behind (numberOf t at) l
+then-same s t at k l q f = ap (λ x. behind x k) (number-same s t at q) ∙ go (numberOf t at) refl
+  where
+    go : (x : Number) → numberOf t at ≡ x → behind x k ≡ behind x l
+    go (Read v e) h = f v e (behind-same s t at e (number-from t at v e h) q)
+    go (Misfit n) h = refl
+
+-- so a plain file's numbers are read as those of the raw file with the same bytes behind its first two
+pub fields-same : (s t : List ℕ) → drop 2 s ≡ drop 2 t → fieldsOf s ≡ fieldsOf t
+unfolding fieldsOf
+fields-same s t q =
+    then-same s t 2 _ _ q
+    (λ w e p. then-same s t e _ _ p (λ h e p. then-same s t e _ _ p (λ m e p. end-same s t w h m e p)))
 
 -- a second byte that is right is there
 pub magic-within : (s : List ℕ) → getD s 1 0 ≡ 53 → 2 ≤ length s

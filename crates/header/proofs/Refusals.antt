@@ -15,7 +15,7 @@ use Rattle.lists.proofs.Alls.{all-append}
 use Rattle.header.specs.declared.Number.the-variants.{Read, Misfit}
 use Rattle.header.specs.declared.Head.{Head}
 use Rattle.header.specs.declared.Head.the-variants.{Found, Refused}
-use Rattle.header.specs.Header.{isWhite, isDigit, misfitOf, whiteOf, digitsOf, firstDigit, numberOf, behind, endOf, headerOf}
+use Rattle.header.specs.Header.{isWhite, isDigit, misfitOf, whiteOf, digitsOf, firstDigit, numberOf, behind, endOf, fieldsOf, headerOf}
 use Rattle.header.specs.Grammar.{valueOf, Numeral, Header, Hash}
 use Rattle.header.proofs.Reading.{test-within, first-misfit, number-behind, number-misfit, end-misfit, digits-never, behind-read, behind-misfit, behind-refused, header-magic}
 use Rattle.header.proofs.Grammar.{byte-at, drop-behind, drop-byte, all-first, numeral-white, number-reads, white-some, Run, NumberAt, number-sound, magic-bytes, white-run, white-not-digit, header-complete, header-sound}
@@ -179,7 +179,7 @@ module _ (s : List ℕ) (magic : s ≡ (80 ∷ 53 ∷ []) ++ drop 2 s) where
 
 -- what is refused with 21 has a `#` in the header
 pub hash-sound : (s : List ℕ) → headerOf s ≡ Refused 21 → Hash s
-unfolding headerOf
+unfolding headerOf fieldsOf
 hash-sound s q = go (eqb (getD s 0 0) 80 && eqb (getD s 1 0) 53) refl q
   where
     go : (t : Bool) → (eqb (getD s 0 0) 80 && eqb (getD s 1 0) 53) ≡ t

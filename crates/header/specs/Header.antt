@@ -53,11 +53,15 @@ behind (Misfit n) k = Refused n
 unfoldable pub endOf : List ℕ → ℕ → ℕ → ℕ → ℕ → Head
 endOf s w h m at = cond (isWhite (getD s at 0)) (Found w h m (at + 1)) (Refused (misfitOf (getD s at 0)))
 
+-- three numbers behind the first two bytes, width, height and maxval
+unfoldable pub fieldsOf : List ℕ → Head
+fieldsOf s = behind (numberOf s 2) (λ w at. behind (numberOf s at) (λ h at. behind (numberOf s at) (λ m at. endOf s w h m at)))
+
 -- "P5", then three numbers, width, height and maxval; what is found ends with the place where the raster starts
 unfoldable pub headerOf : List ℕ → Head
 headerOf s =
     cond (eqb (getD s 0 0) 80 && eqb (getD s 1 0) 53)
-    (behind (numberOf s 2) (λ w at. behind (numberOf s at) (λ h at. behind (numberOf s at) (λ m at. endOf s w h m at))))
+    (fieldsOf s)
     (Refused 20)
 
 -- ---- the writer

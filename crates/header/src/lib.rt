@@ -4,7 +4,7 @@ ghost use Prim.Native.Nat.{_+_, _≤_, _<_};
 ghost use mathlib.Core.List.{[], _∷_, _++_};
 ghost use lib.ListN.{length, getD, drop};
 ghost use Rattle.lists.specs.Lists.{onto, over};
-ghost use Rattle.header.specs.Header.{isWhite, isDigit, misfitOf, whiteOf, digitsOf, firstDigit, numberOf, behind, endOf, headerOf, decimalOf, headerBytes};
+ghost use Rattle.header.specs.Header.{isWhite, isDigit, misfitOf, whiteOf, digitsOf, firstDigit, numberOf, behind, endOf, fieldsOf, headerOf, decimalOf, headerBytes};
 
 // A number of the header with the place behind it, or the refusal of what stands in its place.
 pub enum Number {
@@ -29,7 +29,7 @@ fn byte(s: &[u8], at: usize) -> u8
 }
 
 // Space, tab, CR or LF.
-fn is_white(b: u8) -> bool
+pub fn is_white(b: u8) -> bool
     ensures { λ r. ⌜ r ≡ isWhite b ⌝ }
 {
     if b == 32 {
@@ -64,7 +64,7 @@ fn misfit(b: u8) -> u32
 }
 
 // The place behind the white space bytes that start at `at`.
-fn white_end(s: &[u8], at: usize) -> usize
+pub fn white_end(s: &[u8], at: usize) -> usize
     requires { ⌜ at ≤ length (now s) ⌝ }
     ensures { λ r. ⌜ r ≡ whiteOf (drop at (now (s .entry))) at ⌝ }
 {
@@ -80,7 +80,7 @@ fn white_end(s: &[u8], at: usize) -> usize
 }
 
 // At most five digits from `at` on; a sixth is left to what reads on.
-fn digits(s: &[u8], at: usize) -> Number
+pub fn digits(s: &[u8], at: usize) -> Number
     requires { ⌜ at ≤ length (now s) ⌝ }
     ensures { λ r. ⌜ r ≡ digitsOf 5 (drop at (now (s .entry))) 0 at ⌝ }
 {
@@ -157,6 +157,17 @@ fn from_height(s: &[u8], width: u32, at: usize) -> Head
     }
 }
 
+// The header from behind its first two bytes on: width, height and maxval. A plain file's is read by it too.
+pub fn fields(s: &[u8]) -> Head
+    requires { ⌜ 2 ≤ length (now s) ⌝ }
+    ensures { λ r. ⌜ r ≡ fieldsOf (now (s .entry)) ⌝ }
+{
+    match read_number(s, 2) {
+        Number::Read(width, e) => from_height(s, width, e),
+        Number::Misfit(n) => Head::Refused(n),
+    }
+}
+
 // The header of a raw PGM file: "P5", then width, height and maxval.
 pub fn header(s: &[u8]) -> Head
     ensures { λ r. ⌜ r ≡ headerOf (now (s .entry)) ⌝ }
@@ -167,14 +178,11 @@ pub fn header(s: &[u8]) -> Head
     if byte(s, 1) != 53 {
         return Head::Refused(20);
     }
-    match read_number(s, 2) {
-        Number::Read(width, e) => from_height(s, width, e),
-        Number::Misfit(n) => Head::Refused(n),
-    }
+    fields(s)
 }
 
 // How many digits a number of at most five has.
-fn decimal_length(n: u32) -> usize
+pub fn decimal_length(n: u32) -> usize
     requires { ⌜ n < 100000 ⌝ }
     ensures { λ r. ⌜ r ≡ length (decimalOf 5 n) ⌝ }
 {
