@@ -89,5 +89,5 @@ tz-write-determined x y same =
 pub tz-write-refusal-keeps : {c : TzWriteCall} → TzWrites c → 0 < c .number → (c .out′ ≡ c .out) × (c .count′ ≡ c .count)
 unfolding flatWritten writtenSays
 tz-write-refusal-keeps {c} ran l =
-    let e = returned-kept (write-table _ _ _ _ _) (λ w. flatWritten w (c .count)) (λ (z : FlatWritten). z .number) refl (λ k. refl) (tz-write-ends ran) l in
+    let e = returned-kept (write-table _ _ _ _ _ _) (λ w. flatWritten w (c .count)) (λ (z : FlatWritten). z .number) refl (λ k. refl) (tz-write-ends ran) l in
     (ap (λ (z : FlatWritten). z .out) e, ap (λ (z : FlatWritten). z .count) e)

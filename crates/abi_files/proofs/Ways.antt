@@ -38,12 +38,12 @@ module _ {c : TzWriteCall} (ran : TzWrites c) (written : c .number ≡ 0) where
   loose : first (writeRows (c .pixels) (c .width) (c .height) (c .maxval) (length (c .out))) ≡ 0
   unfolding flatWritten writtenSays
   loose =
-      sym (returned-number (write-table _ _ _ _ _) (λ w. flatWritten w (c .count)) (λ (z : FlatWritten). z .number) refl (λ k. refl))
+      sym (returned-number (write-table _ _ _ _ _ _) (λ w. flatWritten w (c .count)) (λ (z : FlatWritten). z .number) refl (λ k. refl))
       ∙ sym (ap (λ (z : FlatWritten). z .number) (tz-write-ends ran))
       ∙ written
 
   said : writtenSays (writeOf (c .pixels) (c .width) (c .height) (c .maxval) (c .out) .answer) ≡ accepted (length (fileOf (c .pixels) (c .width) (c .height) (c .maxval)))
-  said = table-says (write-table _ _ _ _ _) ∙ ap (λ n. says n (length (fileOf (c .pixels) (c .width) (c .height) (c .maxval)))) loose
+  said = table-says (write-table _ _ _ _ _ _) ∙ ap (λ n. says n (length (fileOf (c .pixels) (c .width) (c .height) (c .maxval)))) loose
 
   laid : writtenAs (c .number) (c .out′) (c .count′)
       ≡ writtenAs 0 (writeOf (c .pixels) (c .width) (c .height) (c .maxval) (c .out) .out) (length (fileOf (c .pixels) (c .width) (c .height) (c .maxval)))
@@ -52,7 +52,7 @@ module _ {c : TzWriteCall} (ran : TzWrites c) (written : c .number ≡ 0) where
 
   -- the bytes that tz_write counts are the file
   file : take (c .count′) (c .out′) ≡ fileOf (c .pixels) (c .width) (c .height) (c .maxval)
-  file = ap (λ (z : FlatWritten). take (z .count) (z .out)) laid ∙ written-file _ _ _ _ (c .out) said
+  file = ap (λ (z : FlatWritten). take (z .count) (z .out)) laid ∙ written-file _ _ _ _ _ (c .out) said
 
 module _ {c : TzWriteCall} {z : TzSizesCall} {k : TzRasterCall} {g : TzGreysCall} (way : TzReadBack c z k g) where
   rows : first (writeRows (c .pixels) (c .width) (c .height) (c .maxval) (length (c .out))) ≡ 0

@@ -23,23 +23,23 @@ use Rattle.pgm_greys.specs.declared.Turned.the-variants as Turned
 use Rattle.pgm_greys.specs.Greys.{turnRows, greyedAs, turnedOf}
 use Rattle.pgm_greys.proofs.Tables.{grey-none}
 use Rattle.pgm_greys.proofs.Parts.{greys-done}
-use Rattle.pgm_write.specs.Write.{writeRows, WriteAsks, fileOf}
+use Rattle.pgm_write.specs.Write.{writeRows, Film, fileOf}
 use Rattle.pgm_write.proofs.Tables.{write-asks, length-file}
 
 module _ (pic : List ℕ) (w h m room : ℕ) (ok : first (writeRows pic w h m room) ≡ 0) where
-  asks : WriteAsks pic w h m room
-  asks = write-asks pic w h m room ok
+  film : Film pic w h m
+  film = write-asks pic w h m (fileOf pic w h m) room ok .film
 
   -- its header is found as it was written
   pub written-header : headerOf (fileOf pic w h m) ≡ Head.Found w h m (length (headerBytes w h m))
   unfolding fileOf
   written-header =
-      let t : Within w h m = asks .within in
+      let t : Within w h m = film .within in
       round-trip w h m (packed (isWide m) pic) (omega (arith, t .widest)) (omega (arith, t .highest)) (omega (arith, t .brightest))
 
   -- the header is followed by a raster of the picture's size
   pub written-exact : length (headerBytes w h m) + rasterSize w h m ≡ length (fileOf pic w h m)
-  written-exact = sym (length-file pic w h m (asks .whole))
+  written-exact = sym (length-file pic w h m (film .whole))
 
   -- what stands behind the header is the raster
   pub written-behind : drop (length (headerBytes w h m)) (fileOf pic w h m) ≡ packed (isWide m) pic
@@ -52,7 +52,7 @@ module _ (pic : List ℕ) (w h m room : ℕ) (ok : first (writeRows pic w h m ro
       sym
       (read-judged (fileOf pic w h m) written-header
       (judged-found w h m (length (headerBytes w h m)) (length (fileOf pic w h m)) refl
-      (none-first (headRows w h m) (within-none w h m (asks .within)))
+      (none-first (headRows w h m) (within-none w h m (film .within)))
       refl
       (none-first (rasterRows w h m (length (fileOf pic w h m) - length (headerBytes w h m))) (exact-none w h m (length (fileOf pic w h m) - length (headerBytes w h m)) (omega (arith, written-exact))))))
 
@@ -62,7 +62,7 @@ module _ (pic : List ℕ) (w h m room : ℕ) (ok : first (writeRows pic w h m ro
 
   -- the greys of its raster are the picture
   pub written-picture : unpacked (isWide m) (drop (length (headerBytes w h m)) (fileOf pic w h m)) (w * h) ≡ pic
-  written-picture = rw (written-behind, ← asks .whole) (unpacked-packed (isWide m) pic)
+  written-picture = rw (written-behind, ← film .whole) (unpacked-packed (isWide m) pic)
 
   -- a target with room takes them: no row of greys applies, and the picture stands at its front
   pub written-greys : (target : List ℕ) → w * h ≤ length target
@@ -74,7 +74,7 @@ module _ (pic : List ℕ) (w h m room : ℕ) (ok : first (writeRows pic w h m ro
       none =
           grey-none (fileOf pic w h m) (length (headerBytes w h m)) w h m (length target)
           (record {
-            raster = record { within = asks .within; exact = written-exact };
+            raster = record { within = film .within; exact = written-exact };
             fitting = l;
-            bounded = ap (noneAbove m) written-picture ∙ asks .bounded;
+            bounded = ap (noneAbove m) written-picture ∙ film .bounded;
           })

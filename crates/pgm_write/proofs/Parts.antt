@@ -1,6 +1,6 @@
 -- The parts of the output that write lends on, and what it leaves.
 -- Assumes nothing.
-use Prim.Native.Nat.{ℕ, _-_, _*_, _≤_}
+use Prim.Native.Nat.{ℕ, _+_, _-_, _*_, _≤_}
 use mathlib.Core.List.{List, _++_}
 use mathlib.Core.Path.{_≡_, refl, ap, _∙_}
 use native.Mathlib.Omega.{arith}
@@ -11,9 +11,11 @@ use Rattle.refuse.specs.Refuse.{first, unless}
 use Rattle.refuse.proofs.Walk.{unless-refused}
 use Rattle.header.specs.Header.{headerBytes}
 use Rattle.samples.specs.Samples.{isWide, sizeOf, packed, PackAsks}
+use Rattle.raster.specs.Raster.{rasterSize}
 use Rattle.raster.proofs.Tables.{part-tail}
 use Rattle.pgm_write.specs.declared.Written.the-variants as Written
-use Rattle.pgm_write.specs.Write.{writeRows, WriteAsks, fileOf, Wrote, wroteAs, writeOf}
+use Rattle.pgm_write.specs.Write.{writtenRows, WriteAsks, fileOf, Wrote, wroteAs, writtenOf}
+use Rattle.pgm_write.proofs.Tables.{length-file}
 
 -- ---- the file laid down
 
@@ -24,26 +26,30 @@ pub file-laid : (out pic : List ℕ) (w h m : ℕ) {e p : List ℕ} {at : ℕ} �
 unfolding fileOf
 file-laid out pic w h m {e} {p} {at} q n r = onto-tail out (headerBytes w h m) (packed (isWide m) pic) at q n (rw (part-tail e at) at r)
 
+-- the output has room for the header and the raster
+pub file-fits : {pic : List ℕ} {w h m room : ℕ} → WriteAsks pic w h m (fileOf pic w h m) room → length (headerBytes w h m) + rasterSize w h m ≤ room
+file-fits {pic} {w} {h} {m} t = omega (arith, t .fitting, length-file pic w h m (t .film .whole))
+
 -- the part behind the header has room for the raster
-pub file-room : (e pic : List ℕ) (w h m : ℕ) {at room : ℕ} → WriteAsks pic w h m room → length e ≡ room → at ≡ length (headerBytes w h m)
+pub file-room : (e pic : List ℕ) (w h m : ℕ) {at room : ℕ} → WriteAsks pic w h m (fileOf pic w h m) room → length e ≡ room → at ≡ length (headerBytes w h m)
     → PackAsks m pic (length (take (length e - at) (drop at e)))
 file-room e pic w h m {at} {room} t q n =
-    let l : w * h * sizeOf (isWide m) ≤ length e - at = omega (arith, t .fitting) in
-    record { bounded = t .bounded; room = rw (part-tail e at, length-drop, t .whole) l }
+    let l : w * h * sizeOf (isWide m) ≤ length e - at = omega (arith, file-fits t) in
+    record { bounded = t .film .bounded; room = rw (part-tail e at, length-drop, t .film .whole) l }
 
 -- ---- what write leaves
 
-module _ (pic : List ℕ) (w h m : ℕ) (out : List ℕ) where
+module _ (pic : List ℕ) (w h m : ℕ) (file out : List ℕ) where
   -- a refusal leaves the output as it was
-  pub write-refused : {n : ℕ} → n ≡ first (writeRows pic w h m (length out)) → (n ≡ 0 → ⊥) → wroteAs (Written.Refused n) out ≡ writeOf pic w h m out
-  unfolding writeOf
+  pub write-refused : {n : ℕ} → n ≡ first (writtenRows pic w h m file (length out)) → (n ≡ 0 → ⊥) → wroteAs (Written.Refused n) out ≡ writtenOf pic w h m file out
+  unfolding writtenOf
   write-refused {n} e z = unless-refused n (λ k. wroteAs (Written.Refused k) out) done z ∙ ap (λ j. unless j (λ k. wroteAs (Written.Refused k) out) done) e
     where
       done : Wrote
-      done = wroteAs (Written.Bytes (length (fileOf pic w h m))) (onto out (fileOf pic w h m))
+      done = wroteAs (Written.Bytes (length file)) (onto out file)
 
   -- else the file stands at its front, and its length is the answer
-  pub write-done : {n k : ℕ} {left : List ℕ} → n ≡ first (writeRows pic w h m (length out)) → n ≡ 0
-      → left ≡ onto out (fileOf pic w h m) → k ≡ length (fileOf pic w h m) → wroteAs (Written.Bytes k) left ≡ writeOf pic w h m out
-  unfolding writeOf
+  pub write-done : {n k : ℕ} {left : List ℕ} → n ≡ first (writtenRows pic w h m file (length out)) → n ≡ 0
+      → left ≡ onto out file → k ≡ length file → wroteAs (Written.Bytes k) left ≡ writtenOf pic w h m file out
+  unfolding writtenOf
   write-done e z q l = rw (← e, z, q, l) refl

@@ -1,7 +1,7 @@
 -- Document 01, "What each call hands back" for write, the refusals 22, 23, 2, 26 and 27, and "Raw PGM".
 -- A file is a list of bytes. w, h and m are width, height and maxval.
 -- Assumes nothing.
-use Prim.Native.Nat.{ℕ, _+_, _*_, _≤_}
+use Prim.Native.Nat.{ℕ, _*_, _≤_}
 use mathlib.Core.Bool.{true, not}
 use mathlib.Core.List.{List, [], _∷_, _++_}
 use mathlib.Core.Path.{_≡_}
@@ -11,7 +11,7 @@ use Rattle.lists.specs.Lists.{onto}
 use Rattle.refuse.specs.Refuse.{Row, row, first, unless, Says, accepted, refused}
 use Rattle.header.specs.Header.{headerBytes}
 use Rattle.samples.specs.Samples.{isWide, packed, noneAbove}
-use Rattle.raster.specs.Raster.{rasterSize, headRows, Within}
+use Rattle.raster.specs.Raster.{headRows, Within}
 use Rattle.pgm_write.specs.declared.Written.{Written}
 use Rattle.pgm_write.specs.declared.Written.the-variants as Written
 
@@ -19,21 +19,28 @@ use Rattle.pgm_write.specs.declared.Written.the-variants as Written
 unfoldable pub fileOf : List ℕ → ℕ → ℕ → ℕ → List ℕ
 fileOf pic w h m = headerBytes w h m ++ packed (isWide m) pic
 
--- "Write: 22, 23, 2, 26, 27."
-unfoldable pub writeRows : List ℕ → ℕ → ℕ → ℕ → ℕ → List Row
-writeRows pic w h m room =
-    headRows w h m
-    ++ (row 2 (not (eqb (length pic) (w * h)))
-    ∷ row 26 (not (noneAbove m pic))
-    ∷ row 27 (ltb room (length (fileOf pic w h m)))
-    ∷ [])
+-- 22, 23, 2 and 26: the refusals of a picture that is to be written, whatever its file's form
+unfoldable pub pictureRows : List ℕ → ℕ → ℕ → ℕ → List Row
+pictureRows pic w h m = headRows w h m ++ (row 2 (not (eqb (length pic) (w * h))) ∷ row 26 (not (noneAbove m pic)) ∷ [])
 
--- what the rows of write tell where none applies: a picture of its size, none of it above maxval, and room for the whole file
-pub record WriteAsks (pic : List ℕ) (w h m room : ℕ) : Type 0 where
+-- "Write: 22, 23, 2, 26, 27.", of the file that is to be written
+unfoldable pub writtenRows : List ℕ → ℕ → ℕ → ℕ → List ℕ → ℕ → List Row
+writtenRows pic w h m file room = pictureRows pic w h m ++ (row 27 (ltb room (length file)) ∷ [])
+
+-- of the raw one
+abbrev pub writeRows : List ℕ → ℕ → ℕ → ℕ → ℕ → List Row
+writeRows pic w h m room = writtenRows pic w h m (fileOf pic w h m) room
+
+-- what the rows 22, 23, 2 and 26 tell where none applies: a picture of its size, none of it above maxval
+pub record Film (pic : List ℕ) (w h m : ℕ) : Type 0 where
   pub within : Within w h m
   pub whole : length pic ≡ w * h
   pub bounded : noneAbove m pic ≡ true
-  pub fitting : length (headerBytes w h m) + rasterSize w h m ≤ room
+
+-- what 27 tells besides: room for the whole file
+pub record WriteAsks (pic : List ℕ) (w h m : ℕ) (file : List ℕ) (room : ℕ) : Type 0 where
+  pub film : Film pic w h m
+  pub fitting : length file ≤ room
 
 -- document 01's value and number of write's answers: "the byte count", or a refusal
 unfoldable pub writtenSays : Written → Says ℕ
@@ -53,6 +60,10 @@ wroteAs answer out = record { answer = answer; out = out }
 abbrev pub wrote : List Row → List ℕ → List ℕ → Wrote
 wrote rows out bytes = unless (first rows) (λ n. wroteAs (Written.Refused n) out) (wroteAs (Written.Bytes (length bytes)) (onto out bytes))
 
--- write: the first row that applies, else the output with the file at its front
-unfoldable pub writeOf : List ℕ → ℕ → ℕ → ℕ → List ℕ → Wrote
-writeOf pic w h m out = wrote (writeRows pic w h m (length out)) out (fileOf pic w h m)
+-- of the file that is to be written
+unfoldable pub writtenOf : List ℕ → ℕ → ℕ → ℕ → List ℕ → List ℕ → Wrote
+writtenOf pic w h m file out = wrote (writtenRows pic w h m file (length out)) out file
+
+-- write: of the raw file
+abbrev pub writeOf : List ℕ → ℕ → ℕ → ℕ → List ℕ → Wrote
+writeOf pic w h m out = writtenOf pic w h m (fileOf pic w h m) out

@@ -3,7 +3,7 @@ ghost use mathlib.Core.Path.{_≡_};
 ghost use lib.ListN.{length};
 ghost use Rattle.lists.specs.Lists.{onto};
 ghost use Rattle.refuse.specs.Refuse.{first};
-ghost use Rattle.pgm_write.specs.Write.{fileOf, writeRows, WriteAsks, wroteAs, writeOf};
+ghost use Rattle.pgm_write.specs.Write.{fileOf, pictureRows, writeRows, WriteAsks, wroteAs, writeOf};
 
 // How many bytes were written, or the refusal.
 pub enum Written {
@@ -11,9 +11,9 @@ pub enum Written {
     Refused(u32),
 }
 
-// The first refusal of write, else 0.
-fn write_refusal(picture: &[u16], width: u32, height: u32, maxval: u32, room: usize) -> u32
-    ensures { λ r. ⌜ r ≡ first (writeRows (now (picture .entry)) width height maxval room) ⌝ }
+// The first refusal of a picture that is to be written, whatever its file's form, else 0.
+pub fn picture_refusal(picture: &[u16], width: u32, height: u32, maxval: u32) -> u32
+    ensures { λ r. ⌜ r ≡ first (pictureRows (now (picture .entry)) width height maxval) ⌝ }
 {
     let limit = raster::limit_refusal(width, height, maxval);
     if limit != 0 {
@@ -25,6 +25,17 @@ fn write_refusal(picture: &[u16], width: u32, height: u32, maxval: u32, room: us
     if !samples::greys_none_above(picture, maxval) {
         return 26;
     }
+    0
+}
+
+// The first refusal of write, else 0.
+fn write_refusal(picture: &[u16], width: u32, height: u32, maxval: u32, room: usize) -> u32
+    ensures { λ r. ⌜ r ≡ first (writeRows (now (picture .entry)) width height maxval room) ⌝ }
+{
+    let refusal = picture_refusal(picture, width, height, maxval);
+    if refusal != 0 {
+        return refusal;
+    }
     let header = header::header_length(width, height, maxval);
     if room < header + raster::raster_size(width, height, maxval) {
         return 27;
@@ -34,7 +45,7 @@ fn write_refusal(picture: &[u16], width: u32, height: u32, maxval: u32, room: us
 
 // Lays the header down, and the raster straight behind it; hands back how many bytes they take.
 fn lay_file(picture: &[u16], width: u32, height: u32, maxval: u32, out: &mut [u8]) -> usize
-    requires { ⌜ WriteAsks (now picture) width height maxval (length (now out)) ⌝ }
+    requires { ⌜ WriteAsks (now picture) width height maxval (fileOf (now picture) width height maxval) (length (now out)) ⌝ }
     ensures { λ r. ⌜ (now (out .exit) ≡ onto (now (out .entry)) (fileOf (now (picture .entry)) width height maxval)) × (r ≡ length (fileOf (now (picture .entry)) width height maxval)) ⌝ }
 {
     let header = header::write_header(out, width, height, maxval);

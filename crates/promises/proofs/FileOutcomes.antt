@@ -69,7 +69,7 @@ greys-says ran = ap (λ (x : Greyed). turnedSays (x .answer)) (greys-ends ran) �
 pub write-says : {c : WriteCall} → Writes c
     → writtenSays (c .answer)
     ≡ says (first (writeRows (c .pixels) (c .width) (c .height) (c .maxval) (length (c .out)))) (length (fileOf (c .pixels) (c .width) (c .height) (c .maxval)))
-write-says ran = ap (λ (x : Wrote). writtenSays (x .answer)) (write-ends ran) ∙ table-says (write-table _ _ _ _ _)
+write-says ran = ap (λ (x : Wrote). writtenSays (x .answer)) (write-ends ran) ∙ table-says (write-table _ _ _ _ _ _)
 
 -- ---- a refusal keeps lent memory
 
@@ -83,7 +83,7 @@ greys-refusal-keeps n ran q =
 pub write-refusal-keeps : {c : WriteCall} (n : ℕ) → Writes c → writtenSays (c .answer) ≡ refused n → c .out′ ≡ c .out
 write-refusal-keeps n ran q =
     let x = write-ends ran in
-    ap (λ (y : Wrote). y .out) (x ∙ table-kept (write-table _ _ _ _ _) (sym (ap (λ (y : Wrote). writtenSays (y .answer)) x) ∙ q))
+    ap (λ (y : Wrote). y .out) (x ∙ table-kept (write-table _ _ _ _ _ _) (sym (ap (λ (y : Wrote). writtenSays (y .answer)) x) ∙ q))
 
 -- ---- the raster
 
@@ -140,10 +140,10 @@ module _ {c : WriteCall} {n : ℕ} (ran : Writes c) (written : writtenSays (c .a
   laid = sym (ap (λ (x : Wrote). writtenSays (x .answer)) (write-ends ran)) ∙ written
 
   none : first (writeRows (c .pixels) (c .width) (c .height) (c .maxval) (length (c .out))) ≡ 0
-  none = written-none _ _ _ _ _ laid
+  none = written-none _ _ _ _ _ _ laid
 
   file : take n (c .out′) ≡ fileOf (c .pixels) (c .width) (c .height) (c .maxval)
-  file = ap (λ (x : Wrote). take n (x .out)) (write-ends ran) ∙ written-file _ _ _ _ (c .out) laid
+  file = ap (λ (x : Wrote). take n (x .out)) (write-ends ran) ∙ written-file _ _ _ _ _ (c .out) laid
 
   -- demand 2, "a film written and read back is the same film": read over those bytes says the film's width, height and maxval
   pub sizes-read-back : {z : SizesCall} → ReadsSizes z → z .bytes ≡ take n (c .out′) → sizesSays (z .answer) ≡ accepted (c .width, c .height, c .maxval)
@@ -189,7 +189,7 @@ module _ {c : WriteCall} {n : ℕ} {z : SizesCall} {k : RasterCall} {g : GreysCa
       ∙ ap (take (x .width * x .height)) (greys-read-back .1)
       ∙ take-onto (g .target) (c .pixels) (x .width * x .height) (rw (v .0, v .1) (file-pixels (c .pixels) (c .width) (c .height) (c .maxval) (length (c .out)) written)) in
       let e : wroteAs (x .answer) (x .out′) ≡ writeOf (c .pixels) (c .width) (c .height) (c .maxval) (x .out) = write-ends again ∙ rw (p, v .0, v .1, v .2) refl in
-      let count : length (fileOf (c .pixels) (c .width) (c .height) (c .maxval)) ≡ n = written-count _ _ _ _ (c .out) (laid (way .writes) (way .written)) in
+      let count : length (fileOf (c .pixels) (c .width) (c .height) (c .maxval)) ≡ n = written-count _ _ _ _ _ (c .out) (laid (way .writes) (way .written)) in
       let y = file-again (c .pixels) (c .width) (c .height) (c .maxval) (length (c .out)) written (x .out) (omega arith) in (
         ap (λ (a : Wrote). writtenSays (a .answer)) e ∙ y .0 ∙ ap accepted count,
         ap (λ (a : Wrote). a .out) e ∙ y .1 ∙ ap (onto (x .out)) (sym (file (way .writes) (way .written))),

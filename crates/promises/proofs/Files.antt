@@ -10,7 +10,7 @@ use lib.ListN.{length, take, drop, length-drop}
 use Rattle.lists.specs.Lists.{onto}
 use Rattle.lists.proofs.Fills.{take-onto}
 use Rattle.refuse.specs.Refuse.{first, accepted, refused, says}
-use Rattle.refuse.proofs.Walk.{none-first, front, behind}
+use Rattle.refuse.proofs.Walk.{front, behind}
 use Rattle.header.specs.declared.Head.{Head}
 use Rattle.header.specs.declared.Head.the-variants as Head
 use Rattle.header.specs.Header.{headerBytes}
@@ -23,12 +23,12 @@ use Rattle.pgm_write.specs.declared.Written.the-variants as Written
 use Rattle.raster.specs.Raster.{rasterSize, headRows, rasterRows}
 use Rattle.pgm.specs.Pgm.{judgedOf, readOf, sizesOf, rasterOf, sizesSays}
 use Rattle.pgm_greys.specs.Greys.{turnRows, turnedSays, Greyed, greyedAs, turnedOf}
-use Rattle.pgm_write.specs.Write.{writeRows, WriteAsks, writtenSays, fileOf, Wrote, wroteAs, writeOf}
-use Rattle.raster.proofs.Tables.{limit-numbered, within-none}
+use Rattle.pgm_write.specs.Write.{writtenRows, writeRows, Film, writtenSays, fileOf, Wrote, wroteAs, writtenOf, writeOf}
+use Rattle.raster.proofs.Tables.{limit-numbered}
 use Rattle.pgm.proofs.Tables.{judged-limit, judged-raster, judged-found, read-judged, read-refused, read-header}
 use Rattle.pgm.proofs.Laws.{read-asks}
 use Rattle.pgm_greys.proofs.Parts.{greys-refused, greys-done, turned-part}
-use Rattle.pgm_write.proofs.Tables.{write-asks, write-fits, length-file}
+use Rattle.pgm_write.proofs.Tables.{write-asks, asks-none}
 use Rattle.pgm_write.proofs.Parts.{write-refused, write-done}
 use Rattle.pgm_write.proofs.Laws.{written-read, written-sizes, written-greys}
 use Rattle.promises.proofs.Accepted.{refused-says, ByTable, table-accepted, table-done, table-says}
@@ -112,32 +112,38 @@ module _ (s : List ℕ) (start w h m : ℕ) (target : List ℕ) where
 
 -- ---- write
 
-module _ (pic : List ℕ) (w h m : ℕ) (out : List ℕ) where
-  -- write goes by its own
-  pub write-table : ByTable (λ (x : Wrote). writtenSays (x .answer)) (first (writeRows pic w h m (length out))) (length (fileOf pic w h m))
-      (wroteAs (Written.Bytes (length (fileOf pic w h m))) (onto out (fileOf pic w h m))) (λ k. wroteAs (Written.Refused k) out) (writeOf pic w h m out)
+module _ (pic : List ℕ) (w h m : ℕ) (file out : List ℕ) where
+  -- write goes by its own, whatever its file's form
+  pub write-table : ByTable (λ (x : Wrote). writtenSays (x .answer)) (first (writtenRows pic w h m file (length out))) (length file)
+      (wroteAs (Written.Bytes (length file)) (onto out file)) (λ k. wroteAs (Written.Refused k) out) (writtenOf pic w h m file out)
   unfolding writtenSays
   write-table =
       record {
-        when-none = λ z. sym (write-done pic w h m out refl z refl refl);
-        when-some = λ z. sym (write-refused pic w h m out refl z);
+        when-none = λ z. sym (write-done pic w h m file out refl z refl refl);
+        when-some = λ z. sym (write-refused pic w h m file out refl z);
         says-done = refl;
         says-lent = λ k. refl;
       }
 
   -- a film that write accepted
-  module _ {n : ℕ} (written : writtenSays (writeOf pic w h m out .answer) ≡ accepted n) where
+  module _ {n : ℕ} (written : writtenSays (writtenOf pic w h m file out .answer) ≡ accepted n) where
     -- meets none of them
-    pub written-none : first (writeRows pic w h m (length out)) ≡ 0
+    pub written-none : first (writtenRows pic w h m file (length out)) ≡ 0
     written-none = table-accepted write-table written .0
 
     -- the count is the file's
-    pub written-count : length (fileOf pic w h m) ≡ n
+    pub written-count : length file ≡ n
     written-count = table-accepted write-table written .1
 
     -- and the bytes that it counts are the file
-    pub written-file : take n (writeOf pic w h m out .out) ≡ fileOf pic w h m
-    written-file = ap (λ (x : Wrote). take n (x .out)) (table-done write-table written) ∙ take-onto out (fileOf pic w h m) n written-count
+    pub written-file : take n (writtenOf pic w h m file out .out) ≡ file
+    written-file = ap (λ (x : Wrote). take n (x .out)) (table-done write-table written) ∙ take-onto out file n written-count
+
+  -- a film is accepted in any output with room for its file
+  pub film-written : Film pic w h m → length file ≤ length out → (writtenSays (writtenOf pic w h m file out .answer) ≡ accepted (length file)) × (writtenOf pic w h m file out .out ≡ onto out file)
+  film-written film l =
+      let none = asks-none pic w h m file (length out) (record { film = film; fitting = l }) in
+      (table-says write-table ∙ ap (λ n. says n (length file)) none, ap (λ (x : Wrote). x .out) (write-table .when-none none))
 
 -- ---- a file that write made
 
@@ -162,16 +168,8 @@ module _ (pic : List ℕ) (w h m room : ℕ) (ok : first (writeRows pic w h m ro
   -- the same picture is accepted in any output with room for the file
   pub file-again : (out : List ℕ) → length (fileOf pic w h m) ≤ length out
       → (writtenSays (writeOf pic w h m out .answer) ≡ accepted (length (fileOf pic w h m))) × (writeOf pic w h m out .out ≡ onto out (fileOf pic w h m))
-  file-again out l = (table-says (write-table pic w h m out) ∙ ap (λ n. says n (length (fileOf pic w h m))) none, ap (λ (x : Wrote). x .out) (write-table pic w h m out .when-none none))
-    where
-      asks : WriteAsks pic w h m room
-      asks = write-asks pic w h m room ok
-
-      none : first (writeRows pic w h m (length out)) ≡ 0
-      none =
-          sym (write-fits pic w h m (length out) refl (none-first (headRows w h m) (within-none w h m (asks .within))) (asks .whole) refl (rw (asks .bounded) refl) refl refl
-          (omega (arith, length-file pic w h m (asks .whole), l)))
+  file-again out l = film-written pic w h m (fileOf pic w h m) out (write-asks pic w h m (fileOf pic w h m) room ok .film) l
 
   -- its picture has its size
   pub file-pixels : length pic ≡ w * h
-  file-pixels = write-asks pic w h m room ok .whole
+  file-pixels = write-asks pic w h m (fileOf pic w h m) room ok .film .whole

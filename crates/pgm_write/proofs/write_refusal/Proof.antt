@@ -1,58 +1,57 @@
--- The rows of write. Assumes nothing.
+-- The rows of write: those of the picture, then the room. Assumes nothing.
 use mathlib.Core.Path.{sym, _∙_}
 use native.Mathlib.Omega.{arith}
 use Rattle.header.proofs.Laws.{header-bytes-small}
-use Rattle.raster.proofs.Tables.{head-within, count-small, raster-small}
-use Rattle.pgm_write.proofs.Tables.{write-limit, write-size, write-above, write-short, write-fits}
+use Rattle.raster.proofs.Tables.{raster-small}
+use Rattle.pgm_write.proofs.Tables.{length-file, picture-film, written-front, written-short, written-fits}
 use borrow.Author.Needs.{needs}
 use Rattle.pgm_write.proofs.write_refusal.Statement.{statement}
 use Rattle.pgm_write.proofs.write_refusal.Tie as tie
 
-limit-refusal-requires : tie.Need-limit-refusal-requires
-limit-refusal-requires c κs = search needs
+picture-refusal-requires : tie.Need-picture-refusal-requires
+picture-refusal-requires c κs = search needs
 
 returns : tie.Need-returns
-returns c = write-limit _ _ _ _ _ (c .before .limit-refusal .ensures) (c .if1 .taken)
-
-mul-if2 : tie.Need-mul-if2
-mul-if2 c = let t = head-within _ _ _ (sym (c .before .limit-refusal .ensures) ∙ c .if1 .left) in omega (arith, count-small (c .before .before .before .args .width) (c .before .before .before .args .height) (t .widest) (t .highest))
-
-returns-2 : tie.Need-returns-2
-returns-2 c = write-size _ _ _ _ _ (c .before .before .limit-refusal .ensures) (c .before .if1 .left) (c .if2 .taken)
-
-greys-none-above-requires : tie.Need-greys-none-above-requires
-greys-none-above-requires c κs = search needs
-
-returns-3 : tie.Need-returns-3
-returns-3 c = write-above _ _ _ _ _ (c .before .before .before .before .limit-refusal .ensures) (c .before .before .before .if1 .left) (c .before .before .if2 .left) (c .before .greys-none-above .ensures) (c .if3 .taken)
+returns c = written-front _ _ _ _ _ _ (c .before .picture-refusal .ensures) (c .if1 .taken)
 
 header-length-requires : tie.Need-header-length-requires
-header-length-requires c κs = let t = head-within _ _ _ (sym (c .before .before .before .before .limit-refusal .ensures) ∙ c .before .before .before .if1 .left) in (omega (arith, t .widest), omega (arith, t .highest), omega (arith, t .brightest))
+header-length-requires c κs =
+    let t = picture-film _ _ _ _ (sym (c .before .picture-refusal .ensures) ∙ c .if1 .left) .within in
+    (omega (arith, t .widest), omega (arith, t .highest), omega (arith, t .brightest))
 
 raster-size-requires : tie.Need-raster-size-requires
-raster-size-requires c κs = let t = head-within _ _ _ (sym (c .before .before .before .before .before .limit-refusal .ensures) ∙ c .before .before .before .before .if1 .left) in (t .widest, t .highest)
+raster-size-requires c κs =
+    let t = picture-film _ _ _ _ (sym (c .before .before .picture-refusal .ensures) ∙ c .before .if1 .left) .within in
+    (t .widest, t .highest)
 
-add-if4 : tie.Need-add-if4
-add-if4 c = let t = head-within _ _ _ (sym (c .before .before .before .before .before .before .limit-refusal .ensures) ∙ c .before .before .before .before .before .if1 .left) in omega (arith, header-bytes-small (c .before .before .before .before .before .before .before .before .args .width) (c .before .before .before .before .before .before .before .before .args .height) (c .before .before .before .before .before .before .before .before .args .maxval), raster-small (c .before .before .before .before .before .before .before .before .args .width) (c .before .before .before .before .before .before .before .before .args .height) (c .before .before .before .before .before .before .before .before .args .maxval) (t .widest) (t .highest))
+add-if2 : tie.Need-add-if2
+add-if2 c =
+    let t = picture-film _ _ _ _ (sym (c .before .before .before .picture-refusal .ensures) ∙ c .before .before .if1 .left) .within in
+    let a = c .before .before .before .before .before .args in
+    omega (arith, c .before .header-length .ensures, c .raster-size .ensures, header-bytes-small (a .width) (a .height) (a .maxval), raster-small (a .width) (a .height) (a .maxval) (t .widest) (t .highest))
 
-returns-4 : tie.Need-returns-4
-returns-4 c = write-short _ _ _ _ _ (c .before .before .before .before .before .before .before .limit-refusal .ensures) (c .before .before .before .before .before .before .if1 .left) (c .before .before .before .before .before .if2 .left) (c .before .before .before .before .greys-none-above .ensures) (c .before .before .before .if3 .left) (c .before .before .header-length .ensures) (c .before .raster-size .ensures) (c .if4 .taken)
+returns-2 : tie.Need-returns-2
+returns-2 c =
+    let e = c .before .before .before .before .picture-refusal .ensures in
+    let z = c .before .before .before .if1 .left in
+    let a = c .before .before .before .before .before .before .args in
+    written-short _ _ _ _ _ _ e z (omega (arith, c .if2 .taken, c .before .before .header-length .ensures, c .before .raster-size .ensures, length-file (a .picture .now) (a .width) (a .height) (a .maxval) (picture-film _ _ _ _ (sym e ∙ z) .whole)))
 
-returns-5 : tie.Need-returns-5
-returns-5 c = write-fits _ _ _ _ _ (c .before .before .before .before .before .before .before .limit-refusal .ensures) (c .before .before .before .before .before .before .if1 .left) (c .before .before .before .before .before .if2 .left) (c .before .before .before .before .greys-none-above .ensures) (c .before .before .before .if3 .left) (c .before .before .header-length .ensures) (c .before .raster-size .ensures) (c .if4 .left)
+returns-3 : tie.Need-returns-3
+returns-3 c =
+    let e = c .before .before .before .before .picture-refusal .ensures in
+    let z = c .before .before .before .if1 .left in
+    let a = c .before .before .before .before .before .before .args in
+    written-fits _ _ _ _ _ _ e z (omega (arith, c .if2 .left, c .before .before .header-length .ensures, c .before .raster-size .ensures, length-file (a .picture .now) (a .width) (a .height) (a .maxval) (picture-film _ _ _ _ (sym e ∙ z) .whole)))
 
 pub write-refusal-spec : {M : Type 1} → statement M
 write-refusal-spec =
     tie.close
     (tie.spec
-    limit-refusal-requires
+    picture-refusal-requires
     returns
-    mul-if2
-    returns-2
-    greys-none-above-requires
-    returns-3
     header-length-requires
     raster-size-requires
-    add-if4
-    returns-4
-    returns-5)
+    add-if2
+    returns-2
+    returns-3)
