@@ -133,8 +133,8 @@ module _ {bs : List ℕ} {w h m : ℕ} {rest : List ℕ} (g : Header bs w h m re
       ∙ (behind-read _ (number-reads bs _ _ (g .maxvalIs) from-maxval (white-not-digit _ (g .lastWhite)))
       ∙ (end-found bs w h m _ (ap isWhite (byte-at bs _ from-last) ∙ g .lastWhite) ∙ ap (Found w h m) place))))
 
-  -- it takes some of the bytes
-  pub header-longer : length rest < length bs
+  -- it takes more than two of the bytes
+  pub header-longer : length rest + 2 < length bs
   header-longer = omega (arith, place)
 
   -- and what is left stands behind it
@@ -162,7 +162,7 @@ front : (s : List ℕ) (i b : ℕ) {bs : List ℕ} → drop i s ≡ b ∷ bs →
 front s i b q = q ∙ ap (λ u. b ∷ u) (sym (drop-behind s i (b ∷ []) q))
 
 -- what is passed over is white space
-white-taken : (s bs : List ℕ) (i : ℕ) → drop i s ≡ bs → (ws : List ℕ) × Run isWhite s i ws (whiteOf bs i)
+pub white-taken : (s bs : List ℕ) (i : ℕ) → drop i s ≡ bs → (ws : List ℕ) × Run isWhite s i ws (whiteOf bs i)
 unfolding whiteOf
 white-taken s [] i q = ([], run-none isWhite s refl)
 white-taken s (b ∷ bs) i q = go (isWhite b) refl (white-taken s bs (i + 1) (drop-behind s i (b ∷ []) q))
@@ -179,10 +179,10 @@ white-some s i h =
     (getD s i 0 ∷ r .0, rw (white-step s i h) (run-more isWhite s i (getD s i 0) (drop-byte s i (white-within s i h)) h (r .1)), omega arith)
 
 -- at most k digits ds behind a number v, which make it n
-record Digits (s : List ℕ) (k v i : ℕ) (ds : List ℕ) (n e : ℕ) : Type 0 where
-  run : Run isDigit s i ds e
-  few : length ds ≤ k
-  value : valueOf v ds ≡ n
+pub record Digits (s : List ℕ) (k v i : ℕ) (ds : List ℕ) (n e : ℕ) : Type 0 where
+  pub run : Run isDigit s i ds e
+  pub few : length ds ≤ k
+  pub value : valueOf v ds ≡ n
 
 digits-none : (s : List ℕ) (k v i n e : ℕ) → Read v i ≡ Read n e → Digits s k v i [] n e
 unfolding valueOf
@@ -196,7 +196,7 @@ digits-more s k v i n b {ds} q h d =
     record { run = run-more isDigit s i b q h (d .run); few = omega arith; value = d .value }
 
 -- what is read is digits
-digits-taken : (s : List ℕ) (k : ℕ) (bs : List ℕ) (v i n e : ℕ) → drop i s ≡ bs → digitsOf k bs v i ≡ Read n e
+pub digits-taken : (s : List ℕ) (k : ℕ) (bs : List ℕ) (v i n e : ℕ) → drop i s ≡ bs → digitsOf k bs v i ≡ Read n e
     → (ds : List ℕ) × Digits s k v i ds n e
 unfolding digitsOf
 digits-taken s zero bs v i n e q r = ([], digits-none s zero v i n e r)

@@ -1,0 +1,5 @@
+pub mod Samples
+pub mod Lines
+pub mod Heads
+pub mod Grammar
+pub mod Trips

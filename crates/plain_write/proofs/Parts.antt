@@ -1,0 +1,36 @@
+-- How many bytes a plain file has, and the parts of the output that the writer lends on.
+-- Assumes nothing.
+use Prim.Native.Nat.{ℕ, _+_, _-_, _≤_}
+use mathlib.Core.List.{List, _++_}
+use mathlib.Core.Path.{_≡_, sym, ap, _∙_}
+use native.Mathlib.Omega.{arith}
+use lib.ListN.{length, take, drop, length-drop, length-append}
+use Rattle.lists.specs.Lists.{onto}
+use Rattle.lists.proofs.Overs.{onto-tail}
+use Rattle.header.specs.Header.{headerBytes}
+use Rattle.raster.proofs.Tables.{part-tail}
+use Rattle.pgm_write.specs.Write.{WriteAsks}
+use Rattle.plain.specs.Plain.{plainHeadBytes, linesOf}
+use Rattle.plain.proofs.Heads.{length-head}
+use Rattle.plain_write.specs.PlainWrite.{plainFileOf}
+
+-- how many bytes a file has
+pub length-file : (pic : List ℕ) (w h m : ℕ) → length (plainFileOf pic w h m) ≡ length (headerBytes w h m) + length (linesOf pic)
+unfolding plainFileOf
+length-file pic w h m = length-append (plainHeadBytes w h m) (linesOf pic) ∙ ap (λ k. k + length (linesOf pic)) (length-head w h m)
+
+-- the header at the front, and the lines written in the part behind it
+pub file-laid : (out pic : List ℕ) (w h m : ℕ) {e p : List ℕ} {at : ℕ} → e ≡ onto out (plainHeadBytes w h m) → at ≡ length (headerBytes w h m)
+    → p ≡ onto (take (length e - at) (drop at e)) (linesOf pic)
+    → take at e ++ (p ++ drop (length e - at) (drop at e)) ≡ onto out (plainFileOf pic w h m)
+unfolding plainFileOf
+file-laid out pic w h m {e} {p} {at} q n r = onto-tail out (plainHeadBytes w h m) (linesOf pic) at q (n ∙ sym (length-head w h m)) (rw (part-tail e at) at r)
+
+-- the output has room for the header and the lines
+pub file-fits : {pic : List ℕ} {w h m room : ℕ} → WriteAsks pic w h m (plainFileOf pic w h m) room → length (headerBytes w h m) + length (linesOf pic) ≤ room
+file-fits {pic} {w} {h} {m} t = omega (arith, t .fitting, length-file pic w h m)
+
+-- the part behind the header has room for the lines
+pub file-room : (e pic : List ℕ) (w h m : ℕ) {at room : ℕ} → WriteAsks pic w h m (plainFileOf pic w h m) room → length e ≡ room → at ≡ length (headerBytes w h m)
+    → length (linesOf pic) ≤ length (take (length e - at) (drop at e))
+file-room e pic w h m {at} {room} t q n = rw (part-tail e at, length-drop) (omega (arith, file-fits t))

@@ -1,0 +1,44 @@
+// Plain PGM: write.
+ghost use mathlib.Core.Path.{_≡_};
+ghost use lib.ListN.{length};
+ghost use Rattle.lists.specs.Lists.{onto};
+ghost use Rattle.refuse.specs.Refuse.{first};
+ghost use Rattle.pgm_write.specs.Write.{WriteAsks, wroteAs};
+ghost use Rattle.plain_write.specs.PlainWrite.{plainFileOf, plainWriteRows, plainWriteOf};
+use pgm_write::Written;
+
+// The first refusal of write, else 0.
+fn write_refusal(picture: &[u16], width: u32, height: u32, maxval: u32, room: usize) -> u32
+    ensures { λ r. ⌜ r ≡ first (plainWriteRows (now (picture .entry)) width height maxval room) ⌝ }
+{
+    let refusal = pgm_write::picture_refusal(picture, width, height, maxval);
+    if refusal != 0 {
+        return refusal;
+    }
+    let header = header::header_length(width, height, maxval);
+    if room < header + plain::lines_length(picture) {
+        return 27;
+    }
+    0
+}
+
+// Lays the header down, and the samples straight behind it; hands back how many bytes they take.
+fn lay_file(picture: &[u16], width: u32, height: u32, maxval: u32, out: &mut [u8]) -> usize
+    requires { ⌜ WriteAsks (now picture) width height maxval (plainFileOf (now picture) width height maxval) (length (now out)) ⌝ }
+    ensures { λ r. ⌜ (now (out .exit) ≡ onto (now (out .entry)) (plainFileOf (now (picture .entry)) width height maxval)) × (r ≡ length (plainFileOf (now (picture .entry)) width height maxval)) ⌝ }
+{
+    let header = plain::lay_plain_head(out, width, height, maxval);
+    plain::lay_lines(picture, &mut out[header..]);
+    header + plain::lines_length(picture)
+}
+
+// Writes a picture as a plain PGM file at the front of out; bytes behind it keep their contents.
+pub fn write_plain(picture: &[u16], width: u32, height: u32, maxval: u32, out: &mut [u8]) -> Written
+    ensures { λ r. ⌜ wroteAs r (now (out .exit)) ≡ plainWriteOf (now (picture .entry)) width height maxval (now (out .entry)) ⌝ }
+{
+    let refusal = write_refusal(picture, width, height, maxval, out.len());
+    if refusal != 0 {
+        return Written::Refused(refusal);
+    }
+    Written::Bytes(lay_file(picture, width, height, maxval, out))
+}
