@@ -1,0 +1,1 @@
+// No code: the promises of the calls on plain files, proved over their contracts.
