@@ -6,7 +6,7 @@ for python in python3 /usr/bin/python3; do
     [ -z "$scan_python" ] || continue
     ! "$python" -c 'import numpy, pydicom, tifffile, PIL' 2>/dev/null || scan_python=$python
 done
-mkdir scans imported
+mkdir -p scans imported
 [ -z "$scan_python" ] || "$scan_python" -B "$top/station/faults/scans.py" film.pgm scans || scan_python=''
 
 no_parts() { for f in "$1"/.import-*; do [ ! -e "$f" ] || return 1; done; } # FOLDER
