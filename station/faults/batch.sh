@@ -140,6 +140,7 @@ rm -rf batch_out
 "$tz" enhance --into batch_out --jobs 2 big.pgm batch/in/b.pgm batch/in/a.PGM >wrote 2>said &
 child=$!
 victim=''
+while [ ! -d batch_out ] && kill -0 "$child" 2>/dev/null; do :; done # before that its runner has processes of its own
 while [ -z "$victim" ] && kill -0 "$child" 2>/dev/null; do victim=$(cut -d ' ' -f 1 "/proc/$child/task/$child/children" 2>/dev/null); done
 [ -z "$victim" ] || kill -s KILL "$victim" 2>/dev/null
 wait "$child"
