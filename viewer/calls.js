@@ -139,8 +139,8 @@ function filmCalls(exports, room, cells) {
           axes: Object.fromEntries(Object.keys(AXES).map(name => [name, axis(name).slice()]))},
         footer: {limit: view.getUint32(CELL.limit, true), asked: view.getFloat32(CELL.asked, true),
           used: view.getFloat64(CELL.used, true)},
-        // of each tile, tiles row by row, two numbers: no more than 2^45, so that JavaScript's numbers hold them
-        looks: Array.from({length: 2 * s.across * s.down}, (_, i) => Number(view.getBigUint64(CELL.looks + 8 * i, true))),
+        // of each tile, tiles row by row, two numbers: no more than 2^45, so that JavaScript's numbers hold them; a refused grid has none
+        looks: Array.from({length: refusal ? 0 : 2 * s.across * s.down}, (_, i) => Number(view.getBigUint64(CELL.looks + 8 * i, true))),
       };
     },
     // The settings are those wanted, the record the one that map left: the library compares them (15).
