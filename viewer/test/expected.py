@@ -34,11 +34,11 @@ class Film:
             return head + bytes(self.greys)
         return head + struct.pack(">%dH" % len(self.greys), *self.greys)
 
-    def usual(self):
-        """The settings that a film starts with: 8 by 8 tiles, or as many as it has pixels, and the bins that hold factor 3."""
+    def usual(self, factor=3.0):
+        """The settings that a film starts with: 8 by 8 tiles, or as many as it has pixels, and the bins that hold the factor."""
         across, down = min(8, self.width), min(8, self.height)
-        chosen = bins.chosen(self.width, self.height, across, down, 0, self.maxval, 3.0)
-        return settings(across, down, chosen, 0, self.maxval, 3.0)
+        chosen = bins.chosen(self.width, self.height, across, down, 0, self.maxval, factor)
+        return settings(across, down, chosen, 0, self.maxval, factor)
 
     def tile_at(self, x, y, asked):
         """The number and the rectangle of the tile in which a pixel lies."""

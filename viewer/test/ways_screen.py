@@ -234,7 +234,7 @@ def two_films(person, films):
     person.choose(first)
     person.script("document.getElementById('stage').focus()")
     person.keys("4")
-    asked = two.usual()._replace(clip=expected.settings(8, 8, 2, 0, 1, 6.0).clip)
+    asked = two.usual(6.0)
     for key in ("0", "+", "h", "q"):
         person.keys(key)
         zoom, turn = ("2-1" if key != "0" else "1-1"), {"h": (True, 0), "q": (True, 1)}.get(key, (False, 0))
