@@ -3,7 +3,7 @@
 use Prim.Native.Nat.{ℕ, _+_, _-_, _*_, _≤_, _<_}
 use mathlib.Core.List.{List, [], _++_, map}
 use mathlib.Core.Path.{_≡_, refl, sym, ap, subst, _∙_}
-use lib.ListN.{length, take, drop, getD, replicate, getD-replicate, length-map, length-take, length-drop, take-append-drop}
+use lib.ListN.{length, take, drop, getD, replicate, getD-replicate, length-replicate, length-map, length-take, length-drop, take-append-drop}
 use lib.Seq.{getD-take, drop-drop, take-all}
 use native.Mathlib.Omega.{arith}
 use Rattle.lists.specs.Lists.{joined, times, filled, tab}
@@ -187,23 +187,23 @@ module _ {pic : List ℕ} {stride : ℕ} {r : Rect} {lo hi n factor : ℕ} {a₀
 -- ---- the whole rectangle
 
 -- three counts that are clear add nothing
-four-clear : {n : ℕ} (a : List ℕ) (k : ℕ) → k < n → n ≤ 256 → fourAt a (replicate 256 0) (replicate 256 0) (replicate 256 0) k ≡ getD a k 0
-four-clear a k l few = omega (arith, getD-replicate {A = ℕ} 256 k 0 0 (omega arith))
+four-clear : {n m : ℕ} (a : List ℕ) (k : ℕ) → k < n → n ≤ m → fourAt a (replicate m 0) (replicate m 0) (replicate m 0) k ≡ getD a k 0
+four-clear {m = m} a k l few = omega (arith, getD-replicate {A = ℕ} m k 0 0 (omega arith))
 
-module _ {pic : List ℕ} {stride : ℕ} {r : Rect} {lo hi n factor : ℕ} {a₀ : List ℕ} (adds : AddAsks pic stride r lo hi n factor a₀) (few : n ≤ 256) where
+module _ {pic : List ℕ} {stride : ℕ} {r : Rect} {lo hi n factor m : ℕ} {a₀ : List ℕ} (adds : AddAsks pic stride r lo hi n factor a₀) (few : n ≤ m) where
   -- what the rows ask
-  pub ways-asks : RowsAsks pic stride r lo hi n factor a₀ (replicate 256 0) (replicate 256 0) (replicate 256 0)
+  pub ways-asks : RowsAsks pic stride r lo hi n factor a₀ (replicate m 0) (replicate m 0) (replicate m 0)
   ways-asks =
       record {
         asks = adds .asks;
         by = adds .by;
-        roomb = few;
-        roomc = few;
-        roomd = few;
+        roomb = rw (length-replicate {A = ℕ} m 0) few;
+        roomc = rw (length-replicate {A = ℕ} m 0) few;
+        roomd = rw (length-replicate {A = ℕ} m 0) few;
         fits = λ k l. omega (arith, four-clear a₀ k l few, adds .fits k l);
       }
 
-  module _ {a b c d : List ℕ} (so : FourAdded (greysOf pic stride r) lo hi n a₀ (replicate 256 0) (replicate 256 0) (replicate 256 0) a b c d) where
+  module _ {a b c d : List ℕ} (so : FourAdded (greysOf pic stride r) lo hi n a₀ (replicate m 0) (replicate m 0) (replicate m 0) a b c d) where
     -- what adding up asks
     pub ways-fit : (n ≤ length a) × (n ≤ length b) × (n ≤ length c) × (n ≤ length d) × ((k : ℕ) → k < n → fourAt a b c d k < 4294967296)
     ways-fit = (

@@ -182,6 +182,72 @@ fn count_four_ways(
     add_up(counts, &b, &c, &d, bins as usize);
 }
 
+// The same for at most 1024 bins.
+fn count_four_wide(
+    picture: &[u16],
+    stride: usize,
+    rect: Rect,
+    min: u32,
+    max: u32,
+    bins: u32,
+    factor: u32,
+    counts: &mut [u32],
+)
+    requires { ⌜ AddAsks (now picture) stride rect min max bins factor (now counts) × (bins ≤ 1024) ⌝ }
+    ensures { λ _. ⌜ now (counts .exit) ≡ addedOf min max bins (now (counts .entry)) (greysOf (now (picture .entry)) stride rect) ⌝ }
+{
+    let mut b = [0u32; 1024];
+    let mut c = [0u32; 1024];
+    let mut d = [0u32; 1024];
+    count_rows(
+        picture,
+        stride,
+        rect,
+        min,
+        max,
+        bins,
+        factor,
+        counts,
+        &mut b,
+        &mut c,
+        &mut d,
+    );
+    add_up(counts, &b, &c, &d, bins as usize);
+}
+
+// The same for any number of bins. The larger the three counts, the longer they take to clear: so there are three sizes.
+fn count_four_widest(
+    picture: &[u16],
+    stride: usize,
+    rect: Rect,
+    min: u32,
+    max: u32,
+    bins: u32,
+    factor: u32,
+    counts: &mut [u32],
+)
+    requires { ⌜ AddAsks (now picture) stride rect min max bins factor (now counts) × (bins ≤ 4096) ⌝ }
+    ensures { λ _. ⌜ now (counts .exit) ≡ addedOf min max bins (now (counts .entry)) (greysOf (now (picture .entry)) stride rect) ⌝ }
+{
+    let mut b = [0u32; 4096];
+    let mut c = [0u32; 4096];
+    let mut d = [0u32; 4096];
+    count_rows(
+        picture,
+        stride,
+        rect,
+        min,
+        max,
+        bins,
+        factor,
+        counts,
+        &mut b,
+        &mut c,
+        &mut d,
+    );
+    add_up(counts, &b, &c, &d, bins as usize);
+}
+
 // The counts of a rectangle of a picture `stride` pixels wide, in the first `bins` entries; entries behind keep their contents.
 pub fn count(
     picture: &[u16],
@@ -197,9 +263,17 @@ pub fn count(
 {
     lists::clear(counts, bins as usize);
     let factor = binning::bin_factor(min, max, bins);
-    if 256 < bins {
+    if bins <= 256 {
+        count_four_ways(picture, stride, rect, min, max, bins, factor, counts);
+        return;
+    }
+    if rect.width * rect.height < (bins as usize) {
         count_plain(picture, stride, rect, min, max, bins, factor, counts);
         return;
     }
-    count_four_ways(picture, stride, rect, min, max, bins, factor, counts);
+    if bins <= 1024 {
+        count_four_wide(picture, stride, rect, min, max, bins, factor, counts);
+        return;
+    }
+    count_four_widest(picture, stride, rect, min, max, bins, factor, counts);
 }

@@ -6,12 +6,13 @@ use mathlib.Core.List.{List}
 use mathlib.Core.Path.{_≡_, refl, sym, ap, _∙_}
 use lib.ListN.{length, take, getD}
 use lib.Seq.{take-length}
-use native.Mathlib.Nat.{mul-le-mul-right, mul-div-right, le-div-iff-mul-le, div-lt-iff-lt-mul, div-mul-le-self, lt-div-mul-add, div-le-of-le-mul, le-trans, add-mul}
+use native.Mathlib.Nat.{mul-le-mul, mul-le-mul-right, mul-add, mul-one, mul-comm, mul-div-right, le-div-iff-mul-le, div-lt-iff-lt-mul, div-mul-le-self, lt-div-mul-add, div-le-of-le-mul, le-trans, add-mul}
 use native.Mathlib.Omega.{arith}
 use Rattle.lists.specs.Lists.{total, all}
 use Rattle.lists.proofs.Tabs.{length-tab, getD-tab}
 use Rattle.lists.proofs.Tallies.{total-next, total-next-le, total-take-le, total-take-mono}
 use Rattle.lists.proofs.Alls.{all-tab}
+use Rattle.lists.proofs.Inverses.{ratio, by-ratio}
 use Rattle.scan.specs.Scan.{within}
 use Rattle.tile.specs.Tile.{mappedOf, mappingOf}
 use Rattle.scan.proofs.Spans.{within-both}
@@ -35,6 +36,21 @@ div-add-up a d n p =
     let less : a + d < (q + u + 1) * n = omega arith in
     let small : (a + d) / n < q + u + 1 = div-lt-iff-lt-mul {x = a + d} {y = q + u + 1} p .1 less in
     omega arith
+
+-- ---- a factor in place of the division
+
+-- a part s of n by the factor that stands for r / n
+pub scale-part : (s n r : ℕ) → 0 < n → s ≤ n → n ≤ 4194304 → s * ratio 35184372088832 r n / 35184372088832 ≡ s * r / n
+scale-part s n r p h m = by-ratio 35184372088832 s r n p (omega (arith, mul-le-mul {n₂ = 4194304} {m₂ = 4194304} (le-trans h m) m))
+
+-- and its product stays in 64 bits
+pub scale-room : (s n r : ℕ) → s ≤ n → n ≤ 4194304 → r ≤ 4095 → s * ratio 35184372088832 r n ≤ 144080003707961344
+scale-room s n r h m k =
+    let q : ℕ = r * 35184372088832 / n in
+    let e : s * (q + 1) ≡ s * q + s * 1 = mul-add s q 1 in
+    let a : s * q ≤ n * q = mul-le-mul-right q h in
+    let b : q * n ≤ r * 35184372088832 = div-mul-le-self (r * 35184372088832) n in
+    omega (arith, mul-comm n q, mul-one s)
 
 -- ---- one mapped value
 

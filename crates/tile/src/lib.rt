@@ -8,17 +8,18 @@ use clip::Spent;
 use limit::Clip;
 use tally::Rect;
 
-// The mapping of counts: each bin's grey by the running sum of the counts up to it.
+// The mapping of counts: each bin's grey by the running sum of the counts up to it. The range over the pixels is one factor for all bins, so that no sum is divided: a product and a division by 2^45, which is a shift.
 pub fn map(counts: &[u32], pixels: u32, min: u32, max: u32, out: &mut [u16])
     requires { ⌜ MapAsks (now counts) pixels min max (length (now out)) ⌝ }
     ensures { λ _. ⌜ now (out .exit) ≡ onto (now (out .entry)) (mappingOf min max pixels (now (counts .entry))) ⌝ }
 {
     let range = (max - min) as u64;
+    let scale = range * 35184372088832 / (pixels as u64) + 1;
     let mut sum: u64 = 0;
     let mut k = 0;
     while k < counts.len() {
         let through = sum + counts[k] as u64;
-        out[k] = (min + (through * range / (pixels as u64)) as u32) as u16;
+        out[k] = (min + (through * scale / 35184372088832) as u32) as u16;
         sum = through;
         k += 1;
     }

@@ -10,6 +10,8 @@ use Rattle.tally.proofs.count.Lts as lts
 use Rattle.lists.proofs.clear.Reads as clear-reads
 use Rattle.binning.proofs.bin_factor.Reads as bin-factor-reads
 use Rattle.tally.proofs.count_four_ways.Reads as count-four-ways-reads
+use Rattle.tally.proofs.count_four_wide.Reads as count-four-wide-reads
+use Rattle.tally.proofs.count_four_widest.Reads as count-four-widest-reads
 use Rattle.tally.proofs.count_plain.Reads as count-plain-reads
 
 clear-requires : tie.Need-clear-requires
@@ -18,23 +20,44 @@ clear-requires c κs = search needs
 bin-factor-requires : tie.Need-bin-factor-requires
 bin-factor-requires c κs = search needs
 
-count-plain-requires : tie.Need-count-plain-requires
-count-plain-requires c κs = clear-asks _ (c .before .before .before .before .before .before .before .before .before .pre) (c .before .before .bin-factor .ensures) (c .before .before .before .before .before .clear .ensures)
+count-four-ways-requires : tie.Need-count-four-ways-requires
+count-four-ways-requires c κs = (clear-asks _ (c .before .before .before .before .before .before .before .before .before .pre) (c .before .before .bin-factor .ensures) (c .before .before .before .before .before .clear .ensures), omega arith)
 
 same-length : tie.Need-same-length
 same-length c = search needs
 
 returns : tie.Need-returns
-returns c = clear-counts _ _ _ _ _ (c .before .before .before .before .before .before .before .before .clear .ensures) (c .before .before .count-plain .ensures)
+returns c = clear-counts _ _ _ _ _ (c .before .before .before .before .before .before .before .before .clear .ensures) (c .before .before .count-four-ways .ensures)
 
-count-four-ways-requires : tie.Need-count-four-ways-requires
-count-four-ways-requires c κs = (clear-asks _ (c .before .before .before .before .before .before .before .before .before .pre) (c .before .before .bin-factor .ensures) (c .before .before .before .before .before .clear .ensures), omega arith)
+mul-if2 : tie.Need-mul-if2
+mul-if2 c = search needs
+
+count-plain-requires : tie.Need-count-plain-requires
+count-plain-requires c κs = clear-asks _ (c .before .before .before .before .before .before .before .before .before .before .before .pre) (c .before .before .before .before .bin-factor .ensures) (c .before .before .before .before .before .before .before .clear .ensures)
 
 same-length-2 : tie.Need-same-length-2
 same-length-2 c = search needs
 
 returns-2 : tie.Need-returns-2
-returns-2 c = clear-counts _ _ _ _ _ (c .before .before .before .before .before .before .before .before .clear .ensures) (c .before .before .count-four-ways .ensures)
+returns-2 c = clear-counts _ _ _ _ _ (c .before .before .before .before .before .before .before .before .before .before .clear .ensures) (c .before .before .count-plain .ensures)
+
+count-four-wide-requires : tie.Need-count-four-wide-requires
+count-four-wide-requires c κs = (clear-asks _ (c .before .before .before .before .before .before .before .before .before .before .before .before .pre) (c .before .before .before .before .before .bin-factor .ensures) (c .before .before .before .before .before .before .before .before .clear .ensures), omega arith)
+
+same-length-3 : tie.Need-same-length-3
+same-length-3 c = search needs
+
+returns-3 : tie.Need-returns-3
+returns-3 c = clear-counts _ _ _ _ _ (c .before .before .before .before .before .before .before .before .before .before .before .clear .ensures) (c .before .before .count-four-wide .ensures)
+
+count-four-widest-requires : tie.Need-count-four-widest-requires
+count-four-widest-requires c κs = (clear-asks _ (c .before .before .before .before .before .before .before .before .before .before .before .before .pre) (c .before .before .before .before .before .bin-factor .ensures) (c .before .before .before .before .before .before .before .before .clear .ensures), c .before .before .before .before .before .before .before .before .before .before .before .before .pre .scale .few)
+
+same-length-4 : tie.Need-same-length-4
+same-length-4 c = search needs
+
+returns-4 : tie.Need-returns-4
+returns-4 c = clear-counts _ _ _ _ _ (c .before .before .before .before .before .before .before .before .before .before .before .clear .ensures) (c .before .before .count-four-widest .ensures)
 
 pub count-spec : {M : Type 1} → statement M
 count-spec =
@@ -42,9 +65,16 @@ count-spec =
     (tie.spec
     clear-requires
     bin-factor-requires
-    count-plain-requires
+    count-four-ways-requires
     same-length
     returns
-    count-four-ways-requires
+    mul-if2
+    count-plain-requires
     same-length-2
-    returns-2)
+    returns-2
+    count-four-wide-requires
+    same-length-3
+    returns-3
+    count-four-widest-requires
+    same-length-4
+    returns-4)

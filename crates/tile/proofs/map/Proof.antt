@@ -1,7 +1,7 @@
 -- `map` lays down the mapping of the counts.
 -- Assumes nothing.
 use Prim.Native.Nat.{_≤_, _-_, _+_, _*_, _/_}
-use mathlib.Core.Path.{_≡_, refl, _∙_}
+use mathlib.Core.Path.{_≡_, refl, ap, _∙_}
 use lib.ListN.{length, length-set, getD, take}
 use native.Mathlib.Omega.{arith}
 use borrow.Author.Needs.{needs}
@@ -9,22 +9,32 @@ use Rattle.lists.specs.Lists.{filled, total}
 use Rattle.lists.proofs.Fills.{filled-none, filled-step, filled-end, filled-onto}
 use Rattle.tile.specs.Tile.{mappedOf, mappingOf}
 use Rattle.lists.proofs.Tallies.{total-next, total-take-le}
-use native.Mathlib.Nat.{mul-le-mul}
-use Rattle.tile.proofs.Mapped.{mapped-next, part-le}
+use native.Mathlib.Nat.{div-le-self}
+use Rattle.lists.proofs.Inverses.{ratio}
+use Rattle.tile.proofs.Mapped.{mapped-next, part-le, scale-part, scale-room}
 use Rattle.tile.proofs.map.Statement.{statement}
 use Rattle.tile.proofs.map.Tie as tie
 
 abbrev Inv-loop : tie.InvT-loop
-Inv-loop counts pixels min max out₀ range sum₀ k₀ out sum k = (k ≤ length counts) × (length out ≡ length out₀) × (sum ≡ total (take k counts)) × (out ≡ filled (mappedOf min max pixels counts) out₀ k)
+Inv-loop counts pixels min max out₀ range scale sum₀ k₀ out sum k = (k ≤ length counts) × (length out ≡ length out₀) × (sum ≡ total (take k counts)) × (out ≡ filled (mappedOf min max pixels counts) out₀ k)
 
 abbrev μ-loop : tie.MeasureT-loop
-μ-loop counts pixels min max out₀ range sum₀ k₀ out sum k = length counts - k
+μ-loop counts pixels min max out₀ range scale sum₀ k₀ out sum k = length counts - k
 
 sub-range : tie.Need-sub-range Inv-loop μ-loop
 sub-range c = search needs
 
 cast-range : tie.Need-cast-range Inv-loop μ-loop
 cast-range c = search needs
+
+mul-scale : tie.Need-mul-scale Inv-loop μ-loop
+mul-scale c = omega (arith, c .pre .most)
+
+div-scale : tie.Need-div-scale Inv-loop μ-loop
+div-scale c = search needs
+
+add-scale : tie.Need-add-scale Inv-loop μ-loop
+add-scale c = omega (arith, c .pre .most, div-le-self ((c .args .max - c .args .min) * 35184372088832) (c .args .pixels))
 
 loop-holds : tie.Need-loop-holds Inv-loop μ-loop
 unfolding total
@@ -44,9 +54,13 @@ sums c = omega (arith, total-next (c .before .before .before .args .counts .now)
 fits : (c : tie.After-shared-slice-known Inv-loop μ-loop) → c .before .before .loop .sum + getD (c .before .before .before .args .counts .now) (c .before .before .loop .k) 0 ≤ c .before .before .before .args .pixels
 fits c = omega (arith, sums c, total-take-le (c .before .before .loop .k + 1) (c .before .before .before .args .counts .now), c .before .before .before .pre .sum)
 
--- S x R fits 64 bits
-product : (c : tie.After-shared-slice-known Inv-loop μ-loop) → (c .before .before .loop .sum + getD (c .before .before .before .args .counts .now) (c .before .before .loop .k) 0) * (c .before .before .before .args .max - c .before .before .before .args .min) ≤ 4194304 * 4095
-product c = mul-le-mul {n₂ = 4194304} {m₂ = 4095} (omega (arith, fits c, c .before .before .before .pre .few)) (omega (arith, c .before .before .before .pre .most))
+-- S times the factor that stands for R over N fits 64 bits
+product : (c : tie.After-shared-slice-known Inv-loop μ-loop) → (c .before .before .loop .sum + getD (c .before .before .before .args .counts .now) (c .before .before .loop .k) 0) * ratio 35184372088832 (c .before .before .before .args .max - c .before .before .before .args .min) (c .before .before .before .args .pixels) ≤ 144080003707961344
+product c = scale-room _ _ _ (fits c) (c .before .before .before .pre .few) (omega (arith, c .before .before .before .pre .most))
+
+-- and gives S x R over N
+scaled : (c : tie.After-shared-slice-known Inv-loop μ-loop) → (c .before .before .loop .sum + getD (c .before .before .before .args .counts .now) (c .before .before .loop .k) 0) * ratio 35184372088832 (c .before .before .before .args .max - c .before .before .before .args .min) (c .before .before .before .args .pixels) / 35184372088832 ≡ (c .before .before .loop .sum + getD (c .before .before .before .args .counts .now) (c .before .before .loop .k) 0) * (c .before .before .before .args .max - c .before .before .before .args .min) / c .before .before .before .args .pixels
+scaled c = scale-part _ _ _ (c .before .before .before .pre .some) (fits c) (c .before .before .before .pre .few)
 
 -- S x R over N is at most R
 quotient : (c : tie.After-shared-slice-known Inv-loop μ-loop) → (c .before .before .loop .sum + getD (c .before .before .before .args .counts .now) (c .before .before .loop .k) 0) * (c .before .before .before .args .max - c .before .before .before .args .min) / c .before .before .before .args .pixels ≤ (c .before .before .before .args .max - c .before .before .before .args .min)
@@ -54,8 +68,8 @@ quotient c = part-le _ _ _ (fits c)
 
 -- what is written is the bin's mapped value
 value : (c : tie.After-shared-slice-known Inv-loop μ-loop)
-    → c .before .before .before .args .min + (c .before .before .loop .sum + getD (c .before .before .before .args .counts .now) (c .before .before .loop .k) 0) * (c .before .before .before .args .max - c .before .before .before .args .min) / c .before .before .before .args .pixels ≡ mappedOf (c .before .before .before .args .min) (c .before .before .before .args .max) (c .before .before .before .args .pixels) (c .before .before .before .args .counts .now) (c .before .before .loop .k)
-value c = mapped-next _ _ _ _ (c .before .before .loop .k) (search needs) (c .before .before .loop .inv .2)
+    → c .before .before .before .args .min + (c .before .before .loop .sum + getD (c .before .before .before .args .counts .now) (c .before .before .loop .k) 0) * ratio 35184372088832 (c .before .before .before .args .max - c .before .before .before .args .min) (c .before .before .before .args .pixels) / 35184372088832 ≡ mappedOf (c .before .before .before .args .min) (c .before .before .before .args .max) (c .before .before .before .args .pixels) (c .before .before .before .args .counts .now) (c .before .before .loop .k)
+value c = ap (λ t. c .before .before .before .args .min + t) (scaled c) ∙ mapped-next _ _ _ _ (c .before .before .loop .k) (search needs) (c .before .before .loop .inv .2)
 
 cast-through : tie.Need-cast-through Inv-loop μ-loop
 cast-through c = omega (arith, fits c)
@@ -66,17 +80,14 @@ add-through c = omega (arith, fits c)
 mul-out : tie.Need-mul-out Inv-loop μ-loop
 mul-out c = omega (arith, product c)
 
-div-out : tie.Need-div-out Inv-loop μ-loop
-div-out c = search needs
-
 cast-out : tie.Need-cast-out Inv-loop μ-loop
-cast-out c = omega (arith, quotient c)
+cast-out c = omega (arith, scaled c, quotient c)
 
 add-out : tie.Need-add-out Inv-loop μ-loop
-add-out c = omega (arith, quotient c)
+add-out c = omega (arith, scaled c, quotient c)
 
 cast-out-2 : tie.Need-cast-out-2 Inv-loop μ-loop
-cast-out-2 c = omega (arith, quotient c)
+cast-out-2 c = omega (arith, scaled c, quotient c)
 
 mul-out-2 : tie.Need-mul-out-2 Inv-loop μ-loop
 mul-out-2 c = search needs
@@ -108,13 +119,15 @@ map-spec =
     μ-loop
     sub-range
     cast-range
+    mul-scale
+    div-scale
+    add-scale
     loop-holds
     mul-through
     shared-slice-read-through
     cast-through
     add-through
     mul-out
-    div-out
     cast-out
     add-out
     cast-out-2
