@@ -35,14 +35,14 @@ static const struct reel {
 
 /* In the order in which they take turns: draw comes behind prepare, with whose mappings it draws. */
 enum call {
-    ENHANCE, ENHANCE_BYTES, BY_1994, COPY, SCAN, UNCLIPPED, NEAR_ONE, PREPARE, DRAW, PREPARE_BYTES, DRAW_BYTES, COUNT,
-    MAP, WRITE, READ, CALLS
+    ENHANCE, ENHANCE_BYTES, BY_1994, COPY, SCAN, UNCLIPPED, NEAR_ONE, OF_1986, PREPARE, DRAW, PREPARE_BYTES, DRAW_BYTES,
+    COUNT, MAP, WRITE, READ, CALLS
 };
 
 #define ONE(call) (1u << (call))
 #define BYTES (ONE(ENHANCE_BYTES) | ONE(PREPARE_BYTES) | ONE(DRAW_BYTES)) /* for films of 8 bits alone */
 #define COUNTS (ONE(COUNT) | ONE(MAP)) /* in this order: mapping wants the counts */
-#define ALL ((ONE(CALLS) - 1) & ~BYTES & ~COUNTS & ~ONE(NEAR_ONE))
+#define ALL ((ONE(CALLS) - 1) & ~BYTES & ~COUNTS & ~ONE(NEAR_ONE) & ~ONE(OF_1986))
 
 static const struct {
     void (*before)(struct bench *);
@@ -52,7 +52,7 @@ static const struct {
     [SCAN] = {NULL, call_scan},          [UNCLIPPED] = {NULL, call_unclipped}, [PREPARE] = {NULL, call_prepare},
     [DRAW] = {NULL, call_draw},          [WRITE] = {NULL, call_write},         [READ] = {NULL, call_read},
     [NEAR_ONE] = {NULL, call_near_one},  [COUNT] = {NULL, call_count},         [MAP] = {NULL, call_map},
-    [ENHANCE_BYTES] = {lay_out_bytes, call_enhance_bytes},
+    [OF_1986] = {NULL, call_of_1986},    [ENHANCE_BYTES] = {lay_out_bytes, call_enhance_bytes},
     [PREPARE_BYTES] = {NULL, call_prepare_bytes},
     [DRAW_BYTES] = {NULL, call_draw_bytes},
 };
@@ -106,6 +106,8 @@ static struct result measure(const struct subject *of, unsigned which)
     check(&b);
     if ((which & ONE(NEAR_ONE)) != 0)
         check_near_one(&b);
+    if ((which & ONE(OF_1986)) != 0)
+        check_of_1986(&b);
     if ((which & COUNTS) != 0)
         check_counts(&b);
     struct result r = {.pixels = (double)b.pixels, .area = (double)b.area, .share = share_of(&b)};
@@ -336,6 +338,32 @@ static void bins_table(void)
                 bins_row(plates[j], ends[i], bins[k]);
 }
 
+/* ---- the edition of 1986 ---- */
+
+static void edition_row(enum kind kind, uint32_t side, uint32_t bins)
+{
+    struct subject of = usual(kind, side, 12);
+    of.bins = bins;
+    struct result r = measure(&of, ONE(PREPARE) | ONE(OF_1986));
+    printf("| %4u | %-5s | %4u | %8.3f | %8.3f |", (unsigned)side, film_name(kind), (unsigned)bins,
+           r.best[PREPARE] / r.pixels, r.best[OF_1986] / r.pixels);
+    ratio(r.best[OF_1986], r.best[PREPARE]);
+    printf("\n");
+    fflush(stdout);
+}
+
+static void edition_table(void)
+{
+    static const uint32_t ends[] = {512, 4096}, bins[] = {128, 1024, 4096};
+    static const enum kind plates[] = {NOISY, CALM};
+    printf("\n### The edition of 1986\n\nPrepare by either clip rule, nanoseconds a pixel, 12 bits.\n\n");
+    printf("| side | film | bins | prepare | prepare with 1986 | 1986 of ours |\n|---|---|---|---|---|---|\n");
+    for (size_t i = 0; i < MANY(ends); i++)
+        for (size_t j = 0; j < MANY(plates); j++)
+            for (size_t k = 0; k < MANY(bins); k++)
+                edition_row(plates[j], ends[i], bins[k]);
+}
+
 /* ---- clipping near one ---- */
 
 /* Prepare with clip off does all that prepare at a factor does but clipping. */
@@ -468,6 +496,7 @@ static void run(const char *opencv)
     bytes_table();
     comparison();
     bins_table();
+    edition_table();
     near_one_table();
     counts_table();
     sides_table();

@@ -42,7 +42,7 @@ void open_bench(struct bench *b, const struct subject *of)
     b->of = *of;
     b->pixels = (size_t)of->width * of->height;
     b->sizes = (tz_sizes){of->width, of->height, of->bits == 8 ? 255 : 4095};
-    b->settings = (tz_settings){of->grid, of->grid, of->bins, 0, b->sizes.maxval, 1, 3.0f};
+    b->settings = (tz_settings){of->grid, of->grid, of->bins, 0, b->sizes.maxval, 1, 3.0f, TZ_OURS};
     b->window = (tz_window){(of->width - wide) / 2, (of->height - high) / 2, wide, high};
     b->area = (size_t)wide * high;
     b->film = room(2 * b->pixels);
@@ -117,6 +117,13 @@ long call_near_one(struct bench *b)
     tz_settings near = b->settings;
     near.factor = 1.0001f;
     return prepare_by(b, &near);
+}
+
+long call_of_1986(struct bench *b)
+{
+    tz_settings older = b->settings;
+    older.edition = TZ_1986;
+    return prepare_by(b, &older);
 }
 
 long call_count(struct bench *b)
@@ -246,11 +253,12 @@ void check(struct bench *b)
 }
 
 /* One clip setting over the counts as they stand: mapping leaves what prepare does, at factor 1.0 nothing new. */
-static void check_mapped(struct bench *b, uint32_t clip, float factor)
+static void check_mapped(struct bench *b, uint32_t clip, float factor, uint32_t edition)
 {
     tz_settings s = b->settings;
     s.clip = clip;
     s.factor = factor;
+    s.edition = edition;
     must("prepare", prepare_by(b, &s));
     tz_record record = b->record;
     tz_footer footer = b->footer;
@@ -265,16 +273,49 @@ void check_counts(struct bench *b)
 {
     size_t entries = tz_counts_entries(&b->settings);
     must("counting", call_count(b));
-    check_mapped(b, 0, 0.0f);
-    check_mapped(b, 1, 1.0001f);
-    check_mapped(b, 1, 1.0f);
-    check_mapped(b, 1, b->settings.factor);
+    for (uint32_t edition = TZ_OURS; edition <= TZ_1986; edition++) {
+        check_mapped(b, 0, 0.0f, edition);
+        check_mapped(b, 1, 1.0001f, edition);
+        check_mapped(b, 1, 1.0f, edition);
+        check_mapped(b, 1, b->settings.factor, edition);
+    }
     if (map_by(b, &b->settings, entries - 1) != TZ_COUNTS_SHORT)
         end("counts that are too few are not refused", b->of.width);
     b->counts[0]++;
     if (call_map(b) != TZ_COUNTS_SUM)
         end("counts that do not add up are not refused", b->of.width);
     b->counts[0]--;
+}
+
+/* The largest level from the limit down for which what stands above it fits beside the others. */
+static uint32_t level_of(const uint32_t *counts, uint32_t bins, uint32_t limit)
+{
+    for (uint32_t level = limit;; level--) {
+        uint64_t above = 0;
+        for (uint32_t i = 0; i < bins; i++)
+            above += counts[i] > level ? counts[i] - level : 0;
+        if (above <= (uint64_t)bins * (limit - level))
+            return level;
+    }
+}
+
+void check_of_1986(struct bench *b)
+{
+    const tz_settings *s = &b->settings;
+    must("counting", call_count(b));
+    must("prepare by the edition of 1986", call_of_1986(b));
+    for (uint32_t tile = 0; tile < s->across * s->down; tile++) {
+        const uint32_t *counts = b->counts + (size_t)tile * s->bins;
+        uint32_t limit = b->footer.limit, lift = limit - level_of(counts, s->bins, limit);
+        uint64_t total = 0, sum = 0;
+        for (uint32_t i = 0; i < s->bins; i++)
+            total += least(counts[i] + lift, limit);
+        for (uint32_t i = 0; i < s->bins; i++) {
+            sum += least(counts[i] + lift, limit);
+            if (b->map[(size_t)tile * s->bins + i] != s->min + sum * (s->max - s->min) / total)
+                end("a mapping by the edition of 1986 is another, tile", tile);
+        }
+    }
 }
 
 void check_near_one(struct bench *b)

@@ -58,6 +58,7 @@ void lay_out_bytes(struct bench *b);
  * .. bytes:  the calls on bytes, for a film of 8 bits with a grid of 8 by 8 and 64, 128 or 256 bins.
  * unclipped: prepare with clip off. Its record is not that of the settings: draw wants prepare before it.
  * near one:  prepare at the factor 1.0001, and so is its record not that of the settings.
+ * of 1986:   prepare by the clip rule of 1986, and so is its record not that of the settings.
  * map:       mapping from the counts. It wants counting before it; the mappings go to `mapped`.
  */
 long call_enhance(struct bench *b);
@@ -65,6 +66,7 @@ long call_prepare(struct bench *b);
 long call_scan(struct bench *b);
 long call_unclipped(struct bench *b);
 long call_near_one(struct bench *b);
+long call_of_1986(struct bench *b);
 long call_count(struct bench *b);
 long call_map(struct bench *b);
 long call_draw(struct bench *b);
@@ -89,9 +91,15 @@ void check(struct bench *b);
 void check_near_one(struct bench *b);
 
 /*
- * Counts once and maps with one clip setting after the other. Ends the program where mappings, record or footer are not
- * prepare's, or where counts that are too few or do not add up are not refused. Leaves the counts.
+ * Counts once and maps with one clip setting after the other, and in both editions. Ends the program where mappings, record
+ * or footer are not prepare's, or where counts that are too few or do not add up are not refused. Leaves the counts.
  */
 void check_counts(struct bench *b);
+
+/*
+ * Clips each tile's counts as the rule of 1986 says it, level by level from the limit down. Ends the program where prepare
+ * by that edition leaves another mapping. For sides that the grid divides.
+ */
+void check_of_1986(struct bench *b);
 
 #endif

@@ -12,9 +12,9 @@ from ctypes import POINTER, byref, c_char_p, c_double, c_float, c_size_t, c_uint
 
 
 class Settings(ctypes.Structure):
-    """tz_settings of tzofnadir.h."""
+    """tz_settings of tzofnadir.h; an edition that is left out is 0, ours."""
     _fields_ = [("across", c_uint32), ("down", c_uint32), ("bins", c_uint32), ("min", c_uint32), ("max", c_uint32),
-                ("clip", c_uint32), ("factor", c_float)]
+                ("clip", c_uint32), ("factor", c_float), ("edition", c_uint32)]
 
 
 class Footer(ctypes.Structure):

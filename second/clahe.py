@@ -1,7 +1,7 @@
 """Prepare, draw and enhance: a second reading of document 01, and of document
 02's orders 1 (byte films), 2 (no more refusal 14), 3 (bins that no pixel
-reaches), 5 (a new factor without a new count), 6 (films of any size) and 7
-(how long the leftover walk is).
+reaches), 5 (a new factor without a new count), 6 (films of any size), 7 (how
+long the leftover walk is) and 8 (the clip rule of 1986).
 
 Plain and slow. Whole numbers and fractions.Fraction only; the one float is
 the division behind the footer's "factor used", which Python rounds correctly
@@ -20,9 +20,14 @@ from collections import namedtuple
 from fractions import Fraction
 from functools import lru_cache
 
+# Order 8: "wants that edition beside ours"; "The edition is a setting".
+OURS = 0
+OF_1986 = 1
+
 # "The clip setting is one of two: off, or a factor carried as f32. It sits
 # inside the settings record."  clip is None for off, else the f32's 32 bits.
-Settings = namedtuple("Settings", "across down bins min max clip")
+# Settings that name no edition are of ours.
+Settings = namedtuple("Settings", "across down bins min max clip edition", defaults=(OURS,))
 
 # "A map record holds the film's number (any 32-bit number), sizes and
 # settings, with bins 0 kept as 128."  Order 6: "The map record keeps the
@@ -184,14 +189,33 @@ def clipped(counts, limit):
     return counts, looks
 
 
-def mapping_of(counts, low, high, pixels):
+def level_of(counts, limit):
+    """Order 8: "With C our limit, P is the largest whole number from 0 to C for
+    which what stands above P, summed over the bins, is at most B x (C - P)." """
+    # From C down one by one, so that the first that is found is the largest.
+    for level in range(limit, -1, -1):
+        if excess_of(counts, level) <= len(counts) * (limit - level):
+            return level
+    # Order 8 asks to "Prove that P exists": 0 is one, as C times B is not
+    # below the counts' total.
+    raise AssertionError("no level for %r at %d" % (counts, limit))
+
+
+def older(counts, limit):
+    """Order 8: "A bin below P becomes its count plus C - P, any other becomes
+    C."  The new counts (a new list)."""
+    level = level_of(counts, limit)
+    return [count + limit - level if count < level else limit for count in counts]
+
+
+def mapping_of(counts, low, high, divisor):
     """"Mapping of bin b: Min + floor(S x R / N), with S the sum of the clipped
-    counts of bins 0 to b." """
+    counts of bins 0 to b."  The divisor is N, or order 8's T."""
     result = []
     total = 0
     for count in counts:
         total += count
-        result.append(low + total * (high - low) // pixels)
+        result.append(low + total * (high - low) // divisor)
     return result
 
 
@@ -210,14 +234,21 @@ def tile_mapping(counts, settings, pixels):
     E, and the number of looks" of order 7.  "With clip off, steps 2 to 4 are
     skipped and the raw counts are mapped."  Order 7: "With clip off both are
     0"."""
-    entries = [0, 0]
-    if settings.clip is not None:
-        limit = limit_of(settings.clip, pixels, len(counts))
-        # E is the raw counts': the clipped ones have nothing above L.
-        excess = excess_of(counts, limit)
+    # Order 8: "Clip off and factor 1.0 stay as in 01."
+    if settings.clip is None:
+        return mapping_of(counts, settings.min, settings.max, pixels), [0, 0]
+    limit = limit_of(settings.clip, pixels, len(counts))
+    # E is the raw counts': the clipped ones have nothing above L.  Order 8:
+    # "In order 7's list E is what stands above C, and the looks are 0 here."
+    excess = excess_of(counts, limit)
+    if settings.edition == OURS:
         counts, looks = clipped(counts, limit)
-        entries = [excess, looks]
-    return mapping_of(counts, settings.min, settings.max, pixels), entries
+        divisor = pixels
+    else:
+        counts, looks = older(counts, limit), 0
+        # Order 8: "The mapping divides by the new total T instead of N".
+        divisor = sum(counts)
+    return mapping_of(counts, settings.min, settings.max, divisor), [excess, looks]
 
 
 def all_mappings(width, height, picture, settings):
@@ -266,14 +297,13 @@ def grey_at(x, y, grey, width, height, settings, maps):
     """The rendered grey of the pixel x, y: "With A, B', C, D the four tiles'
     mapped values (upper left, upper right, lower left, lower right) of the
     pixel's bin"."""
-    across, down, bins, low, high, _ = settings
-    bins = bin_count(bins)
-    column = place_of(width, across, x)
-    row = place_of(height, down, y)
-    b = bin_of(grey, low, high, bins)
+    bins = bin_count(settings.bins)
+    column = place_of(width, settings.across, x)
+    row = place_of(height, settings.down, y)
+    b = bin_of(grey, settings.min, settings.max, bins)
 
     def mapped(j, k):
-        return maps[(j * across + k) * bins + b]
+        return maps[(j * settings.across + k) * bins + b]
 
     return blend(column, row,
                  mapped(row.tile, column.tile), mapped(row.tile, column.other),
@@ -298,7 +328,7 @@ def refusal_of_length(width, height, picture):
 
 def refusal_3_to_9(width, height, settings):
     """Rows 3 to 9 of the table, with 31 behind 9.  0 when none applies."""
-    across, down, bins, low, high, _ = settings
+    across, down, bins, low, high = settings[:5]
     # 3 / 4: "grid across / down is not 2 to 16"
     if not 2 <= across <= 16:
         return 3
@@ -412,7 +442,8 @@ def footer_of(width, height, settings):
     """"a footer record with L, the factor asked as f32 and the factor used as
     f64: L x B and N are each converted exactly and divided once. Clip off: L
     0, both factors 0.0. Factor 1.0: L 0, both 1.0"  Order 6: of N and L "the
-    footer shows those of tile 0, 0." """
+    footer shows those of tile 0, 0."  Order 8 says nothing of it: C is L, and
+    the edition is not asked."""
     if settings.clip is None:
         return Footer(0, 0, f64_bits(0.0))
     if factor_is_one(settings.clip):
@@ -498,7 +529,8 @@ def record_differs(film_number, width, height, settings, record):
     read as 128 on both sides)"; "the film number and settings for 15 come
     with the call".  Order 6: "15 is also given where the record's edges or
     centres aren't those of this rule", for the sizes and the grid of the call;
-    the zeros behind the last are compared too."""
+    the zeros behind the last are compared too.  Order 8: "The edition is a
+    setting, so it is part of what 15 compares", whatever the clip is."""
     kept = record.settings
     return not (film_number == record.film_number
                 and width == record.width
@@ -509,6 +541,7 @@ def record_differs(film_number, width, height, settings, record):
                 and settings.min == kept.min
                 and settings.max == kept.max
                 and same_clip(settings.clip, kept.clip)
+                and settings.edition == kept.edition
                 and record.columns == axis_of(width, settings.across)
                 and record.rows == axis_of(height, settings.down))
 
@@ -571,8 +604,8 @@ def draw(film_number, width, height, picture, settings, record, window, map_buff
 
 def refusal_1_to_30(width, height, picture, settings):
     """"30 for a setting outside the profile, after 10."  The profile: "Min 0,
-    Max 255, grid 8 by 8 only, bins 64, 128 (or 0) or 256".  0 when none
-    applies."""
+    Max 255, grid 8 by 8 only, bins 64, 128 (or 0) or 256".  Order 8: "The byte
+    profile keeps the present edition only."  0 when none applies."""
     refusal = refusal_1_to_10(width, height, picture, settings)
     if refusal:
         return refusal
@@ -581,6 +614,8 @@ def refusal_1_to_30(width, height, picture, settings):
     if bin_count(settings.bins) not in (64, 128, 256):
         return 30
     if settings.min != 0 or settings.max != 255:
+        return 30
+    if settings.edition != OURS:
         return 30
     return 0
 
@@ -639,8 +674,8 @@ def refusal_of_sums(width, height, settings, counts):
 
 
 def refusal_of_count(width, height, picture, settings, counts):
-    """"Counting gives 1 to 9 with 31 after 9, then 33, then 13": the clip
-    setting is not asked.  0 when none applies."""
+    """"Counting gives 1 to 9 with 31 after 9, then 33, then 13": neither the
+    clip setting nor the edition is asked.  0 when none applies."""
     return (refusal_of_sides(width, height)
             or refusal_of_length(width, height, picture)
             or refusal_3_to_9(width, height, settings)

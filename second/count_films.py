@@ -15,7 +15,9 @@ import films
 
 FILM = films.COLUMNS["F"] + ["countslen"]
 MAPPING = ("no film width height case countslen gainat gain lossat loss step across down bins min max "
-           "clip factor maplen scratchlen fillbase fillmod looklen each turns").split()
+           "clip factor maplen scratchlen fillbase fillmod looklen each turns edition").split()
+# What each further mapping of a row has of its own.
+TURN = "clip factor edition".split()
 
 WORD = 2 ** 32
 
@@ -81,8 +83,9 @@ def run_turns(text, row, turns, case):
         for at in range(0, len(counts), row["step"]):
             counts[at] = (counts[at] + row["each"]) % WORD
     buffers = lent(row)
-    for clip, factor in [(row["clip"], row["factor"])] + turns:
-        run_mapping(text, dict(row, clip=clip, factor=factor), counts, *buffers)
+    run_mapping(text, row, counts, *buffers)
+    for turn in turns:
+        run_mapping(text, dict(row, **turn), counts, *buffers)
 
 
 def run():
@@ -91,12 +94,13 @@ def run():
     for letter, numbers in films.lines("count_films"):
         columns = FILM if letter == "F" else MAPPING
         row, rest = dict(zip(columns, numbers)), numbers[len(columns):]
-        assert len(row) == len(columns) and len(rest) == (0 if letter == "F" else 2 * row["turns"]), numbers
+        assert len(row) == len(columns) and len(rest) == (0 if letter == "F" else len(TURN) * row["turns"]), numbers
         if letter == "F":
             cases[row["no"]] = row
             run_film(text, row)
         else:
-            run_turns(text, row, list(zip(rest[::2], rest[1::2])), cases[row["case"]])
+            turns = [dict(zip(TURN, rest[at:])) for at in range(0, len(rest), len(TURN))]
+            run_turns(text, row, turns, cases[row["case"]])
     return text.whole()
 
 

@@ -22,7 +22,7 @@ SMALL = 64
 
 COLUMNS = {
     "F": ("no film width height kind length lo hi seed pokeat pokeval across down bins min max clip "
-          "factor maplen scratchlen fillbase fillmod looklen").split(),
+          "factor maplen scratchlen fillbase fillmod looklen edition").split(),
     "D": ("no film width height case outlen left top field value "
           "pixat pixval mapat mapval").split(),
     "R": "no target count".split(),
@@ -35,7 +35,8 @@ COLUMNS = {
 # The rows that list bytes behind their columns.
 LISTS = "RGL"
 
-RECORD_FIELDS = 10
+# The numbers in the column field of a draw that change a field of the made record.
+RECORD_FIELDS = 11
 
 # How many bytes a listing asks for.
 LISTING_ROOM = 512
@@ -150,16 +151,26 @@ def out_fill(length):
 
 # --- settings and records ---------------------------------------------------
 
+def made_settings(across, down, bins, low, high, clip, factor, edition):
+    """The settings that eight numbers make."""
+    return clahe.Settings(across, down, bins, low, high, factor if clip else None,
+                          clahe.OF_1986 if edition else clahe.OURS)
+
+
+def settings_numbers(row):
+    """The eight numbers of a row's settings."""
+    return [row["across"], row["down"], row["bins"], row["min"], row["max"], row["clip"], row["factor"],
+            row["edition"]]
+
+
 def settings_of(row):
     """The settings of a film row."""
-    return clahe.Settings(row["across"], row["down"], row["bins"], row["min"], row["max"],
-                          row["factor"] if row["clip"] else None)
+    return made_settings(*settings_numbers(row))
 
 
 def record_numbers(row):
-    """The ten numbers of a film row's made record."""
-    return [row["film"], row["width"], row["height"], row["across"], row["down"], row["bins"],
-            row["min"], row["max"], row["clip"], row["factor"]]
+    """The eleven numbers of a film row's made record."""
+    return [row["film"], row["width"], row["height"]] + settings_numbers(row)
 
 
 def made_axis(side, grid):
@@ -170,10 +181,9 @@ def made_axis(side, grid):
 
 
 def record_of(numbers, row):
-    """The record that ten numbers make, with the axes of a film row's made record."""
-    number, width, height, across, down, bins, low, high, clip, factor = numbers
-    return clahe.Record(number, width, height,
-                        clahe.Settings(across, down, bins, low, high, factor if clip else None),
+    """The record that eleven numbers make, with the axes of a film row's made record."""
+    number, width, height = numbers[:3]
+    return clahe.Record(number, width, height, made_settings(*numbers[3:]),
                         made_axis(row["width"], row["across"]), made_axis(row["height"], row["down"]))
 
 
@@ -222,10 +232,10 @@ def footer_fields(footer):
 
 
 def record_fields(record):
-    """The ten fields of a returned record, and the digests of its edges and centres."""
+    """The eleven fields of a returned record, and the digests of its edges and centres."""
     s = record.settings
     return ([record.film_number, record.width, record.height, s.across, s.down, s.bins, s.min,
-             s.max, 0 if s.clip is None else 1, "%08x" % (s.clip or 0)]
+             s.max, 0 if s.clip is None else 1, "%08x" % (s.clip or 0), s.edition]
             + [digest(entries) for entries in record.columns + record.rows])
 
 

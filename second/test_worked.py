@@ -1,7 +1,7 @@
 """The worked numbers of document 01, "Numbers to check by hand", one by one,
 as document 02's orders 2 and 3 change them, the profile of its order 1, the
-counting and mapping of its order 5, the films of any size of its order 6, and
-the looks of its order 7.
+counting and mapping of its order 5, the films of any size of its order 6, the
+looks of its order 7, and the clip rule of 1986 of its order 8.
 
 Run: python3 second/test_worked.py   (prints the number of checks)
 """
@@ -510,6 +510,131 @@ def counts():
          clahe.prepare(5, 4, 4, WORKED_FILM, asked, [0] * 512, [0] * 128, [0] * 8))
 
 
+# C, counts, P, the new counts, T, and the mapping for range 0 to 15.
+OLDER = (
+    (6, [16, 0, 0, 0], 2, [6, 4, 4, 4], 18, [5, 8, 11, 15]),
+    (6, [9, 5, 1, 1], 5, [6, 6, 2, 2], 16, [5, 11, 13, 15]),
+    (6, [11, 5, 0, 0], 4, [6, 6, 2, 2], 16, [5, 11, 13, 15]),
+    (7, [19, 6, 0, 0], 1, [7, 7, 6, 6], 26, [4, 8, 11, 15]),
+    (4, [16, 0, 0, 0], 0, [4, 4, 4, 4], 16, [3, 7, 11, 15]),
+    (5, [17, 0, 0, 0], 1, [5, 4, 4, 4], 17, [4, 7, 11, 15]),
+    (6, [4, 4, 4, 4], 6, [4, 4, 4, 4], 16, [3, 7, 11, 15]),
+)
+
+
+def older_sound(counts, limit):
+    """Order 8: whether P is the largest of 0 to C, "T is at least N and less
+    than N + B", and "no bin is above C or below the smaller of C and its count
+    plus C - P"; and whether the mapping "still ends at Max"."""
+    bins, level, new = len(counts), clahe.level_of(counts, limit), clahe.older(counts, limit)
+    levels = [p for p in range(limit + 1)
+              if sum(max(0, count - p) for count in counts) <= bins * (limit - p)]
+    return (level == max(levels)
+            and sum(counts) <= sum(new) < sum(counts) + bins
+            and max(new) <= limit
+            and all(after >= min(limit, before + limit - level) for before, after in zip(counts, new))
+            and clahe.mapping_of(new, 7, 29, sum(new))[-1] == 29)
+
+
+def olders():
+    """Order 8: P, the new counts, T and the mapping, worked by hand, and its
+    facts of all counts of a few bins."""
+    for limit, counts, level, new, total, mapping in OLDER:
+        same(clahe.level_of(counts, limit), level)
+        same(clahe.older(counts, limit), new)
+        same(sum(new), total)
+        same(clahe.mapping_of(new, 0, 15, total), mapping)
+        same(older_sound(counts, limit), True)
+    # C above all counts, and C the largest of them: P is C and nothing moves.
+    for counts in ([4, 0, 3, 4], [1, 1], [0, 0, 9]):
+        for limit in (max(counts), max(counts) + 1, 1000):
+            same((clahe.level_of(counts, limit), clahe.older(counts, limit)), (limit, counts))
+    # N = B x C: every bin ends at C, and P is the smallest count.
+    same((clahe.level_of([9, 1, 2, 4], 4), clahe.older([9, 1, 2, 4], 4)), (1, [4, 4, 4, 4]))
+    # All counts of a few bins that the limit can hold.  T - N is anything from
+    # 0 to B - 2: where P is below C some bin stands above P + 1, so that what
+    # stands above grows by at least 1 from P + 1 down to P, and the room by B.
+    for bins, highest in ((2, 9), (3, 6), (4, 4), (5, 3)):
+        above = set()
+        for limit in range(1, highest + 1):
+            found = [counts for total in range(1, bins * limit + 1) for counts in every_counts(bins, total)]
+            same(all(older_sound(counts, limit) for counts in found), True)
+            above |= {sum(clahe.older(counts, limit)) - sum(counts) for counts in found}
+        same(above, set(range(bins - 1)))
+
+
+def by_editions():
+    """Order 8: the film of the listing, the list of order 7, the footer and
+    both of 01's kept cases, in either edition."""
+    ours = clahe.Settings(2, 2, 4, 0, 15, f32(2.0))
+    older = ours._replace(edition=clahe.OF_1986)
+    maps, looks = [99] * 18, [88] * 10
+    record, footer = clahe.prepare(1, 4, 4, WORKED_FILM, older, maps, [1] * 4, looks)
+    same(maps, [6, 9, 12, 15, 3, 7, 11, 15, 3, 6, 9, 15, 7, 7, 7, 15, 99, 99])
+    # "E is what stands above C, and the looks are 0 here."
+    same(looks, [2, 0, 0, 0, 2, 0, 0, 0, 88, 88])
+    same(footer, clahe.prepare(1, 4, 4, WORKED_FILM, ours, [0] * 16, [1] * 4, [0] * 8)[1])
+    same(record.settings, older)
+    picture, output = list(WORKED_FILM), [0]
+    same(clahe.enhance(4, 4, picture, older, [0] * 16, [1] * 4), footer)
+    same(picture[2 * 4 + 2], 4)
+    same(clahe.draw(1, 4, 4, WORKED_FILM, older, record, (2, 2, 1, 1), maps, output), 0)
+    same(output, [4])
+    # "Clip off and factor 1.0 stay as in 01."
+    for clip in (None, f32(1.0)):
+        left = []
+        for edition in (clahe.OURS, clahe.OF_1986):
+            asked, rendered = ours._replace(clip=clip, edition=edition), list(WORKED_FILM)
+            maps, scratch, looks = [99] * 17, [8] * 5, [88] * 9
+            made = clahe.prepare(1, 4, 4, WORKED_FILM, asked, maps, scratch, looks)
+            clahe.enhance(4, 4, rendered, asked, [99] * 17, [8] * 5)
+            left.append((made[1], maps, scratch, looks, rendered))
+        same(left[0], left[1])
+    # Each tile's own N, C, P and T: of a flat film N 16, 20, 20 and 25, C 6, 7,
+    # 7 and 9, P 2, 2, 2 and 3, T 18, 22, 22 and 27.
+    maps, looks = [0] * 16, [0] * 8
+    asked = clahe.Settings(2, 2, 4, 0, 15, f32(1.5), clahe.OF_1986)
+    clahe.prepare(1, 9, 9, [0] * 81, asked, maps, [0] * 4, looks)
+    same(maps, [5, 8, 11, 15, 4, 8, 11, 15, 4, 8, 11, 15, 5, 8, 11, 15])
+    same(looks, [10, 0, 13, 0, 13, 0, 16, 0])
+
+
+def compared():
+    """Order 8: "The edition is a setting, so it is part of what 15 compares";
+    "The byte profile keeps the present edition only"; and one counting serves
+    both editions."""
+    for clip in (f32(2.0), None, f32(1.0)):
+        for edition in (clahe.OURS, clahe.OF_1986):
+            asked = clahe.Settings(2, 2, 4, 0, 15, clip, edition)
+            record, maps = clahe.kept_record(1, 4, 4, asked), [0] * 16
+            other = record._replace(settings=asked._replace(edition=1 - edition))
+            whole, output = (0, 0, 4, 4), [0] * 16
+            same(clahe.draw(1, 4, 4, WORKED_FILM, asked, record, whole, maps, output), 0)
+            same(clahe.draw(1, 4, 4, WORKED_FILM, asked, other, whole, maps, output), 15)
+            # Behind 11, before 16.
+            same(clahe.draw(1, 4, 4, WORKED_FILM, asked, other, whole, maps[1:], output), 11)
+            same(clahe.draw(1, 4, 4, WORKED_FILM, asked, other, (0, 0, 0, 0), maps, []), 15)
+        picture, outside = bytearray(64), profile(clip=clip, edition=clahe.OF_1986)
+        record = clahe.kept_record(3, 8, 8, outside)
+        same(clahe.prepare_bytes(3, 8, 8, picture, outside, bytearray(4095), [], []), 30)
+        same(clahe.enhance_bytes(8, 8, picture, outside, bytearray(4095), []), 30)
+        same(clahe.draw_bytes(3, 8, 8, picture, outside, record, (0, 0, 8, 8), bytearray(4095), []), 30)
+        same(clahe.prepare_bytes(3, 8, 8, picture, outside._replace(max=62), bytearray(), [], []), 31)
+    same(clahe.prepare_bytes(3, 8, 8, picture, outside._replace(clip=f32(1025.0)), bytearray(), [], []), 10)
+    # Counted once, then mapped in turn.
+    lent, seen = [0] * 16, []
+    asked = clahe.Settings(2, 2, 4, 0, 15, f32(2.0))
+    same(clahe.count(4, 4, WORKED_FILM, asked._replace(edition=clahe.OF_1986), lent), 0)
+    for edition in (clahe.OURS, clahe.OF_1986, clahe.OURS):
+        turn, maps, looks = asked._replace(edition=edition), [0] * 16, [0] * 8
+        own_maps, own_looks = [0] * 16, [0] * 8
+        same(clahe.map_counts(5, 4, 4, turn, lent, maps, [0] * 4, looks),
+             clahe.prepare(5, 4, 4, WORKED_FILM, turn, own_maps, [0] * 4, own_looks))
+        same((maps, looks), (own_maps, own_looks))
+        seen.append((maps, looks))
+    same((seen[0] == seen[2], seen[0] == seen[1]), (True, False))
+
+
 def axes():
     """Order 6: the edges, the centres and the places of columns, worked by
     hand."""
@@ -669,6 +794,9 @@ if __name__ == "__main__":
     files()
     byte_films()
     counts()
+    olders()
+    by_editions()
+    compared()
     axes()
     sizes()
     fitted()

@@ -361,6 +361,7 @@ fi
 . "$top/station/faults/habits.sh"
 . "$top/station/faults/options.sh"
 . "$top/station/faults/verify.sh"
+. "$top/station/faults/edition.sh"
 . "$top/station/faults/batch.sh"
 
 # ---- scans from elsewhere

@@ -151,10 +151,10 @@ static void tell_settings(const struct run *run, const char *name, const char *m
     char clip[32] = "off";
     if (s->clip)
         snprintf(clip, sizeof clip, "%.9g", (double)s->factor);
-    tell("%s%s%u by %u pixels, maxval %u: --grid %ux%u --bins %u --range %u:%u --clip %s%s", name, mark,
+    tell("%s%s%u by %u pixels, maxval %u: --grid %ux%u --bins %u --range %u:%u --clip %s%s%s", name, mark,
          (unsigned)run->sizes.width, (unsigned)run->sizes.height, (unsigned)run->sizes.maxval, (unsigned)s->across,
          (unsigned)s->down, (unsigned)tz_bins_of(s), (unsigned)s->min, (unsigned)s->max, clip,
-         run->film != NULL ? " --bytes" : "");
+         s->edition == TZ_OURS ? "" : " --edition 1986", run->film != NULL ? " --bytes" : "");
 }
 
 /* What was chosen, and what clipping did; of several films behind each one's name. */
@@ -171,8 +171,9 @@ static void tell_footer(const struct run *run)
         tell("%s%sbins %u, chosen by the range %u to %u and tiles of %u pixels", name, mark,
              (unsigned)run->settings.bins, (unsigned)run->settings.min, (unsigned)run->settings.max,
              (unsigned)least_tile(&run->settings, run->sizes.width, run->sizes.height));
-    tell("%s%slimit %u, factor asked %.9g, factor used %.17g%s", name, mark, (unsigned)footer->limit,
-         (double)footer->asked, footer->used, limits_differ(run) ? " (of tile 0, 0; some tiles are larger)" : "");
+    tell("%s%slimit %u, factor asked %.9g, factor used %.17g%s%s", name, mark, (unsigned)footer->limit,
+         (double)footer->asked, footer->used, limits_differ(run) ? " (of tile 0, 0; some tiles are larger)" : "",
+         run->settings.edition == TZ_OURS ? "" : ", edition of 1986");
 }
 
 /* The record gets its place before the film does: there is never a new film without it. */

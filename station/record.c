@@ -29,7 +29,8 @@ static void add_settings(struct text *t, const struct run *run)
         add(t, "%.9g", (double)s->factor);
     else
         add(t, "null");
-    add(t, ",\n    \"by_bytes\": %s\n  },\n", run->film != NULL ? "true" : "false");
+    add(t, ",\n    \"edition\": \"%s\",\n    \"by_bytes\": %s\n  },\n", s->edition == TZ_OURS ? "ours" : "1986",
+        run->film != NULL ? "true" : "false");
 }
 
 static void add_window(struct text *t, const struct run *run)

@@ -60,6 +60,20 @@ static const char *read_factor(struct json settings, tz_settings *out)
     return NULL;
 }
 
+/* Records were made before there was another edition than ours: one that says nothing of it is of ours. */
+static const char *read_edition(struct json settings, tz_settings *out)
+{
+    struct json value;
+    char word[8];
+    out->edition = TZ_OURS;
+    if (!json_member(settings, "edition", &value))
+        return NULL;
+    if (!json_string(value, word, sizeof word) || (strcmp(word, "ours") != 0 && strcmp(word, "1986") != 0))
+        return "edition";
+    out->edition = strcmp(word, "1986") == 0 ? TZ_1986 : TZ_OURS;
+    return NULL;
+}
+
 static const char *read_settings(struct json record, struct recorded *out)
 {
     struct json s, value;
@@ -74,7 +88,8 @@ static const char *read_settings(struct json record, struct recorded *out)
         if (whole_member(s, rows[i].name, rows[i].to) != NULL)
             return rows[i].name;
     out->by_bytes = json_member(s, "by_bytes", &value) && json_is(value, "true");
-    return read_factor(s, to);
+    const char *missing = read_factor(s, to);
+    return missing != NULL ? missing : read_edition(s, to);
 }
 
 static const char *read_window(struct json record, struct recorded *out)

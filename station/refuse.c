@@ -130,9 +130,15 @@ static void more_settings(const struct run *run)
     char clip[32] = "off";
     if (s->clip)
         snprintf(clip, sizeof clip, "%.9g", (double)s->factor);
-    say_more("The settings were --grid %ux%u --bins %u --range %u:%u (%u greys) --clip %s.", (unsigned)s->across,
-             (unsigned)s->down, (unsigned)tz_bins_of(s), (unsigned)s->min, (unsigned)s->max,
-             s->max >= s->min ? (unsigned)(s->max - s->min) + 1u : 0u, clip);
+    say_more("The settings were --grid %ux%u --bins %u --range %u:%u (%u greys) --clip %s --edition %s.",
+             (unsigned)s->across, (unsigned)s->down, (unsigned)tz_bins_of(s), (unsigned)s->min, (unsigned)s->max,
+             s->max >= s->min ? (unsigned)(s->max - s->min) + 1u : 0u, clip, s->edition == TZ_OURS ? "ours" : "1986");
+}
+
+static void more_profile(const struct run *run)
+{
+    more_settings(run);
+    say_more("Without --bytes the film takes any of them, and is the same where bytes would have served.");
 }
 
 static void more_bins(const struct run *run)
@@ -345,7 +351,7 @@ static more_function more_of(uint32_t refusal)
         [TZ_PIXEL_OUTSIDE] = more_pixel, [TZ_WINDOW] = more_window,      [TZ_HEADER] = more_header,
         [TZ_COMMENT] = more_comment,     [TZ_FILE_SIZE] = more_size,     [TZ_MAXVAL] = more_maxval,
         [TZ_RASTER_SHORT] = more_raster, [TZ_RASTER_LONG] = more_raster, [TZ_SAMPLE] = more_sample,
-        [TZ_BINS_UNREACHED] = more_bins,
+        [TZ_BINS_UNREACHED] = more_bins, [TZ_PROFILE] = more_profile,
     };
     more_function found = refusal < sizeof more / sizeof more[0] ? more[refusal] : NULL;
     return found != NULL ? found : more_settings;

@@ -33,7 +33,7 @@ extern "C" {
 #endif
 
 /* The edition of this header and of the library, as in the file VERSION. */
-#define TZ_VERSION "3.7.0"
+#define TZ_VERSION "4.8.0"
 
 /* The functions with bodies are compiled into what includes this header. station/structs.c, which is a part of the library,
    says otherwise, and so they have names in it as well. */
@@ -73,7 +73,7 @@ enum tz_refusal {
     TZ_MAP_SHORT = 11,       /* map buffer shorter than (grid across) x (grid down) x B */
     TZ_SCRATCH_SHORT = 12,   /* scratch shorter than B */
     TZ_PIXEL_OUTSIDE = 13,   /* a pixel outside Min to Max */
-    TZ_RECORD = 15,          /* record differs in film number, size or any setting, or in an edge or centre of its tiles */
+    TZ_RECORD = 15,          /* record differs in film number, size or any setting, the edition too, or in an edge or centre */
     TZ_WINDOW = 16,          /* window empty or not inside the film */
     TZ_OUTPUT_LENGTH = 17,   /* output length is not the window's area */
     TZ_MAP_OUTSIDE = 18,     /* a map entry outside Min to Max */
@@ -85,7 +85,7 @@ enum tz_refusal {
     TZ_RASTER_LONG = 25,     /* bytes behind the raster */
     TZ_SAMPLE = 26,          /* a sample above maxval */
     TZ_TARGET_SHORT = 27,    /* the caller's target too short */
-    TZ_PROFILE = 30,         /* a film of bytes: grid not 8 by 8, range not 0 to 255, or bins not 64, 128 or 256 */
+    TZ_PROFILE = 30,         /* a film of bytes: not grid 8 by 8, range 0 to 255, bins 64, 128 or 256, edition ours */
     TZ_BINS_UNREACHED = 31,  /* bins, 0 read as 128, above Max - Min + 1 */
     TZ_LOOKS_SHORT = 32,     /* list of excesses and looks shorter than 2 x (grid across) x (grid down) */
     TZ_COUNTS_SHORT = 33,    /* counts buffer shorter than (grid across) x (grid down) x B */
@@ -111,7 +111,7 @@ TZ_FUNCTION const char *tz_refusal_text(uint32_t refusal)
         "The scratch buffer is shorter than the bins.",
         "A pixel of the film lies outside the grey range.",
         "There is no refusal of this number.",
-        "The mappings are those of another film, another size or other settings, or of other tiles.",
+        "The mappings are those of another film, another size, other settings, another edition or other tiles.",
         "The window is empty or does not lie inside the film.",
         "The output's length is not the window's area.",
         "An entry of the mappings lies outside the grey range.",
@@ -126,7 +126,7 @@ TZ_FUNCTION const char *tz_refusal_text(uint32_t refusal)
         "The buffer for the result is too short.",
         "There is no refusal of this number.",
         "There is no refusal of this number.",
-        "The settings are outside the byte profile: grid 8 by 8, range 0 to 255, bins 64, 128 or 256.",
+        "The settings are outside the byte profile: grid 8 by 8, range 0 to 255, bins 64, 128 or 256, edition ours.",
         "There are more bins (0 stands for 128) than greys in the range: ask for fewer, on the command line by --bins.",
         "The list of excesses and looks is shorter than twice the grid across times the grid down.",
         "The counts buffer is shorter than the grid across times the grid down times the bins.",
@@ -137,13 +137,20 @@ TZ_FUNCTION const char *tz_refusal_text(uint32_t refusal)
 
 /* ---- records ---- */
 
-/* What the interpreter chooses. clip 0: off, and factor does not count; any other: the factor counts. */
+/* By which rule the bins of a tile are clipped: ours, or the one of 1986. Off and factor 1.0 are the same in both. */
+enum tz_edition { TZ_OURS = 0, TZ_1986 = 1 };
+
+/* What the interpreter chooses. clip 0: off, and factor does not count; any other: the factor counts. edition 0, as in a
+   struct that was cleared or whose initializer leaves it out: ours; any other number: that of 1986, as with clip. There are
+   two editions, so every number means one of them, and no refusal had to be made up for a third; a record has TZ_OURS or
+   TZ_1986 in it and never another number. */
 typedef struct tz_settings {
     uint32_t across, down; /* tiles across and down, 2 to 16 each, and at most the film's width and height */
     uint32_t bins;         /* 2 to 4096; 0 means 128; at most max - min + 1, so that each bin has a grey */
     uint32_t min, max;     /* the grey range: all pixels lie in it, and so does the rendering */
     uint32_t clip;
     float factor;          /* 1.0 to 1024.0; exactly 1.0 returns the film unchanged */
+    uint32_t edition;      /* TZ_OURS or TZ_1986 */
 } tz_settings;
 
 /* The tile columns of a film of `width` pixels, or likewise its tile rows. Tile i is the columns from edges[i] up to, not
@@ -151,7 +158,8 @@ typedef struct tz_settings {
    of the sum of the two, rounded down. Entries behind the last edge and the last centre are 0. */
 typedef struct tz_axis { uint32_t edges[17], centres[16]; } tz_axis;
 
-/* What tz_prepare and tz_map say their mappings belong to. bins is never 0 in it; clip is 0 or 1; factor 0.0 where clip is 0. */
+/* What tz_prepare and tz_map say their mappings belong to. bins is never 0 in it; clip is 0 or 1; factor 0.0 where clip is 0;
+   edition is TZ_OURS or TZ_1986. */
 typedef struct tz_record {
     uint32_t film, width, height;
     tz_settings settings;
@@ -159,7 +167,7 @@ typedef struct tz_record {
 } tz_record;
 
 /* What clipping did. Clip off: 0, 0.0, 0.0. Factor 1.0: 0, 1.0, 1.0. Each tile has a limit by its own pixels, N; limit and
-   factor used are those of tile 0, 0, the upper left one, which has the fewest. */
+   factor used are those of tile 0, 0, the upper left one, which has the fewest. L is the same in both editions. */
 typedef struct tz_footer {
     uint32_t limit; /* L: no bin of the tile holds more */
     float asked;    /* the factor asked */
@@ -183,8 +191,8 @@ typedef struct tz_part {
 /* ---- the flat functions of the archive ---- */
 
 /*
- * A record is nine numbers, film, width, height, across, down, bins, min, max, clip, its factor apart, and the edges and
- * centres of its tile columns and tile rows.
+ * A record is ten numbers, film, width, height, across, down, bins, min, max, clip, edition, its factor apart, and the edges
+ * and centres of its tile columns and tile rows. The edition of the settings is the last argument of all.
  * `sizes` is three numbers, width, height, maxval. `part` is two, where the raster starts and how long it is.
  * What each call does stands at the function with structs, below.
  */
@@ -195,13 +203,14 @@ uint32_t tz_prepare(uint32_t film, uint32_t width, uint32_t height,
                     uint16_t *map, size_t map_len, uint32_t *scratch, size_t scratch_len,
                     uint32_t *record, float *record_factor, uint32_t *limit, float *asked, double *used,
                     uint32_t column_edges[17], uint32_t column_centres[16],
-                    uint32_t row_edges[17], uint32_t row_centres[16], uint64_t *looks, size_t looks_len);
+                    uint32_t row_edges[17], uint32_t row_centres[16], uint64_t *looks, size_t looks_len,
+                    uint32_t edition);
 
 uint32_t tz_enhance(uint32_t width, uint32_t height, uint16_t *picture, size_t picture_len,
                     uint32_t across, uint32_t down, uint32_t bins, uint32_t min, uint32_t max,
                     uint32_t clip, float factor,
                     uint16_t *map, size_t map_len, uint32_t *scratch, size_t scratch_len,
-                    uint32_t *limit, float *asked, double *used);
+                    uint32_t *limit, float *asked, double *used, uint32_t edition);
 
 uint32_t tz_draw(uint32_t film, uint32_t width, uint32_t height,
                  const uint16_t *picture, size_t picture_len,
@@ -211,7 +220,7 @@ uint32_t tz_draw(uint32_t film, uint32_t width, uint32_t height,
                  uint32_t left, uint32_t top, uint32_t window_width, uint32_t window_height,
                  const uint16_t *map, size_t map_len, uint16_t *out, size_t out_len,
                  const uint32_t column_edges[17], const uint32_t column_centres[16],
-                 const uint32_t row_edges[17], const uint32_t row_centres[16]);
+                 const uint32_t row_edges[17], const uint32_t row_centres[16], uint32_t edition);
 
 uint32_t tz_count(uint32_t width, uint32_t height, const uint16_t *picture, size_t picture_len,
                   uint32_t across, uint32_t down, uint32_t bins, uint32_t min, uint32_t max,
@@ -223,7 +232,8 @@ uint32_t tz_map(uint32_t film, uint32_t width, uint32_t height,
                 uint16_t *map, size_t map_len, uint32_t *scratch, size_t scratch_len,
                 uint32_t *record, float *record_factor, uint32_t *limit, float *asked, double *used,
                 uint32_t column_edges[17], uint32_t column_centres[16],
-                uint32_t row_edges[17], uint32_t row_centres[16], uint64_t *looks, size_t looks_len);
+                uint32_t row_edges[17], uint32_t row_centres[16], uint64_t *looks, size_t looks_len,
+                uint32_t edition);
 
 uint32_t tz_prepare_bytes(uint32_t film, uint32_t width, uint32_t height,
                           const uint8_t *picture, size_t picture_len,
@@ -232,13 +242,14 @@ uint32_t tz_prepare_bytes(uint32_t film, uint32_t width, uint32_t height,
                           uint8_t *map, size_t map_len, uint32_t *scratch, size_t scratch_len,
                           uint32_t *record, float *record_factor, uint32_t *limit, float *asked, double *used,
                           uint32_t column_edges[17], uint32_t column_centres[16],
-                          uint32_t row_edges[17], uint32_t row_centres[16], uint64_t *looks, size_t looks_len);
+                          uint32_t row_edges[17], uint32_t row_centres[16], uint64_t *looks, size_t looks_len,
+                          uint32_t edition);
 
 uint32_t tz_enhance_bytes(uint32_t width, uint32_t height, uint8_t *picture, size_t picture_len,
                           uint32_t across, uint32_t down, uint32_t bins, uint32_t min, uint32_t max,
                           uint32_t clip, float factor,
                           uint8_t *map, size_t map_len, uint32_t *scratch, size_t scratch_len,
-                          uint32_t *limit, float *asked, double *used);
+                          uint32_t *limit, float *asked, double *used, uint32_t edition);
 
 uint32_t tz_draw_bytes(uint32_t film, uint32_t width, uint32_t height,
                        const uint8_t *picture, size_t picture_len,
@@ -248,7 +259,7 @@ uint32_t tz_draw_bytes(uint32_t film, uint32_t width, uint32_t height,
                        uint32_t left, uint32_t top, uint32_t window_width, uint32_t window_height,
                        const uint8_t *map, size_t map_len, uint8_t *out, size_t out_len,
                        const uint32_t column_edges[17], const uint32_t column_centres[16],
-                       const uint32_t row_edges[17], const uint32_t row_centres[16]);
+                       const uint32_t row_edges[17], const uint32_t row_centres[16], uint32_t edition);
 
 uint32_t tz_read_sizes(const uint8_t *bytes, size_t len, uint32_t *sizes);
 
@@ -311,20 +322,20 @@ TZ_FUNCTION size_t tz_write_bytes(uint32_t width, uint32_t height)
 
 /* ---- the calls, with structs ---- */
 
-/* A record's nine numbers, in the order in which the flat functions have them. */
-TZ_FUNCTION void tz_record_numbers(const tz_record *record, uint32_t numbers[9])
+/* A record's ten numbers, in the order in which the flat functions have them. */
+TZ_FUNCTION void tz_record_numbers(const tz_record *record, uint32_t numbers[10])
 {
     const tz_settings *s = &record->settings;
-    const uint32_t n[9] = {record->film, record->width, record->height, s->across, s->down,
-                           s->bins, s->min, s->max, s->clip};
-    for (int i = 0; i < 9; i++)
+    const uint32_t n[10] = {record->film, record->width, record->height, s->across, s->down,
+                            s->bins, s->min, s->max, s->clip, s->edition};
+    for (int i = 0; i < 10; i++)
         numbers[i] = n[i];
 }
 
-/* A record of its nine numbers, its factor, and its tile columns and rows. */
-TZ_FUNCTION tz_record tz_record_of(const uint32_t n[9], float factor, const tz_axis *columns, const tz_axis *rows)
+/* A record of its ten numbers, its factor, and its tile columns and rows. */
+TZ_FUNCTION tz_record tz_record_of(const uint32_t n[10], float factor, const tz_axis *columns, const tz_axis *rows)
 {
-    tz_settings kept = {n[3], n[4], n[5], n[6], n[7], n[8], factor};
+    tz_settings kept = {n[3], n[4], n[5], n[6], n[7], n[8], factor, n[9]};
     tz_record record = {n[0], n[1], n[2], kept, *columns, *rows};
     return record;
 }
@@ -343,8 +354,9 @@ TZ_FUNCTION tz_footer tz_footer_of(uint32_t limit, float asked, double used)
  * the first `bins` entries of `scratch` are 0; all other entries keep their contents. `record` names the film,
  * its size, its settings and its tiles' edges and centres, and `footer` says what clipping did. The first
  * (2 x across x down) entries of `looks` are, for each tile, tiles row by row, its excess over its limit and the number of
- * bins that the leftover walk of the rule looks at, a look at a full bin counted too; with clip off both are 0. At factor
- * 1.0 map, scratch and list stay as they were. Give each film that is open at the same time a number of its own.
+ * bins that the leftover walk of the rule looks at, a look at a full bin counted too; with clip off both are 0. The edition
+ * of 1986 has no such walk, and its looks are 0. At factor 1.0 map, scratch and list stay as they were, in both editions.
+ * Give each film that is open at the same time a number of its own.
  *
  * A film may have any width from the grid across up and any height from the grid down up (else 5 and 6), to 4096 (1).
  *
@@ -357,14 +369,14 @@ TZ_FUNCTION uint32_t tzofnadir_prepare(uint32_t film, uint32_t width, uint32_t h
                                        uint16_t *map, size_t map_len, uint32_t *scratch, size_t scratch_len,
                                        tz_record *record, tz_footer *footer, uint64_t *looks, size_t looks_len)
 {
-    uint32_t r[9] = {0}, limit = 0;
+    uint32_t r[10] = {0}, limit = 0;
     tz_axis columns = {{0}, {0}}, rows = {{0}, {0}};
     float factor = 0, asked = 0;
     double used = 0;
     uint32_t refusal = tz_prepare(film, width, height, picture, picture_len, s->across, s->down, s->bins, s->min,
                                   s->max, s->clip, s->factor, map, map_len, scratch, scratch_len, r, &factor,
                                   &limit, &asked, &used, columns.edges, columns.centres, rows.edges, rows.centres,
-                                  looks, looks_len);
+                                  looks, looks_len, s->edition);
     if (refusal == TZ_DONE) {
         *record = tz_record_of(r, factor, &columns, &rows);
         *footer = tz_footer_of(limit, asked, used);
@@ -386,7 +398,8 @@ TZ_FUNCTION uint32_t tzofnadir_enhance(uint32_t width, uint32_t height, uint16_t
     float asked = 0;
     double used = 0;
     uint32_t refusal = tz_enhance(width, height, picture, picture_len, s->across, s->down, s->bins, s->min, s->max,
-                                  s->clip, s->factor, map, map_len, scratch, scratch_len, &limit, &asked, &used);
+                                  s->clip, s->factor, map, map_len, scratch, scratch_len, &limit, &asked, &used,
+                                  s->edition);
     if (refusal == TZ_DONE)
         *footer = tz_footer_of(limit, asked, used);
     return refusal;
@@ -399,7 +412,8 @@ TZ_FUNCTION uint32_t tzofnadir_enhance(uint32_t width, uint32_t height, uint16_t
  * the one that enhance gives.
  *
  * The film number, the size and the settings are those of the film to be drawn: refusal 15 compares them with the
- * record (bins 0 read as 128 on both sides), so that no film is drawn with the mappings of another. It also compares all
+ * record (bins 0 read as 128 on both sides), so that no film is drawn with the mappings of another. The edition is compared
+ * too, also with clip off and at factor 1.0, where both editions give the same picture. It also compares all
  * entries of the record's edges and centres, those behind the last too, with what the rule gives for that size and grid.
  *
  * Sizes: picture_len is width x height; map_len at least tz_map_entries; out_len exactly the window's area.
@@ -411,18 +425,19 @@ TZ_FUNCTION uint32_t tzofnadir_draw(uint32_t film, uint32_t width, uint32_t heig
                                     const tz_record *record, const tz_window *window,
                                     const uint16_t *map, size_t map_len, uint16_t *out, size_t out_len)
 {
-    uint32_t r[9];
+    uint32_t r[10];
     tz_record_numbers(record, r);
     return tz_draw(film, width, height, picture, picture_len, s->across, s->down, s->bins, s->min, s->max, s->clip,
                    s->factor, r, record->settings.factor, window->left, window->top, window->width, window->height,
                    map, map_len, out, out_len, record->columns.edges, record->columns.centres, record->rows.edges,
-                   record->rows.centres);
+                   record->rows.centres, s->edition);
 }
 
 /*
  * Count: the first half of prepare, the one that looks at the film. Afterwards the first (across x down x bins) entries
  * of `counts` say how many pixels of each tile are in each bin, tiles row by row, bins upward; all other entries keep
- * their contents. The clip setting is not looked at: the same counts serve every factor, and clip off.
+ * their contents. Neither the clip setting nor the edition is looked at: the same counts serve every factor, clip off, and
+ * both editions.
  *
  * Sizes: picture_len is width x height; counts_len at least tz_counts_entries.
  * Refusals, the first that applies: 1 to 9 upward, 31, 33, 13.
@@ -436,9 +451,9 @@ TZ_FUNCTION uint32_t tzofnadir_count(uint32_t width, uint32_t height, const uint
 
 /*
  * Map: the second half of prepare. It makes the mappings, the record and the footer from counts, and looks at no pixel,
- * so that a new factor asks no new count. With the counts that count left for this film, with the same sizes, grid,
- * bins and range, it leaves in map, scratch, list, record and footer what prepare leaves, at factor 1.0 too; the counts
- * stay, for the next factor.
+ * so that a new factor or the other edition asks no new count. With the counts that count left for this film, with the same
+ * sizes, grid, bins and range, it leaves in map, scratch, list, record and footer what prepare leaves, at factor 1.0 too;
+ * the counts stay, for the next factor.
  *
  * The counts are taken as lent, whoever wrote them. Counts of another film that add up cannot be told apart: mapped under
  * this film's number they give the other film's mappings, and draw takes them. Keep a film's counts beside its number.
@@ -453,13 +468,14 @@ TZ_FUNCTION uint32_t tzofnadir_map(uint32_t film, uint32_t width, uint32_t heigh
                                    uint32_t *scratch, size_t scratch_len, tz_record *record, tz_footer *footer,
                                    uint64_t *looks, size_t looks_len)
 {
-    uint32_t r[9] = {0}, limit = 0;
+    uint32_t r[10] = {0}, limit = 0;
     tz_axis columns = {{0}, {0}}, rows = {{0}, {0}};
     float factor = 0, asked = 0;
     double used = 0;
     uint32_t refusal = tz_map(film, width, height, s->across, s->down, s->bins, s->min, s->max, s->clip, s->factor,
                               counts, counts_len, map, map_len, scratch, scratch_len, r, &factor, &limit, &asked,
-                              &used, columns.edges, columns.centres, rows.edges, rows.centres, looks, looks_len);
+                              &used, columns.edges, columns.centres, rows.edges, rows.centres, looks, looks_len,
+                              s->edition);
     if (refusal == TZ_DONE) {
         *record = tz_record_of(r, factor, &columns, &rows);
         *footer = tz_footer_of(limit, asked, used);
@@ -469,9 +485,9 @@ TZ_FUNCTION uint32_t tzofnadir_map(uint32_t film, uint32_t width, uint32_t heigh
 
 /*
  * Prepare, enhance and draw on a film of bytes: picture, map and output are bytes, and all else is as in the call of
- * the same name above. Inside the profile (grid 8 by 8, range 0 to 255, bins 64, 128 or 256, and 0 read as 128) each
- * leaves the very numbers that the wide call leaves. So a record made by either prepare serves either draw, with the
- * mappings in bytes here and in 16 bits there. A call takes up to 80 KiB of stack: rows and mappings are widened there.
+ * the same name above. Inside the profile (grid 8 by 8, range 0 to 255, bins 64, 128 or 256, and 0 read as 128, edition
+ * ours) each leaves the very numbers that the wide call leaves. So a record made by either prepare serves either draw, with
+ * the mappings in bytes here and in 16 bits there. A call takes up to 80 KiB of stack: rows and mappings are widened there.
  *
  * Sizes as for the wide calls; an entry of the map buffer is a byte.
  * Refusals, the first that applies: 1 to 9 upward, 31, 10, 30, 11, 12, and of prepare 32. A byte lies in 0 to 255, so 13 is never given.
@@ -481,14 +497,14 @@ TZ_FUNCTION uint32_t tzofnadir_prepare_bytes(uint32_t film, uint32_t width, uint
                                              uint8_t *map, size_t map_len, uint32_t *scratch, size_t scratch_len,
                                              tz_record *record, tz_footer *footer, uint64_t *looks, size_t looks_len)
 {
-    uint32_t r[9] = {0}, limit = 0;
+    uint32_t r[10] = {0}, limit = 0;
     tz_axis columns = {{0}, {0}}, rows = {{0}, {0}};
     float factor = 0, asked = 0;
     double used = 0;
     uint32_t refusal = tz_prepare_bytes(film, width, height, picture, picture_len, s->across, s->down, s->bins,
                                         s->min, s->max, s->clip, s->factor, map, map_len, scratch, scratch_len, r,
                                         &factor, &limit, &asked, &used, columns.edges, columns.centres, rows.edges,
-                                        rows.centres, looks, looks_len);
+                                        rows.centres, looks, looks_len, s->edition);
     if (refusal == TZ_DONE) {
         *record = tz_record_of(r, factor, &columns, &rows);
         *footer = tz_footer_of(limit, asked, used);
@@ -506,7 +522,7 @@ TZ_FUNCTION uint32_t tzofnadir_enhance_bytes(uint32_t width, uint32_t height, ui
     double used = 0;
     uint32_t refusal = tz_enhance_bytes(width, height, picture, picture_len, s->across, s->down, s->bins, s->min,
                                         s->max, s->clip, s->factor, map, map_len, scratch, scratch_len, &limit,
-                                        &asked, &used);
+                                        &asked, &used, s->edition);
     if (refusal == TZ_DONE)
         *footer = tz_footer_of(limit, asked, used);
     return refusal;
@@ -521,12 +537,12 @@ TZ_FUNCTION uint32_t tzofnadir_draw_bytes(uint32_t film, uint32_t width, uint32_
                                           const tz_record *record, const tz_window *window,
                                           const uint8_t *map, size_t map_len, uint8_t *out, size_t out_len)
 {
-    uint32_t r[9];
+    uint32_t r[10];
     tz_record_numbers(record, r);
     return tz_draw_bytes(film, width, height, picture, picture_len, s->across, s->down, s->bins, s->min, s->max,
                          s->clip, s->factor, r, record->settings.factor, window->left, window->top, window->width,
                          window->height, map, map_len, out, out_len, record->columns.edges, record->columns.centres,
-                         record->rows.edges, record->rows.centres);
+                         record->rows.edges, record->rows.centres, s->edition);
 }
 
 /*

@@ -20,6 +20,7 @@ const char usage[] =
     "                             given: as many as hold the factor, up to 1024 and the greys in the range, and told\n"
     "          --range MIN:MAX    grey range, 0 to the file's maxval unless given; auto: the film's least and greatest grey\n"
     "          --clip 3.0|off     clip factor, 1.0 to 1024.0\n"
+    "          --edition ours|1986  the clip rule: ours unless given, or the one of 1986; not with --bytes\n"
     "          --bytes            work on bytes: maxval at most 255, grid 8x8, range 0:255, bins 64, 128 or 256\n"
     "Besides:  --force            a rendering or record that is there already is replaced; a scan that is read never is\n"
     "          --record FILE      writes what the rendering was made of, as JSON\n"

@@ -45,6 +45,13 @@ static int factor(const char *word, tz_settings *s)
     return end != word && *end == '\0';
 }
 
+/* Two words and no number: 0 and 1 mean them for C alone. */
+static int edition(const char *word, tz_settings *s)
+{
+    s->edition = strcmp(word, "1986") == 0 ? TZ_1986 : TZ_OURS;
+    return s->edition == TZ_1986 || strcmp(word, "ours") == 0;
+}
+
 /* A name is kept as it is, and none is empty. */
 static int kept(const char **place, const char *word)
 {
@@ -73,6 +80,8 @@ static int value(enum given which, const char *word, struct job *job)
         return range(word, job);
     case CLIP:
         return factor(word, s);
+    case EDITION:
+        return edition(word, s);
     case AT:
         return pair(word, ',', &w->left, &w->top);
     case SIZE:
@@ -104,6 +113,7 @@ static const struct option {
     {"--into", INTO, 1},       {"--jobs", JOBS, 1},   {"--records", RECORDS, 0}, {"--force", FORCE, 0},
     {"--output", OUTPUT, 1},   {"-o", OUTPUT, 1},     {"--quiet", QUIET, 0},     {"-q", QUIET, 0},
     {"--verbose", VERBOSE, 0}, {"-v", VERBOSE, 0},    {"--json", AS_JSON, 0},    {"--scan", SCAN, 1},
+    {"--edition", EDITION, 1},
 };
 
 /* The option that a word names, alone or with `=value` behind it. */
@@ -120,7 +130,7 @@ static const struct option *option_of(const char *word)
 /* Which options a command takes. */
 static unsigned taken(enum command command)
 {
-    unsigned settings = GRID | BINS | RANGE | CLIP | BYTES | RECORD | FORCE | OUTPUT | VERBOSE;
+    unsigned settings = GRID | BINS | RANGE | CLIP | EDITION | BYTES | RECORD | FORCE | OUTPUT | VERBOSE;
     unsigned of_command = command == ENHANCE  ? settings | INTO | RECORDS | JOBS
                           : command == WINDOW ? settings | AT | SIZE
                           : command == INFO   ? AS_JSON
@@ -155,6 +165,8 @@ static int take_option(char **argv, int *at, struct job *job)
         return bad_words("a value is missing behind", option->name);
     if (value(option->which, word, job))
         return 0;
+    if (option->which == EDITION)
+        return bad_words("--edition takes one of two words, ours or 1986; not understood", word);
     say("%s does not take this value", option->name);
     return bad_words("not understood", word);
 }

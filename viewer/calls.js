@@ -10,14 +10,31 @@ export const USUAL_BINS = 128; // what bins 0 means
 export const MOST_ENTRIES = MOST_GRID * MOST_GRID * MOST_BINS;
 const MEMORY_PAGE = 65536;
 
-// Where the answers of the calls stand, behind the address of the cells.
-const CELL = {record: 0, factor: 36, limit: 40, asked: 44, used: 48, count: 56, part: 64, sizes: 80, digest: 96,
-  columnEdges: 176, columnCentres: 244, rowEdges: 308, rowCentres: 376, looks: 440};
-const MOST_LOOKS = 2 * MOST_GRID * MOST_GRID; // what map lists of each tile: its excess, and the looks of its leftover walk
-const CELL_BYTES = CELL.looks + 8 * MOST_LOOKS;
+// The editions of the clip rule by the words that records and people have for them; their places are the numbers for the calls.
+export const EDITIONS = ['ours', '1986'];
 
 // How many edges and centres a record has, in the order in which the calls take them.
 const AXES = {columnEdges: MOST_GRID + 1, columnCentres: MOST_GRID, rowEdges: MOST_GRID + 1, rowCentres: MOST_GRID};
+const RECORD_NUMBERS = 10; // film, width, height, five settings, clip and edition
+const MOST_LOOKS = 2 * MOST_GRID * MOST_GRID; // what map lists of each tile: its excess, and the looks of its leftover walk
+
+// How many bytes each answer of the calls has: the digest's text ends in a NUL, and sizes are three numbers.
+const ANSWERS = {record: 4 * RECORD_NUMBERS, factor: 4, limit: 4, asked: 4, used: 8, count: 8, part: 8, sizes: 12, digest: 65,
+  ...Object.fromEntries(Object.entries(AXES).map(([name, count]) => [name, 4 * count])), looks: 8 * MOST_LOOKS};
+
+// Where the answers stand, behind the address of the cells: one behind the other, each at a multiple of eight.
+function placesOf(sizes) {
+  const places = {};
+  let top = 0;
+  for (const [name, bytes] of Object.entries(sizes)) {
+    places[name] = top;
+    top += Math.ceil(bytes / 8) * 8;
+  }
+  return places;
+}
+
+const CELL = placesOf(ANSWERS);
+const CELL_BYTES = CELL.looks + ANSWERS.looks;
 
 // Memory that could not be had. It is told for the one film that asked.
 export class NoMemory extends Error {
@@ -85,7 +102,8 @@ function makeRoom(exports, ledger) {
   };
 }
 
-// The settings in the order in which the calls take them, without and with the clip setting.
+// The settings in the order in which the calls take them, without and with the clip setting. The edition stands apart, since
+// the calls take it last of all.
 export function tilingOf(s) { return [s.across, s.down, s.bins, s.min, s.max]; }
 export function settingsOf(s) { return [...tilingOf(s), s.clip, s.factor]; }
 function sizeOf(film) { return [film.width, film.height]; }
@@ -131,11 +149,12 @@ function filmCalls(exports, room, cells) {
     map(film, s, counts = MOST_ENTRIES, maps = MOST_ENTRIES) {
       const refusal = exports.tz_map(film.number, ...sizeOf(film), ...settingsOf(s), film.counts, BigInt(counts),
         film.map, BigInt(maps), film.scratch, BigInt(MOST_BINS), cells + CELL.record, cells + CELL.factor,
-        cells + CELL.limit, cells + CELL.asked, cells + CELL.used, ...axes, cells + CELL.looks, BigInt(MOST_LOOKS)) >>> 0;
+        cells + CELL.limit, cells + CELL.asked, cells + CELL.used, ...axes, cells + CELL.looks, BigInt(MOST_LOOKS),
+        s.edition) >>> 0;
       const view = room.view(cells, CELL_BYTES);
       return {
         refusal,
-        record: {numbers: room.u32(cells + CELL.record, 9).slice(), factor: view.getFloat32(CELL.factor, true),
+        record: {numbers: room.u32(cells + CELL.record, RECORD_NUMBERS).slice(), factor: view.getFloat32(CELL.factor, true),
           axes: Object.fromEntries(Object.keys(AXES).map(name => [name, axis(name).slice()]))},
         footer: {limit: view.getUint32(CELL.limit, true), asked: view.getFloat32(CELL.asked, true),
           used: view.getFloat64(CELL.used, true)},
@@ -145,11 +164,11 @@ function filmCalls(exports, room, cells) {
     },
     // The settings are those wanted, the record the one that map left: the library compares them (15).
     draw(film, s, record, w, out) {
-      room.u32(cells + CELL.record, 9).set(record.numbers);
+      room.u32(cells + CELL.record, RECORD_NUMBERS).set(record.numbers);
       for (const name of Object.keys(AXES)) axis(name).set(record.axes[name]);
       return exports.tz_draw(film.number, ...sizeOf(film), ...pictureOf(film), ...settingsOf(s), cells + CELL.record,
         record.factor, w.left, w.top, w.width, w.height, film.map, BigInt(MOST_ENTRIES), out,
-        BigInt(w.width * w.height), ...axes) >>> 0;
+        BigInt(w.width * w.height), ...axes, s.edition) >>> 0;
     },
   };
 }

@@ -87,11 +87,11 @@ export function openFilm(module, ledger, number, input) {
 
 export function closeFilm(film) { film.library.room.giveBack(); }
 
-// Makes the film's mappings those of the settings. A new factor alone maps the counts that are there; a refusal leaves
-// counts and mappings as they were, and they stay those of the settings that they were made for.
+// Makes the film's mappings those of the settings. A new factor or another edition alone maps the counts that are there; a
+// refusal leaves counts and mappings as they were, and they stay those of the settings that they were made for.
 export function settle(film, s) {
   const tiling = tilingOf(s).join();
-  const all = settingsOf(s).join();
+  const all = [...settingsOf(s), s.edition].join();
   if (film.countedFor !== tiling) {
     // judged first, so that of several refusals the one is told that prepare and the command line give: 10 before 13
     const judged = film.library.judge(film, s);
@@ -201,7 +201,7 @@ export function probe(film, s, at) {
   // at factor 1.0 nothing is mapped, and the map buffer holds what an earlier factor left
   const unmapped = s.clip && s.factor === 1;
   return {
-    x: at.x, y: at.y, bins, tile, rendered, dot,
+    x: at.x, y: at.y, bins, tile, rendered, dot, edition: s.clip ? s.edition : 0,
     scanned: room.u16(film.picture + 2 * (at.y * film.width + at.x), 1)[0],
     counts: room.u32(film.counts + 4 * first, bins).slice(),
     mapping: unmapped ? null : room.u16(film.map + 2 * first, bins).slice(),

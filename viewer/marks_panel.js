@@ -192,7 +192,7 @@ addSection({id: 'marks', title: 'Marks', fill: film => { if (element('marks-titl
   body: element('marks-template').content.firstElementChild});
 addKey({keys: ['n'], what: 'the next mark (with Shift the one before)',
   act: event => chooseNextMark(event.shiftKey ? -1 : 1, event)});
-addKey({keys: ['e'], what: 'edit the chosen mark', act: editChosen});
+addKey({keys: ['w'], what: 'write: edit the chosen mark', act: editChosen});
 addKey({keys: ['Delete'], what: 'remove the chosen mark', act: removeChosen});
 addKey({keys: Object.keys(FAR_STEPS).map(key => `ctrl+${key}`), names: ['Ctrl arrows'], what: 'move the chosen mark by one pixel',
   act: nudgeChosen});

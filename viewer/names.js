@@ -1,6 +1,6 @@
 // The names of saved files. No two renderings share one: it has the film's number, every setting as used, and a piece of the
 // film's digest.
-import {USUAL_BINS} from './calls.js';
+import {EDITIONS, USUAL_BINS} from './calls.js';
 import {printG} from './record.js';
 
 const DIGEST_PIECE = 12;
@@ -24,7 +24,7 @@ function clipName(s) { return s.clip ? `clip${printG(Math.fround(s.factor), 9)}`
 // film: its name, number and digest. The factor in nine digits tells any two 32-bit floats apart; bins 0 stands as 128.
 export function renderingName(film, s) {
   return `${safeName(film.name)}-rendered-film${film.number}-${s.across}x${s.down}-${s.bins || USUAL_BINS}bins-` +
-    `${s.min}to${s.max}-${clipName(s)}-${film.digest.slice(0, DIGEST_PIECE)}`;
+    `${s.min}to${s.max}-${clipName(s)}-${EDITIONS[s.edition]}-${film.digest.slice(0, DIGEST_PIECE)}`;
 }
 
 // The view's name has what it shows beside the rendering's: way of looking, zoom, place, turn and display.

@@ -113,5 +113,8 @@ export function nearestStep(list, value) {
 
 // ---- how numbers are shown ----
 
+// The edition of the clip rule in words.
+export function editionWords(edition) { return edition ? 'edition of 1986' : 'our edition'; }
+
 // A factor in at most five digits behind the point; all its digits stand in the record.
 export function shownFactor(x) { return Number.isFinite(x) ? String(Math.round(x * 1e5) / 1e5) : String(x); }

@@ -13,7 +13,7 @@ import {wireMarks} from './marks_panel.js';
 import {dueMeasures, wireMeasures} from './measure_panel.js';
 import './overlay.js';
 import {dueOverview, wireOverview} from './overview.js';
-import {changeClip, fillPanel, forgetTyping, resetDisplay, setInvert, stepFactor, wirePanel} from './panel.js';
+import {changeClip, changeEdition, fillPanel, forgetTyping, resetDisplay, setInvert, stepFactor, wirePanel} from './panel.js';
 import {addKey, parts} from './parts.js';
 import {STEPS} from './place.js';
 import {chooseTool, wirePointer} from './pointer.js';
@@ -55,6 +55,8 @@ addKey({keys: ['h'], what: 'mirror the film, for display', act: flip});
 addKey({keys: [','], what: 'factor down', act: event => stepFactor(-1, event)});
 addKey({keys: ['.'], what: 'factor up', act: event => stepFactor(1, event)});
 addKey({keys: ['c'], what: 'clip off, on', act: event => changeClip(!state.film.settings.clip, event)});
+addKey({keys: ['e'], what: 'edition of the clip rule: ours, 1986',
+  act: onceEach(event => changeEdition(1 - state.film.settings.edition, event))});
 addKey({keys: ['i'], what: 'invert the display', act: event => setInvert(!state.film.display.invert, event)});
 addKey({keys: ['r'], what: 'reset the display', act: resetDisplay});
 addKey({keys: ['t'], what: 'outline the tile under the pointer', bare: true, act: () => showTile(!state.tileShown)});

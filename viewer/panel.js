@@ -1,7 +1,7 @@
 // The panel: settings of the rendering, and the display. Boxes hand any number to the library as it is typed;
 // sliders stay within what it takes.
 import {asking, tellBusy} from './ask.js';
-import {USUAL_BINS} from './calls.js';
+import {EDITIONS, USUAL_BINS} from './calls.js';
 import {element, setText} from './dom.js';
 import {canRedo, canUndo, keepStep} from './history.js';
 import {repaint} from './look.js';
@@ -18,6 +18,8 @@ const KEY_STEPS = 5;
 const TYPING = 400; // ms without a key until a typed number is taken; Enter takes it at once
 const SETTINGS = ['across', 'down', 'bins', 'min', 'max', 'factor'];
 const DISPLAY = ['level', 'width'];
+const MAPPED = ['factor', 'clip', 'edition']; // what maps the counts that are there
+const SWITCHES = ['bins-chosen', 'clip', 'edition', 'invert', 'auto', 'reset']; // to and fro are two steps for undo, however quick
 const NAMES = {across: 'Grid across', down: 'Grid down', bins: 'Bins', min: 'Min', max: 'Max', factor: 'Factor',
   level: 'Level', width: 'Window'};
 
@@ -28,7 +30,7 @@ const typing = new Map(); // timers of boxes that are being typed into
 export function startSettings(film) {
   const across = nearestGrid(8, film.fits.across);
   const down = nearestGrid(8, film.fits.down);
-  film.settings = {across, down, bins: 0, min: 0, max: film.maxval, clip: 1, factor: 3};
+  film.settings = {across, down, bins: 0, min: 0, max: film.maxval, clip: 1, factor: 3, edition: 0};
   film.binsChosen = true;
   chooseBins(film);
   film.notes = [];
@@ -55,10 +57,10 @@ export function mostLevel(film) { return Math.max(film.maxval, Math.min(4095, fi
 // act changes the settings of a film, or its display: one step for undo, and then it is seen. what: its name, by which changes in
 // quick succession are one step.
 export function changeSettings(film, what, event, act) {
-  keepStep(film, 'settings', what);
+  keepStep(film, 'settings', SWITCHES.includes(what) ? '' : what);
   act(film.settings);
   chooseBins(film);
-  if (film === state.film) want('draw', what === 'factor' || what === 'clip' ? 'factor' : 'settings', event);
+  if (film === state.film) want('draw', MAPPED.includes(what) ? 'factor' : 'settings', event);
   fillPanel();
 }
 
@@ -67,7 +69,7 @@ function chooseBins(film) {
 }
 
 export function changeDisplay(film, what, event, act) {
-  keepStep(film, 'display', what);
+  keepStep(film, 'display', SWITCHES.includes(what) ? '' : what);
   act(film.display);
   repaint('display', event);
   fillCaptions();
@@ -95,6 +97,14 @@ function changeRange(min, max, event) {
 export function changeClip(on, event) {
   const film = filmReady();
   if (film) changeSettings(film, 'clip', event, settings => { settings.clip = on ? 1 : 0; });
+}
+
+// edition: its place in EDITIONS. The bins stay, so nothing is counted anew.
+export function changeEdition(edition, event) {
+  const film = filmReady();
+  if (film && film.settings.edition !== edition) {
+    changeSettings(film, 'edition', event, settings => { settings.edition = edition; });
+  }
 }
 
 // By the keys: some steps of the slider down or up.
@@ -317,6 +327,7 @@ function emptyPanel() {
   for (const id of ['film-size', 'film-greys', 'bins-note', 'display-note', 'auto-note']) element(id).textContent = '';
   for (const id of ['range-low', 'range-high']) element(id).style.display = 'none';
   element('typed-note').hidden = true;
+  fillEdition(null);
   drawHistogram(null);
 }
 
@@ -349,12 +360,18 @@ function fillBoxes(film) {
   element('bins-note').textContent = film.binsChosen ? `bins chosen by the range ${settings.min} to ${settings.max}`
     : 'let the range choose the bins';
   element('clip').checked = settings.clip === 1;
-  for (const id of ['factor', 'factor-slider']) element(id).classList.toggle('idle', settings.clip === 0);
+  fillEdition(settings.edition);
+  for (const id of ['factor', 'factor-slider', 'edition-set']) element(id).classList.toggle('idle', settings.clip === 0);
   element('invert').checked = display.invert;
   element('auto').checked = display.auto;
   element('display-note').textContent = endsOf(display);
   const own = displayOf(film, 'scanned');
   element('auto-note').textContent = display.auto ? endsOf(own) : '';
+}
+
+// edition: its place in EDITIONS, or null.
+function fillEdition(edition) {
+  EDITIONS.forEach((name, i) => element(`edition-${name}`).setAttribute('aria-pressed', String(edition === i)));
 }
 
 // Which greys are black and white.
@@ -427,6 +444,7 @@ export function wirePanel() {
     state.film.binsChosen = event.target.checked;
   });
   element('clip').onchange = event => changeClip(event.target.checked, event);
+  EDITIONS.forEach((name, i) => { element(`edition-${name}`).onclick = event => changeEdition(i, event); });
   element('range-all').onclick = event => changeRange(0, state.film.maxval, event);
   element('range-film').onclick = event => {
     const {least, greatest, maxval} = state.film;

@@ -1,6 +1,7 @@
 // The pixel that is read: its greys, its tile, and the tile's plot.
 import {element, setText} from './dom.js';
 import {drawOverlays, look, pixelOf, placeMarks} from './look.js';
+import {editionWords} from './numbers.js';
 import {drawTilePlot} from './plots.js';
 import {filmReady, state, want} from './state.js';
 
@@ -41,9 +42,11 @@ function dotWords({dot}) {
 }
 
 // What clipping took of the tile: what stood above its limit, and how many bins the walk that hands the rest out looks at.
+// The rule of 1986 has no such walk.
 function tileNote(probe) {
   if (!probe) return '';
-  return probe.mapping ? `E ${probe.excess}, looks ${probe.looks}` : 'factor 1.0: nothing is mapped';
+  const edition = probe.edition ? ` (${editionWords(probe.edition)}: no walk)` : '';
+  return probe.mapping ? `E ${probe.excess}, looks ${probe.looks}${edition}` : 'factor 1.0: nothing is mapped';
 }
 
 export function fillReading(probe) {

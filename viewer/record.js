@@ -1,5 +1,5 @@
 // The record of a rendering: the same text as the command line's --record, down to the last digit.
-import {USUAL_BINS} from './calls.js';
+import {EDITIONS, USUAL_BINS} from './calls.js';
 
 const HALF_VIEW = new DataView(new ArrayBuffer(8));
 
@@ -62,12 +62,13 @@ function fileText(what, name, digest, bytes, film) {
     `    "width": ${film.width},\n    "height": ${film.height},\n    "maxval": ${film.maxval}\n  },\n`;
 }
 
-// All settings as used: bins 0 stands as 128, and a factor that does not count as null.
-function settingsText(s) {
+// All settings as used: bins 0 stands as 128, and a factor that does not count as null. isNamed: whether the edition is said.
+function settingsText(s, isNamed) {
   const bins = s.bins || USUAL_BINS;
   const factor = s.clip ? printG(Math.fround(s.factor), 9) : 'null';
+  const edition = isNamed ? `    "edition": "${EDITIONS[s.edition]}",\n` : '';
   return `  "settings": {\n    "across": ${s.across},\n    "down": ${s.down},\n    "bins": ${bins},\n    "min": ${s.min},\n` +
-    `    "max": ${s.max},\n    "clip": ${s.clip ? 'true' : 'false'},\n    "factor": ${factor},\n    "by_bytes": false\n  },\n`;
+    `    "max": ${s.max},\n    "clip": ${s.clip ? 'true' : 'false'},\n    "factor": ${factor},\n${edition}    "by_bytes": false\n  },\n`;
 }
 
 // One of the two numbers of each tile, tiles row by row; at factor 1.0 nothing is listed.
@@ -76,13 +77,14 @@ function tilesText(what, which, s, looks) {
   return `    "${what}": [${listed.join(', ')}]`;
 }
 
-// made: what map made of the film with these settings, its footer and its list of looks
-export function recordText(version, film, output, s, made) {
+// made: what map made of the film with these settings, its footer and its list of looks. isNamed: whether the edition is said, as
+// it was not before there were two.
+export function recordText(version, film, output, s, made, isNamed = true) {
   const footer = made.footer;
   return `{\n  "program": "tzofnadir",\n  "version": "${version}",\n  "command": "enhance",\n` +
     fileText('input', film.name, film.digest, film.bytes, film) +
     fileText('output', output.name, output.digest, output.bytes, film) +
-    settingsText(s) +
+    settingsText(s, isNamed) +
     `  "window": null,\n  "limit": ${footer.limit},\n  "factor_asked": ${printG(footer.asked, 9)},\n` +
     `  "factor_used": ${printG(footer.used, 17)},\n  "tiles": {\n` +
     `${tilesText('excess', 0, s, made.looks)},\n${tilesText('looks', 1, s, made.looks)}\n  }\n}\n`;

@@ -1,6 +1,6 @@
 // What is told behind a refusal's sentence: this film's numbers and, where there is one, the way out. The same numbers as the
 // command line's messages have (station/refuse.c), in the words of the page. Messages alone hang on what is read here.
-import {LEAST_GRID, MOST_GREY, MOST_GRID, MOST_SIDE, USUAL_BINS} from './calls.js';
+import {EDITIONS, LEAST_GRID, MOST_GREY, MOST_GRID, MOST_SIDE, USUAL_BINS} from './calls.js';
 import {printG} from './record.js';
 
 function isWhite(byte) { return byte === 32 || byte === 9 || byte === 13 || byte === 10; }
@@ -227,7 +227,7 @@ function moreOfBins(film, s) {
 function moreOfAll(film, s) {
   const clip = s.clip ? `factor ${printG(Math.fround(s.factor), 9)}` : 'clip off';
   return [`The settings were grid ${s.across} by ${s.down}, ${s.bins === 0 ? USUAL_BINS : s.bins} bins, ` +
-    `range ${s.min} to ${s.max} (${s.max >= s.min ? s.max - s.min + 1 : 0} greys), ${clip}.`];
+    `range ${s.min} to ${s.max} (${s.max >= s.min ? s.max - s.min + 1 : 0} greys), ${clip}, edition ${EDITIONS[s.edition]}.`];
 }
 
 export function moreOfSettings(refusal, film, s) {

@@ -1,11 +1,13 @@
 // The report of a reading, as text: written, sealed, read again and judged. Functions of values alone. Its form is in
 // docs/MEASURE.md: the record of the rendering, one member more, and a digest over all that stands before it.
+import {EDITIONS} from './calls.js';
 import {boxOf, judgedMarks, kindName, measuredMark} from './marks.js';
 import {LIMITS, dipOf, distanceMm, distancePixels, lanesTaken, millionthsOf, pixelInside, profileOf, rectangleInside,
   shownMillionths, shownSamples, squaredOf, stepsOf} from './measure.js';
 
-export const REPORT_FORM = 1;
-export const EDITION = 'tzofnadir';
+export const REPORT_FORM = 2;
+const FIRST_FORM = 1; // of when there was one edition of the clip rule: settings do not name it, and the report's is its program's
+const FIRST_EDITION = 'tzofnadir';
 const RECORD_END = '\n}\n';
 const SEAL = /^([^]*,\n) {2}"report_sha256": "([0-9a-f]{64})"\n\}\n$/;
 
@@ -70,14 +72,18 @@ function markTold(film, mark, pitch, resolution, picture) {
   return {number: mark.number, kind: mark.kind, name: kindName(mark.kind), ...box, mm, scanned, text: mark.text, picture};
 }
 
+// What a report of a form says of its edition, and whether its record does.
+function editionTold(form, edition) { return form === FIRST_FORM ? FIRST_EDITION : EDITIONS[edition]; }
+export function namesEdition(form) { return form !== FIRST_FORM; }
+
 // All that a report tells beside the record. reading: {display, pitch, resolution, line, region, marks}, pitch and resolution as
 // typed; pictures: for each mark {left, top, width, height, block, scanned, rendered}, the last two as PNG in base64.
-export function toldOf(film, reading, pictures) {
+export function toldOf(film, reading, pictures, edition, form = REPORT_FORM) {
   const pitch = unitsOf(reading.pitch);
   const resolution = unitsOf(reading.resolution);
   const units = value => value === null ? null : digitsOf(shownMillionths(value));
   return {
-    form: REPORT_FORM, edition: EDITION, measured: 'scanned', display: {...reading.display},
+    form, edition: editionTold(form, edition), measured: 'scanned', display: {...reading.display},
     pitch_um: units(pitch), resolution_um: units(resolution),
     line: lineTold(film, reading.line, pitch),
     region: reading.region && boxTold(film, reading.region, pitch, resolution),
@@ -129,12 +135,14 @@ export function filmNamedIn(value) {
   return {film: {name: file, digest: sha256, bytes, width, height, maxval}};
 }
 
+// Settings that name no edition are of ours.
 function settingsFrom(s) {
+  const edition = s.edition === undefined ? 0 : EDITIONS.indexOf(s.edition);
   const whole = ['across', 'down', 'bins', 'min', 'max'].every(name => Number.isInteger(s[name]) && s[name] >= 0);
   const factor = s.clip === false ? s.factor === null : s.clip === true && typeof s.factor === 'number';
-  if (!whole || !factor || s.by_bytes !== false) return null;
+  if (!whole || !factor || edition < 0 || s.by_bytes !== false) return null;
   const {across, down, bins, min, max} = s;
-  return {across, down, bins, min, max, clip: s.clip ? 1 : 0, factor: s.clip ? Math.fround(s.factor) : 3};
+  return {across, down, bins, min, max, clip: s.clip ? 1 : 0, factor: s.clip ? Math.fround(s.factor) : 3, edition};
 }
 
 function displayFrom(display) {
@@ -180,21 +188,38 @@ function wordsFrom(value) {
   return /^[\w.+-]{1,40}$/.test(value.version) ? {version: value.version, output: output.file} : null;
 }
 
-// What a report says was looked at: {version, output, settings, reading}, or {fault}. film: the one that it names.
+// What form and edition a report has, or why that is none: {form}, or {fault}.
+function formFrom(told, settings) {
+  const {form, edition} = told;
+  const has = name => `“${name}”`;
+  if (form !== FIRST_FORM && form !== REPORT_FORM) {
+    return {fault: `its form is ${JSON.stringify(form)}, and this page reads ${FIRST_FORM} and ${REPORT_FORM}.`};
+  }
+  const editions = form === FIRST_FORM ? [FIRST_EDITION] : EDITIONS;
+  if (!editions.includes(edition)) {
+    return {fault: `its edition is ${JSON.stringify(edition)}; a report of form ${form} has ${editions.map(has).join(' or ')}.`};
+  }
+  if (settings && edition !== editionTold(form, settings.edition)) {
+    return {fault: `its edition is ${has(edition)}, and its settings name ${has(EDITIONS[settings.edition])}.`};
+  }
+  return {form};
+}
+
+// What a report says was looked at: {form, version, output, settings, reading}, or {fault}. film: the one that it names.
 export function readingFrom(film, value) {
   const told = Object(value.report);
   const words = wordsFrom(value);
   const settings = settingsFrom(Object(value.settings));
   const display = displayFrom(told.display);
-  if (told.form !== REPORT_FORM) return {fault: `its form is ${JSON.stringify(told.form)}, and this page reads ${REPORT_FORM}.`};
-  if (told.edition !== EDITION) return {fault: `its edition is ${JSON.stringify(told.edition)}; this page has “${EDITION}”.`};
+  const {form, fault} = formFrom(told, settings);
+  if (fault) return {fault};
   if (!words || !settings || !display) return {fault: 'its settings, its display or its names are not of this page.'};
   const pitch = umFrom('pixel pitch', told.pitch_um);
   const resolution = umFrom('basic resolution', told.resolution_um);
   if (pitch.fault || resolution.fault) return {fault: pitch.fault || resolution.fault};
   const places = placesFrom(film, told);
   if (places.fault) return places;
-  return {...words, settings, reading: {display, pitch: pitch.text, resolution: resolution.text, ...places}};
+  return {form, ...words, settings, reading: {display, pitch: pitch.text, resolution: resolution.text, ...places}};
 }
 
 // Where the report made again is not the one that was read: the first line that differs.

@@ -1,4 +1,5 @@
 // The report as one page for the browser's print. From the same values as the JSON, so that both say the same.
+import {EDITIONS} from './calls.js';
 import {kindText} from './marks.js';
 
 function safeText(value) {
@@ -33,7 +34,7 @@ function displayRow(d) {
 function factsTable(facts) {
   const {film, output, told} = facts;
   return `<table class="facts">${fileRow('Film as scanned', film, film)}${fileRow('Rendered film', output, film)}` +
-    settingsRow(facts.settings, facts.footer) + factRow('Edition', safeText(told.edition)) + displayRow(told.display) +
+    settingsRow(facts.settings, facts.footer) + factRow('Edition of the clip rule', EDITIONS[facts.settings.edition]) + displayRow(told.display) +
     factRow('Pixel pitch', told.pitch_um ? shownCell(told.pitch_um, 'µm') : 'not entered: lengths are in pixels') +
     factRow('Basic resolution', told.resolution_um ? `SR<sub>b</sub> ${shownCell(told.resolution_um, 'µm')}` : 'not entered') +
     `${factRow('Made by', `Tzofnadir ${safeText(facts.version)}, report form ${told.form}`)}</table>`;

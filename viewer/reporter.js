@@ -7,7 +7,8 @@ import {renderingName} from './names.js';
 import {UNIT, zoomOf} from './place.js';
 import {base64Of, pngOf} from './png.js';
 import {printG, recordText} from './record.js';
-import {changedText, differsAt, filmNamedIn, openSeal, readingFrom, sealed, toldOf, unitsOf, unsealed} from './report.js';
+import {REPORT_FORM, changedText, differsAt, filmNamedIn, namesEdition, openSeal, readingFrom, sealed, toldOf, unitsOf,
+  unsealed} from './report.js';
 import {reportHtml} from './report_html.js';
 import {displayOf, shadeTable} from './shades.js';
 
@@ -61,8 +62,9 @@ function digestOfText(library, text) {
   return library.digest(at, bytes.length);
 }
 
-// names: {version, input, output} where a report is made again under the names that it has.
+// names: {version, input, output, form} where a report is made again under the names and in the form that it has.
 export function makeReport(film, s, reading, names) {
+  const form = names.form || REPORT_FORM;
   const file = renderedFile(film, s);
   if (file.refusal) return file;
   const name = renderingName(film, s);
@@ -72,8 +74,8 @@ export function makeReport(film, s, reading, names) {
   if (refused) return refused;
   const input = {name: names.input || film.name, digest: film.digest, bytes: film.bytes, width: film.width,
     height: film.height, maxval: film.maxval};
-  const told = toldOf(scannedOf(film), reading, pictures);
-  const body = unsealed(recordText(names.version, input, output, s, film), told);
+  const told = toldOf(scannedOf(film), reading, pictures, s.edition, form);
+  const body = unsealed(recordText(names.version, input, output, s, film, namesEdition(form)), told);
   const seal = digestOfText(film.library, body);
   const footer = {limit: film.footer.limit, asked: printG(film.footer.asked, 9), used: printG(film.footer.used, 17)};
   return {name: `${name}-report`, seal, text: sealed(body, seal),
@@ -136,7 +138,8 @@ function otherFilm(held, named, looked) {
 function madeAgain(film, text, value, named) {
   const found = readingFrom(named, value);
   if (found.fault) return found;
-  const made = makeReport(film, found.settings, found.reading, {version: found.version, input: named.name, output: found.output});
+  const made = makeReport(film, found.settings, found.reading, {version: found.version, input: named.name, output: found.output,
+    form: found.form});
   if (made.refusal) return {fault: `its settings are refused, ${made.refusal.number}: ${made.refusal.sentence}`};
   if (made.text !== text) return {fault: differsAt(text, made.text)};
   return {number: film.number, version: found.version, settings: found.settings, reading: found.reading};

@@ -6,7 +6,7 @@ import {filmDigest} from './greys.js';
 import {keptSaved} from './history.js';
 import {dividerDot, howShown, keptOf, look, pairFilm, partShown} from './look.js';
 import {viewName} from './names.js';
-import {shownFactor} from './numbers.js';
+import {editionWords, shownFactor} from './numbers.js';
 import {endsOf} from './panel.js';
 import {printG} from './record.js';
 import {displayOf} from './shades.js';
@@ -122,7 +122,8 @@ export function settingsWords(s, footer) {
   const asked = footer ? `factor asked ${printG(footer.asked, 9)}, used ${shownFactor(footer.used)}, L ${footer.limit}`
     : `factor ${printG(Math.fround(s.factor), 9)}`;
   const clip = s.clip ? asked : 'clip off';
-  return `grid ${s.across} by ${s.down}, ${s.bins || USUAL_BINS} bins, range ${s.min} to ${s.max}, ${clip}`;
+  return `grid ${s.across} by ${s.down}, ${s.bins || USUAL_BINS} bins, range ${s.min} to ${s.max}, ${clip}, ` +
+    editionWords(s.edition);
 }
 
 function displayWords(film, display) {

@@ -5,6 +5,7 @@ import {listFilms} from './films.js';
 import {showLens, lensWindow} from './lens.js';
 import {MARGIN_DOTS, clearPanes, keepDrawn, keptOf, look, paintView, pairFilm, pairIsThere, panes, placeNow,
   placeUnder} from './look.js';
+import {editionWords} from './numbers.js';
 import {fillFooter} from './panel.js';
 import {fillReading} from './reading.js';
 import {filmReady, state, want, wanted} from './state.js';
@@ -105,7 +106,8 @@ export function fillCaptions() {
     const label = element(i === 0 ? 'label-scanned' : 'label-rendered');
     const own = film && film.ready && film.display.auto ? ', by its own greys' : '';
     const refused = film && film.refusal && film !== state.film ? ', refused' : '';
-    const words = `${side === 'rendered' ? 'rendered' : `as scanned${own}`}${refused}`;
+    const edition = film && film.ready && film.settings.edition ? `, ${editionWords(film.settings.edition)}` : '';
+    const words = `${side === 'rendered' ? `rendered${edition}` : `as scanned${own}`}${refused}`;
     const size = film && film.ready ? `${film.width} × ${film.height} · ` : '';
     const none = look.mode === 'pair' && i > 0 ? 'no second film' : words;
     label.querySelector('.what').textContent = film ? `film ${film.number} · ${size}${words}` : none;

@@ -115,6 +115,10 @@ print(*(library.tz_write_bytes(*sides) for sides in ((512, 384), (0, 9), (4096, 
     saw=$?
     if [ "$saw" -eq 0 ]; then ok=yes; else ok=no; fi
     report "$ok" "a record's edges and centres: the rule's, and no others are drawn with" "status $saw: $(cat wrote)$(tail -n 1 said)"
+    python3 -B "$top/station/faults/editions.py" "$top/examples" "$prefix/lib/libtzofnadir.so" film.pgm >wrote 2>said
+    saw=$?
+    if [ "$saw" -eq 0 ]; then ok=yes; else ok=no; fi
+    report "$ok" "the editions: 15 to the other's record, 30 on bytes, and the second program's numbers" "status $saw: $(cat wrote)$(tail -n 1 said)"
     python3 -B "$top/station/faults/threads.py" "$top/examples" "$prefix/lib/libtzofnadir.so" film.pgm >wrote 2>said
     saw=$?
     if [ "$saw" -eq 0 ]; then ok=yes; else ok=no; fi

@@ -28,7 +28,7 @@ told='--bins 4097 '
 try 'bins 4097: what was asked' 9 enhance film.pgm "$out" --bins 4097
 told='Asked were 128 bins; the range 100 to 199 has 100 greys: --bins 100 is the most'
 try 'more bins than greys: the numbers' 31 enhance film.pgm "$out" --bins 0 --range 100:199
-told='--clip 0.5.'
+told='--clip 0.5 --edition ours.'
 try 'clip 0.5: what was asked' 10 enhance film.pgm "$out" --clip 0.5
 told='From there it has 1 by 384.'
 try 'a window across the edge: what is there' 16 window film.pgm "$out" --at 511,0 --size 2x2

@@ -47,7 +47,8 @@ def judge(film, out, record):
         told = json.load(source)
     s, width, height, maxval, greys = told["settings"], *read(film)
     clip = bits(">f", s["factor"]) if s["clip"] else None
-    settings = clahe.Settings(s["across"], s["down"], s["bins"], s["min"], s["max"], clip)
+    edition = {"ours": clahe.OURS, "1986": clahe.OF_1986}[s["edition"]]
+    settings = clahe.Settings(s["across"], s["down"], s["bins"], s["min"], s["max"], clip, edition)
     footer = clahe.enhance(width, height, greys, settings, [0] * clahe.entries_of(settings), [0] * s["bins"])
     window = told["window"] or {"left": 0, "top": 0, "width": width, "height": height}
     rows = range(window["top"], window["top"] + window["height"])

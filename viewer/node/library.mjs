@@ -14,7 +14,7 @@ export class Library {
     this.counts = this.lend(MOST_ENTRIES, 4);
     this.scratch = this.lend(MOST_BINS, 4);
     this.list = this.lend(2 * 16 * 16, 8);
-    this.numbers = this.lend(9, 4);
+    this.numbers = this.lend(10, 4);
     this.axes = AXES.map(count => this.lend(count, 4));
     this.answers = this.lend(8, 8);
   }
@@ -75,7 +75,7 @@ export class Library {
   prepare(film, number, s, kind = '') {
     return this.x[`tz_prepare${kind}`](number, film.width, film.height, ...slice(film.picture), ...ranged(s), s.clip, s.factor,
       ...slice(this.map), ...slice(this.scratch), ...this.recordPlaces(), ...this.footerPlaces(), ...this.axesPlaces(),
-      ...slice(this.list));
+      ...slice(this.list), edition(s));
   }
   count(film, s) {
     return this.x.tz_count(film.width, film.height, ...slice(film.picture), ...ranged(s), ...slice(this.counts));
@@ -83,17 +83,17 @@ export class Library {
   mapped(film, number, s) {
     return this.x.tz_map(number, film.width, film.height, ...ranged(s), s.clip, s.factor, ...slice(this.counts),
       ...slice(this.map), ...slice(this.scratch), ...this.recordPlaces(), ...this.footerPlaces(), ...this.axesPlaces(),
-      ...slice(this.list));
+      ...slice(this.list), edition(s));
   }
   enhance(film, picture, s, kind = '') {
     return this.x[`tz_enhance${kind}`](film.width, film.height, ...slice(picture), ...ranged(s), s.clip, s.factor,
-      ...slice(this.map), ...slice(this.scratch), ...this.footerPlaces());
+      ...slice(this.map), ...slice(this.scratch), ...this.footerPlaces(), edition(s));
   }
   /** A window, with the record and the mappings that the last call left. */
   draw(film, number, s, window, out, kind = '') {
     return this.x[`tz_draw${kind}`](number, film.width, film.height, ...slice(film.picture), ...ranged(s), s.clip, s.factor,
       this.numbers.at, this.view(this.answers).getFloat32(0, true), window.left, window.top, window.width, window.height,
-      ...slice(this.map), ...slice(out), ...this.axesPlaces());
+      ...slice(this.map), ...slice(out), ...this.axesPlaces(), edition(s));
   }
 
   sentence(number) { return this.text(this.x.viewer_refusal_text(number)); }
@@ -110,6 +110,7 @@ export class Library {
 
 const slice = buffer => [buffer.at, BigInt(buffer.length)];
 const ranged = s => [s.across, s.down, s.bins, s.min, s.max];
+const edition = s => s.edition || 0; // ours, where none is said
 
 /** A refusal where none is expected. */
 export function done(refusal) {

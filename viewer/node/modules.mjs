@@ -7,8 +7,10 @@ import { cellAt, cellEnd, cellStart, placeOf, toDot, toFilm, zoomOf } from '../p
 import { commandLine } from './renderings.mjs';
 
 const TRIALS = [
-  { words: [], s: { across: 8, down: 8, bins: 1024, min: 0, max: 4095, clip: 1, factor: 3 } },
-  { words: ['--grid', '7x13', '--bins', '100', '--clip', '1.25'], s: { across: 7, down: 13, bins: 100, min: 0, max: 4095, clip: 1, factor: 1.25 } },
+  { words: [], s: { across: 8, down: 8, bins: 1024, min: 0, max: 4095, clip: 1, factor: 3, edition: 0 } },
+  { words: ['--grid', '7x13', '--bins', '100', '--clip', '1.25'],
+    s: { across: 7, down: 13, bins: 100, min: 0, max: 4095, clip: 1, factor: 1.25, edition: 0 } },
+  { words: ['--edition', '1986'], s: { across: 8, down: 8, bins: 1024, min: 0, max: 4095, clip: 1, factor: 3, edition: 1 } },
 ];
 
 /** The film that the worker hands out, and the numbers of its record. */
@@ -21,6 +23,18 @@ function saved(module, path, room, { words, s }) {
   for (const part of ['input', 'output']) record[part].file = wanted.record[part].file;
   if (JSON.stringify(record) !== JSON.stringify(wanted.record)) throw new Error('another record than the command line writes');
   return `${name}.pgm, ${file.length} bytes`;
+}
+
+/** A change of edition maps the counts that are there: the library is asked to count once, and each rendering is its edition's. */
+function turnedOver(module, path) {
+  const { film } = openFilm(module, makeLedger(Infinity), 7, { name: 'weld.pgm', cut: false, bytes: new Uint8Array(readFileSync(path)) });
+  const { count } = film.library;
+  let counted = 0;
+  film.library.count = (...words) => { counted += 1; return count(...words); };
+  const [first, other, again] = [0, 1, 0].map(edition => Buffer.from(saveFilm(film, { ...TRIALS[0].s, edition }).bytes));
+  if (counted !== 1) throw new Error(`counted ${counted} times`);
+  if (!again.equals(first) || other.equals(first)) throw new Error('a rendering of another edition');
+  return 'counted once, rendered by ours, 1986 and ours';
 }
 
 const random = (() => {
@@ -57,6 +71,7 @@ export function modules(wasm, room, trial) {
   const module = new WebAssembly.Module(wasm);
   for (const each of TRIALS)
     trial(`the page's modules: film and record ${each.words.join(' ') || 'as README renders it'}`, () => saved(module, 'docs/weld.pgm', room, each));
+  trial('the page\'s modules: a change of edition', () => turnedOver(module, 'docs/weld.pgm'));
   trial('the page\'s modules: from pixels to dots and back', places);
   trial('the page\'s modules: cells of every zoom below 1:1', cells);
 }

@@ -10,11 +10,17 @@ const SETTINGS = [
   { words: ['--grid', '2x16', '--bins', '4096', '--clip', 'off'], s: { across: 2, down: 16, bins: 4096, clip: 0, factor: 0 } },
   { words: ['--grid', '4x3', '--bins', '1000', '--clip', '1.0'], s: { across: 4, down: 3, bins: 1000, clip: 1, factor: 1 } },
   { words: ['--bins', '2', '--clip', '1024'], s: { across: 8, down: 8, bins: 2, clip: 1, factor: 1024 } },
+  { words: ['--edition', '1986'], s: { across: 8, down: 8, bins: 1024, clip: 1, factor: 3, edition: 1 } },
+  { words: ['--grid', '16x2', '--bins', '128', '--clip', '1.25', '--edition', '1986'],
+    s: { across: 16, down: 2, bins: 128, clip: 1, factor: 1.25, edition: 1 } },
+  { words: ['--grid', '2x16', '--clip', 'off', '--edition', '1986'], s: { across: 2, down: 16, bins: 1024, clip: 0, factor: 0, edition: 1 } },
 ];
 const BYTES = { across: 8, down: 8, bins: 256, clip: 1, factor: 3 };
 const ODD = [
   { words: [], s: { across: 8, down: 8, bins: 1024, clip: 1, factor: 3 } },
   { words: ['--grid', '7x13', '--bins', '100', '--clip', '1.25'], s: { across: 7, down: 13, bins: 100, clip: 1, factor: 1.25 } },
+  { words: ['--grid', '7x13', '--bins', '100', '--clip', '1.25', '--edition', '1986'],
+    s: { across: 7, down: 13, bins: 100, clip: 1, factor: 1.25, edition: 1 } },
 ];
 
 /** What `tzofnadir enhance` writes of a film, and its record. */
@@ -128,6 +134,41 @@ function refused(library, film, number, s) {
   return `refused with ${refusal}, and the output is as it was`;
 }
 
+/** With clip off too: the edition is a setting. */
+function otherEdition(library, film, s) {
+  for (const each of [s, { ...s, clip: 0 }])
+    for (const edition of [0, 1]) {
+      done(library.prepare(film, NUMBER, { ...each, edition }));
+      refused(library, film, NUMBER, { ...each, edition: 1 - edition });
+    }
+  return 'ours and 1986, each refused with 15 for the other';
+}
+
+/** One counting serves both: the mappings of ours, of 1986 and of ours again, over the same counts. */
+function inTurn(library, film, s) {
+  const entries = { ...library.map, length: s.across * s.down * s.bins };
+  const mapped = edition => {
+    done(library.mapped(film, NUMBER, { ...s, edition }));
+    return Buffer.from(library.bytes(entries)).toString('hex');
+  };
+  done(library.count(film, s));
+  const counts = Buffer.from(library.bytes(library.counts)).toString('hex');
+  const [ours, older, again] = [0, 1, 0].map(mapped);
+  if (again !== ours) throw new Error('ours behind 1986 is another mapping');
+  if (older === ours) throw new Error('1986 is mapped as ours');
+  if (Buffer.from(library.bytes(library.counts)).toString('hex') !== counts) throw new Error('the counts were changed');
+  return 'ours, 1986 and ours, from one counting';
+}
+
+/** The byte profile has our edition alone. */
+function bytesOfOurs(library, film, s) {
+  const bytes = { ...film, picture: narrowed(library, film.picture) };
+  const seen = [library.prepare(bytes, NUMBER, { ...s, edition: 1 }, '_bytes'),
+    library.enhance(bytes, copied(library, bytes.picture), { ...s, edition: 1 }, '_bytes')];
+  if (seen.some(refusal => refusal !== 30)) throw new Error(`refusals ${seen}`);
+  return 'refused with 30';
+}
+
 function otherFilm(library, film, s) {
   done(library.prepare(film, NUMBER, s));
   return refused(library, film, OTHER, s);
@@ -184,6 +225,9 @@ export function renderings(wasm, room, trial) {
   allWays(wasm, room, 'docs/weld.pgm', SETTINGS, trial, 'docs/weld.pgm');
   allWays(wasm, room, odd, ODD, trial, '509 by 381');
   trial('another film\'s record', () => otherFilm(library, library.read(sample), usual));
+  trial('another edition\'s record', () => otherEdition(library, library.read(sample), usual));
+  trial('both editions in turn', () => inTurn(library, library.read(sample), usual));
+  trial('the edition of 1986 by bytes', () => bytesOfOurs(library, library.read(readFileSync(small)), { ...BYTES, min: 0, max: 255 }));
   trial('a record with one other edge or centre', () => otherEntries(library, library.read(readFileSync(odd)), usual));
   bytesToo(wasm, room, small, trial, '8 bits');
   bytesToo(wasm, room, oddSmall, trial, '8 bits, 101 by 67');

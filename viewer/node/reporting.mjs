@@ -2,6 +2,7 @@
 // is broken, altered or of no film is told by a sentence. It needs nothing built; viewer/programs runs the same trials.
 import { createHash } from 'node:crypto';
 import { inflateSync } from 'node:zlib';
+import { EDITIONS } from '../calls.js';
 import * as marks from '../marks.js';
 import * as report from '../report.js';
 import { reportHtml } from '../report_html.js';
@@ -13,13 +14,13 @@ const film = { width: 60, height: 40, maxval: 4095, name: 'a "b" <i> é.pgm', di
   greys: Uint16Array.from({ length: 2400 }, (_, i) => (i * 7919) % 4096) };
 const output = { name: 'out.pgm', digest: 'cd'.repeat(32), bytes: 4817 };
 
-/** A record as viewer/record.js writes it, of this film. */
-function record() {
+/** A record as viewer/record.js writes it, of this film. edition: as its settings name it, undefined where they do not. */
+function record(edition) {
   const side = { width: film.width, height: film.height, maxval: film.maxval };
   return `${JSON.stringify({ program: 'tzofnadir', version: '2.6.0', command: 'enhance',
     input: { file: film.name, sha256: film.digest, bytes: film.bytes, ...side },
     output: { file: output.name, sha256: output.digest, bytes: output.bytes, ...side },
-    settings: { across: 8, down: 8, bins: 1024, min: 0, max: 4095, clip: true, factor: 2.34567881, by_bytes: false },
+    settings: { across: 8, down: 8, bins: 1024, min: 0, max: 4095, clip: true, factor: 2.34567881, edition, by_bytes: false },
     window: null, limit: 9, factor_asked: 2.34567881, factor_used: 2.4 }, null, 2)}\n`;
 }
 
@@ -30,11 +31,11 @@ const reading = {
     { number: 7, kind: 'other', left: 59, top: 39, width: 1, height: 1, text: '' }],
 };
 
-function made(changed = {}) {
+function made(changed = {}, edition = 0, form = report.REPORT_FORM) {
   const all = { ...reading, ...changed };
   const pictures = all.marks.map(mark => ({ ...marks.markPicture(film, mark), scanned: 'AAAA', rendered: 'BBBB' }));
-  const told = report.toldOf(film, all, pictures);
-  const body = report.unsealed(record(), told);
+  const told = report.toldOf(film, all, pictures, edition, form);
+  const body = report.unsealed(record(report.namesEdition(form) ? EDITIONS[edition] : undefined), told);
   return { told, text: report.sealed(body, sha256(body)) };
 }
 
@@ -67,13 +68,23 @@ function comesBack() {
   return 'three reports';
 }
 
+/** Each edition comes back as it was; a report that names none is of ours. */
+function editionsComeBack() {
+  for (const [edition, form] of [[0, 2], [1, 2], [0, 1]]) {
+    const { text } = made({}, edition, form), back = read(text);
+    same('edition', [back.fault, back.settings && back.settings.edition, back.form], [undefined, edition, form]);
+    same('said', [/"edition": "(ours|1986)",\n {4}"by_bytes"/.test(text), made(back.reading, edition, form).text === text], [form === 2, true]);
+  }
+  return 'ours, 1986 and none';
+}
+
 function truncatedOnes() {
   const { text } = made();
   let count = 0;
   for (let cut = 0; cut < text.length; cut += 7, count++) {
     if (!read(text.slice(0, cut)).fault) throw new Error(`taken, cut at ${cut} of ${text.length}`);
   }
-  const none = ['{}', 'null', '[]', '7', '"x"', record(), ' ', 'P5\n1 1\n255\n0', `${text} `, text.replaceAll('\n', '\r\n')];
+  const none = ['{}', 'null', '[]', '7', '"x"', record('ours'), ' ', 'P5\n1 1\n255\n0', `${text} `, text.replaceAll('\n', '\r\n')];
   for (const other of none)
     if (!read(other).fault) throw new Error(`taken: ${other.slice(0, 40)}`);
   return `${count} lengths, and 10 texts that are no report`;
@@ -105,8 +116,12 @@ const WRONG = [
   ['even lanes', v => { v.report.line.lanes = 4; }, /line lies outside the film, or is none/],
   ['part beyond the line', v => { v.report.line.to = 57; }, /line lies outside the film, or is none/],
   ['region outside', v => { v.report.region.height = 35; }, /region lies outside/],
-  ['another form', v => { v.report.form = 2; }, /its form is 2/],
-  ['another edition', v => { v.report.edition = '1986'; }, /its edition is "1986"/],
+  ['another form', v => { v.report.form = 3; }, /its form is 3, and this page reads 1 and 2/],
+  ['another edition', v => { v.report.edition = '1987'; }, /its edition is "1987"; a report of form 2 has “ours” or “1986”/],
+  ['another edition', v => { v.report.edition = '1986'; }, /its edition is “1986”, and its settings name “ours”/],
+  ['another edition', v => { v.report.form = 1; }, /its edition is "ours"; a report of form 1 has “tzofnadir”/],
+  ['no edition', v => { v.settings.edition = 'none'; }, /settings/],
+  ['no edition', v => { v.settings.edition = 1; }, /settings/],
   ['settings', v => { v.settings.bins = -1; }, /settings/],
   ['display', v => { v.report.display.width = 0; }, /display/],
   ['no film', v => { delete v.input.sha256; }, /names no film/],
@@ -155,12 +170,12 @@ function pngHolds() {
 
 function htmlIsSafe() {
   const { told } = made();
-  const settings = { across: 8, down: 8, bins: 1024, min: 0, max: 4095, clip: 1 };
+  const settings = { across: 8, down: 8, bins: 1024, min: 0, max: 4095, clip: 1, edition: 1 };
   const html = reportHtml({ version: '2.6.0', film, output, settings,
     footer: { limit: 9, asked: '2.34567881', used: '2.4' }, told, seal: 'ef'.repeat(32) });
   for (const word of ['a &quot;b&quot; &lt;i&gt; é.pgm', 'one &quot;pore&quot; &lt;/b&gt; &amp; a line\\', '2011 gas pore',
     film.digest, output.digest, '42.333333 µm', told.marks[0].scanned.mean.text, told.line.distance_mm.text,
-    'scanned greys', 'L 9'])
+    'scanned greys', 'L 9', '<td>1986</td>'])
     if (!html.includes(word)) throw new Error(`it does not say ${word}`);
   if (html.includes('</b>') || html.includes('<i>')) throw new Error('a name became an element');
   return 'names and sentences stay texts';
@@ -168,6 +183,7 @@ function htmlIsSafe() {
 
 export function reporting(trial) {
   trial('a report read again', comesBack);
+  trial('reports of both editions, and one that names none', editionsComeBack);
   trial('truncated reports, and texts that are none', truncatedOnes);
   trial('altered reports', alteredOnes);
   trial('reports that say what cannot be', wrongOnes);

@@ -88,10 +88,13 @@ class Film:
         return self.kept[asked]
 
 
-def settings(across, down, bins, low, high, factor):
+EDITIONS = {clahe.OURS: "ours", clahe.OF_1986: "1986"}
+
+
+def settings(across, down, bins, low, high, factor, edition=clahe.OURS):
     """Settings of the second program; factor None is clip off."""
     clip = None if factor is None else struct.unpack(">I", struct.pack(">f", factor))[0]
-    return clahe.Settings(across, down, bins, low, high, clip)
+    return clahe.Settings(across, down, bins, low, high, clip, edition)
 
 
 def factor_of(asked):
@@ -110,9 +113,9 @@ def saved_name(film, number, asked, data=None):
     """The name of a saved rendering, without its ending: no other film, number or setting has it."""
     factor = factor_of(asked)
     clip = "clipoff" if factor is None else "clip%.9g" % factor
-    return "%s-rendered-film%d-%dx%d-%dbins-%dto%d-%s-%s" % (
+    return "%s-rendered-film%d-%dx%d-%dbins-%dto%d-%s-%s-%s" % (
         film.name[:-4], number, asked.across, asked.down, asked.bins or 128, asked.min, asked.max, clip,
-        digest_of(film, data)[:12])
+        EDITIONS[asked.edition], digest_of(film, data)[:12])
 
 
 def digest_of(film, data=None):

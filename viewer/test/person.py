@@ -87,12 +87,14 @@ class Person:
         self.tell("Emulation.setDeviceMetricsOverride", width=width, height=height, deviceScaleFactor=scale, mobile=fingers)
         self.tell("Emulation.setTouchEmulationEnabled", enabled=fingers, maxTouchPoints=2 if fingers else 1)
 
-    def arrive(self, width=1600, height=1000, mark="", scale=1, fingers=False):
-        """Opens the page anew, with no film."""
+    def arrive(self, width=1600, height=1000, mark="", scale=1, fingers=False, before=""):
+        """Opens the page anew, with no film. before: a script that is run before the page's own."""
         self.driver.get("about:blank")
         self.complaints()
         self.size(width, height, scale, fingers)
+        first = self.tell("Page.addScriptToEvaluateOnNewDocument", source=before)["identifier"]
         self.driver.get("file://" + self.page + mark)
+        self.tell("Page.removeScriptToEvaluateOnNewDocument", identifier=first)
         self.settled()
 
     # ---- waiting ----
@@ -239,6 +241,14 @@ class Person:
         for key in keys:
             ActionChains(self.driver).send_keys(key).perform()
             self.settled()
+
+    def control(self, *keys):
+        """Presses keys with Control held."""
+        chain = ActionChains(self.driver).key_down(Keys.CONTROL)
+        for key in keys:
+            chain.send_keys(key)
+        chain.key_up(Keys.CONTROL).perform()
+        self.settled()
 
     # ---- the pointer ----
 

@@ -4,7 +4,6 @@ copied by name."""
 import os
 import re
 
-from selenium.webdriver.common.action_chains import ActionChains
 from selenium.webdriver.common.by import By
 from selenium.webdriver.common.keys import Keys
 
@@ -114,15 +113,6 @@ def one_pixel(person, films):
     return "means %d and %d" % tuple(means)
 
 
-def control(person, *keys):
-    """Keys with Control held."""
-    chain = ActionChains(person.driver).key_down(Keys.CONTROL)
-    for key in keys:
-        chain.send_keys(key)
-    chain.key_up(Keys.CONTROL).perform()
-    person.settled()
-
-
 def undo_and_redo(person, films):
     """One row of steps over settings and display, each film's own: back and ahead again, picture and boxes."""
     film, other = films.sample, films.twin
@@ -138,13 +128,13 @@ def undo_and_redo(person, films):
     person.choose(first)
     steps = [(last, 1500), (last._replace(across=8), 1500), (last._replace(across=8), 2048), (film.usual(), 2048)]
     for asked, level in steps[1:]:
-        control(person, "z")
+        person.control("z")
         person.sees(film, asked, table=expected.shades(level, 4096))
         same("settings", set_now(person), asked)
     hold(not person.element("undo").is_enabled(), "there is more to undo")
-    control(person, "z")
+    person.control("z")
     for asked, level in steps[-2::-1]:
-        control(person, "y")
+        person.control("y")
         person.sees(film, asked, table=expected.shades(level, 4096))
     person.click("undo")
     person.settled()
@@ -153,7 +143,7 @@ def undo_and_redo(person, films):
     hold(not person.element("redo").is_enabled(), "a new step leaves something to redo")
     person.choose(second)
     same("the other film's bins", person.value("bins"), "64")
-    control(person, "z")
+    person.control("z")
     same("the other film's bins", person.value("bins"), "1024")
     return "three steps back and ahead, by keys and buttons"
 
@@ -312,20 +302,21 @@ def copied(person, films):
     numbers = person.open(*[person.file(film.name, film.file()) for film in (films.sample, films.twin, films.odd)])
     person.type("factor", "5")
     person.type("across", "6")
+    person.keys(Keys.ESCAPE, "e")
     person.click("copy")
     same("the word at first", person.text("copy-do"), "Copy to no film")
     hold(not person.element("copy-do").is_enabled(), "it can be pressed without a film")
-    hold("film 1 weld.pgm: grid 6 by 8, 1024 bins, range 0 to 4095, factor 5" in person.text("copy-from"),
+    hold("film 1 weld.pgm: grid 6 by 8, 1024 bins, range 0 to 4095, factor 5, edition of 1986" in person.text("copy-from"),
          "it says", person.text("copy-from"))
     person.click("copy-%d" % numbers[1])
     same("the word", person.text("copy-do"), "Copy to film 2 twin.pgm")
     person.click("copy-do")
     person.settled()
-    asked = expected.settings(6, 8, 1024, 0, 4095, 5.0)
+    asked = expected.settings(6, 8, 1024, 0, 4095, 5.0, 1)
     person.choose(numbers[1])
     same("settings of the second", set_now(person), asked)
     person.sees(films.twin, asked)
-    control(person, "z")
+    person.control("z")
     person.sees(films.twin, films.twin.usual())
     person.choose(numbers[2])
     same("settings of the third", set_now(person), films.odd.usual())

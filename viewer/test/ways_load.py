@@ -71,20 +71,16 @@ def largest_film(person, films):
 
 def no_memory(person, films):
     """Memory of the module that cannot grow: a message for that film, and the others stay and draw."""
-    hook = person.tell("Page.addScriptToEvaluateOnNewDocument", source=TIGHT.replace("PAGES", "700"))
-    try:
-        person.arrive()
-        first, second = person.open(*[person.file(each.name, each.file()) for each in (films.sample, films.twin)])
-        third, = person.open(person.file(films.largest.name, films.largest.file()))
-        person.choose(third)
-        told_no_room(person)
-        for number, film in ((second, films.twin), (first, films.sample)):
-            person.choose(number)
-            person.sees(film, film.usual())
-            person.type("factor", "2")
-            person.sees(film, expected.settings(8, 8, 1024, 0, 4095, 2.0))
-    finally:
-        person.tell("Page.removeScriptToEvaluateOnNewDocument", identifier=hook["identifier"])
+    person.arrive(before=TIGHT.replace("PAGES", "700"))
+    first, second = person.open(*[person.file(each.name, each.file()) for each in (films.sample, films.twin)])
+    third, = person.open(person.file(films.largest.name, films.largest.file()))
+    person.choose(third)
+    told_no_room(person)
+    for number, film in ((second, films.twin), (first, films.sample)):
+        person.choose(number)
+        person.sees(film, film.usual())
+        person.type("factor", "2")
+        person.sees(film, expected.settings(8, 8, 1024, 0, 4095, 2.0))
     return "growth that throws"
 
 

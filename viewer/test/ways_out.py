@@ -32,6 +32,10 @@ TRIALS = [
     ({"factor": "1"}, ["--clip", "1"]),
     ({"bins": "0", "min": "3", "factor": "1.00000012"}, ["--bins", "0", "--range", "3:4095", "--clip", "1.00000012"]),
     ({"factor": "2.3456789"}, ["--clip", "2.3456789"]),
+    ({"edition": "1986"}, ["--edition", "1986"]),
+    ({"across": "7", "down": "5", "bins": "128", "factor": "1.4", "edition": "1986"},
+     ["--grid", "7x5", "--bins", "128", "--clip", "1.4", "--edition", "1986"]),
+    ({"clip": False, "edition": "1986"}, ["--clip", "off", "--edition", "1986"]),
 ]
 
 
@@ -52,17 +56,20 @@ def save_film_and_record(person, films):
 
 
 def set_boxes(person, boxes):
-    """Types into boxes, and sets switches."""
+    """Types into boxes, sets switches, and chooses an edition."""
     for box, text in boxes.items():
         if isinstance(text, bool):
             person.check(box, text)
+        elif box == "edition":
+            person.click("edition-" + text)
+            person.settled()
         else:
             person.type(box, text)
 
 
 def two_films_of_one_name(person, films):
-    """weld.pgm from two folders, and two settings of each: four renderings of four names, and each record names the film that was
-    saved with it and has that file's digest."""
+    """weld.pgm from two folders, two settings of each and both editions: six renderings of six names, and each record names the
+    film that was saved with it and has that file's digest."""
     sides = [("one", films.sample), ("two", expected.Film("weld.pgm", films.twin.width, films.twin.height, films.twin.maxval,
                                                            films.twin.greys))]
     numbers = []
@@ -70,13 +77,13 @@ def two_films_of_one_name(person, films):
         person.folder(folder)
         numbers += person.open(person.file(os.path.join(folder, "weld.pgm"), film.file()))
     names = set()
-    for factor in ("3", "3.0000002"):
+    for boxes in ({"factor": "3"}, {"factor": "3.0000002"}, {"edition": "1986"}):
         for number, (_, film) in zip(numbers, sides):
             person.choose(number)
-            person.type("factor", factor)
+            set_boxes(person, boxes)
             names.add(own_record(person, film, number))
-    same("names", len(names), 4)
-    return "4 renderings, 4 names, such as " + sorted(names)[0]
+    same("names", len(names), 6)
+    return "6 renderings, 6 names, such as " + sorted(names)[0]
 
 
 def own_record(person, film, number):
@@ -138,9 +145,10 @@ def caption(film, number, asked, display, part):
     return " ".join([
         "%s, film %d: %d × %d pixels, maxval %d" % (film.name, number, film.width, film.height, film.maxval),
         "SHA-256 " + expected.digest_of(film),
-        "Rendering by Tzofnadir %s: grid %d by %d, %d bins, range %d to %d, factor asked %.9g, used %s, L %d" % (
+        "Rendering by Tzofnadir %s: grid %d by %d, %d bins, range %d to %d, factor asked %.9g, used %s, L %d, %s" % (
             open(os.path.join(expected.TOP, "VERSION"), encoding="utf-8").read().strip(), asked.across, asked.down, asked.bins,
-            asked.min, asked.max, factor, ("%.5f" % used).rstrip("0").rstrip("."), limit),
+            asked.min, asked.max, factor, ("%.5f" % used).rstrip("0").rstrip("."), limit,
+            "edition of 1986" if asked.edition else "our edition"),
         display, part, "Film density is not read off the rendered picture."])
 
 
@@ -201,7 +209,7 @@ def save_part_of_view(person, films):
     person.arrive(1280, 720)
     person.script(HOOK_TEXT)
     number = person.show(film)
-    set_boxes(person, {"factor": "1.75", "bins": "200", "level": "1500", "width": "1000", "invert": True})
+    set_boxes(person, {"factor": "1.75", "bins": "200", "edition": "1986", "level": "1500", "width": "1000", "invert": True})
     person.click("zoom-1-1")
     person.settled()
     asked = set_now(person)

@@ -13,16 +13,18 @@ from person import hold, picture_of, same
 from ways_hand import ASKS
 from ways_marks import listed, mark, rectangle
 from ways_measure import box_of, film_of, line_of, place, taken, um
+from ways_settings import set_now
 
 TEXTS = ("a pore & <i>more</i>", "")
 
 
 # ---- a reading ----
 
-def read_film(person, film):
+def read_film(person, film, edition=0):
     """Settings, display, pitch, a line, a region and two marks, by keys; gives what was read."""
     person.type("factor", "2.3456789")
     person.type("across", "7")
+    person.click("edition-" + expected.EDITIONS[edition])
     person.type("level", "1900")
     person.type("width", "3000")
     taken(person, "pitch", "42.333333")
@@ -33,7 +35,7 @@ def read_film(person, film):
     place(person, "g", 30, -20)
     boxes = [mark(person, 24, 13, "2011", TEXTS[0]), mark(person, -40, 8, "401", TEXTS[1])]
     return {"line": line_of(person), "region": box_of(person.text("region-place")), "marks": boxes,
-            "asked": expected.settings(7, 8, 1024, 0, 4095, 2.3456789)}
+            "asked": expected.settings(7, 8, 1024, 0, 4095, 2.3456789, edition)}
 
 
 def made(person):
@@ -119,23 +121,33 @@ def record_held(film, asked, value, output):
     same("output", value["output"], {"file": output["name"], "sha256": hashlib.sha256(output["data"]).hexdigest(),
                                      "bytes": len(output["data"]), **size})
     same("settings", value["settings"], {"across": asked.across, "down": asked.down, "bins": asked.bins, "min": asked.min,
-                                         "max": asked.max, "clip": True, "factor": float("%.9g" % factor), "by_bytes": False})
+                                         "max": asked.max, "clip": True, "factor": float("%.9g" % factor),
+                                         "edition": expected.EDITIONS[asked.edition], "by_bytes": False})
     same("footer", [value["limit"], value["factor_asked"], value["factor_used"]], [limit, float("%.9g" % factor), used])
 
 
 # ---- the ways ----
 
 def report_held(person, films):
-    """Every number of a report by the second program, its pictures dot by dot, and its own digest."""
-    film = films.sample
+    """Every number of a report by the second program, its pictures dot by dot, and its own digest; in both editions."""
+    said = []
+    for edition in expected.EDITIONS:
+        person.arrive()
+        said.append(one_held(person, films.sample, edition))
+    return "; ".join(said)
+
+
+def one_held(person, film, edition):
+    """A reading's report in one edition; gives what was seen."""
     person.show(film)
-    read = read_film(person, film)
+    read = read_film(person, film, edition)
     name, data = report_of(person)
     value = json.loads(data)
     told = value["report"]
     same("the seal", *seal_of(data))
     rendered = expected.Film("x", film.width, film.height, film.maxval, film.rendered(read["asked"]))
     record_held(film, read["asked"], value, {"name": value["output"]["file"], "data": rendered.file()})
+    same("form and edition", [told["form"], told["edition"]], [2, expected.EDITIONS[edition]])
     same("display", told["display"], {"level": 1900, "width": 3000, "invert": False, "auto": False})
     same("pitch and resolution", [told["pitch_um"], told["resolution_um"], told["measured"]], [42.333333, 100, "scanned"])
     steps = measure.steps(read["line"])
@@ -179,7 +191,7 @@ def report_again(person, films):
     """Opened again with its film in a new page, a report brings everything back, and the report made then is the same file."""
     film = films.sample
     person.show(film)
-    read = read_film(person, film)
+    read = read_film(person, film, 1)
     texts = {name: person.text(name) for name in ("line-place", "line-length", "dip-told", "region-place", "region-greys")}
     marks, (name, data) = listed(person), report_of(person)
     for together in (True, False):
@@ -199,6 +211,30 @@ def report_again(person, films):
         again = report_of(person)
         hold(again == (name, data), "the report made again is another one:", again[0])
     return "%d bytes, twice" % len(data)
+
+
+def report_without_edition(person, films):
+    """A report of before there were two editions, of form 1, is read as ours and brings everything back."""
+    film = films.sample
+    person.show(film)
+    read = read_film(person, film)
+    marks, data = listed(person), report_of(person)[1]
+    body = data[:data.rindex(b'  "report_sha256"')]
+    for now, then in ((b'    "edition": "ours",\n    "by_bytes"', b'    "by_bytes"'), (b'"form": 2,', b'"form": 1,'),
+                      (b'"edition": "ours"', b'"edition": "tzofnadir"')):
+        same("places of %r" % now, body.count(now), 1)
+        body = body.replace(now, then)
+    old = body + b'  "report_sha256": "%s"\n}\n' % hashlib.sha256(body).hexdigest().encode()
+    person.arrive()
+    person.show(film)
+    person.keys("e")
+    person.element("open-input").send_keys(person.file("old.json", old))
+    person.until("the marks", lambda: listed(person) == marks)
+    person.settled()
+    same("settings", set_now(person), read["asked"])
+    person.sees(film, read["asked"], table=expected.shades(1900, 3000))
+    hold(report_of(person)[1] == data, "the report made again is another one")
+    return "%d bytes of form 1" % len(old)
 
 
 def report_of_another_film(person, films):
@@ -259,6 +295,8 @@ BAD = [
     ("number", at("report", "marks", 1, "scanned", "mean", 1.25), "give another answer here"),
     ("limit", at("limit", 1), "give another answer here"),
     ("bins", at("settings", "bins", 9999), "its settings are refused, "),
+    ("edition", at("settings", "edition", "1986"), "its edition is “ours”, and its settings name “1986”"),
+    ("another", at("settings", "edition", "1987"), "its settings, its display or its names are not of this page"),
 ]
 
 
@@ -356,5 +394,5 @@ def saved_page(person, films):
     return "%s, %d bytes" % (name, len(data))
 
 
-WAYS = [report_held, large_mark, report_again, report_of_another_film, bad_reports, reading_not_saved, by_keyboard_alone,
+WAYS = [report_held, large_mark, report_again, report_without_edition, report_of_another_film, bad_reports, reading_not_saved, by_keyboard_alone,
         saved_page]

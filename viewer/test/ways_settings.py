@@ -17,7 +17,15 @@ def set_now(person):
     """The settings that the page shows."""
     across, down, bins, low, high = [int(person.value(box)) for box in ("across", "down", "bins", "min", "max")]
     factor = float(person.value("factor")) if person.element("clip").is_selected() else None
-    return expected.settings(across, down, bins, low, high, factor)
+    return expected.settings(across, down, bins, low, high, factor, edition_now(person))
+
+
+def edition_now(person):
+    """The edition of the clip rule that the page shows as chosen."""
+    pressed = [number for number, name in expected.EDITIONS.items()
+               if person.element("edition-" + name).get_attribute("aria-pressed") == "true"]
+    same("editions that are chosen", len(pressed), 1)
+    return pressed[0]
 
 
 def as_set(person, film, **changed):
@@ -122,6 +130,74 @@ def factor(person, films):
     person.check("clip", True)
     as_set(person, film)
     return "slider from 1 to 64: ten steps from 1 to %g, one of %g at 64" % (near, far)
+
+
+# How often the library counts: the worker's text is given a tally before the page makes a worker of it.
+TALLY = """
+window.counted = null;
+window.Blob = class extends Blob {
+  constructor(texts, words) {
+    super(texts.map(text => typeof text !== 'string' ? text : text
+      .replace('return exports.tz_count(', 'self.counted = (self.counted || 0) + 1; return exports.tz_count(')
+      .replace('answer.id = event.data.id;', 'answer.id = event.data.id; answer.counted = self.counted || 0;')), words);
+  }
+};
+window.Worker = class extends Worker {
+  constructor(...words) {
+    super(...words);
+    this.addEventListener('message', event => { window.counted = event.data.counted; });
+  }
+};
+"""
+
+
+def edition(person, films):
+    """The edition of the clip rule by button and key: ours and 1986 in turn, at several settings, from one counting; undo and
+    redo; above the picture stands which one it is."""
+    film = films.sample
+    person.arrive(before=TALLY)
+    person.show(film)
+    same("counted at first", counted(person), 1)
+    same("the edition at first", edition_now(person), 0)
+    for boxes in ({}, {"factor": "1.3", "across": "5"}, {"factor": "40"}, {"bins": "64"}):
+        for box, text in boxes.items():
+            person.type(box, text)
+        before = counted(person)
+        person.click("edition-1986")
+        person.settled()
+        as_set(person, film, edition=1)
+        hold("edition of 1986" in person.text("label-rendered"), "above the picture:", person.text("label-rendered"))
+        person.keys("e")
+        as_set(person, film, edition=0)
+        hold("1986" not in person.text("label-rendered"), "above the picture:", person.text("label-rendered"))
+        person.keys("e")
+        as_set(person, film, edition=1)
+        same("counted while the edition was turned", counted(person) - before, 0)
+        person.click("edition-ours")
+        person.settled()
+    for factor, note in (("1", "unchanged"), (None, "clip off")):
+        if factor:
+            person.type("factor", factor)
+        else:
+            person.check("clip", False)
+        person.click("edition-1986")
+        person.settled()
+        as_set(person, film, edition=1)
+        hold(note in person.text("footer-note"), "the note is:", person.text("footer-note"))
+        person.click("edition-ours")
+        person.settled()
+        as_set(person, film, edition=0)
+    person.script("document.getElementById('stage').focus()")
+    person.keys("e", "e")  # at once: two steps all the same
+    for key, number in (("z", 1), ("z", 0), ("z", 1), ("y", 0), ("y", 1)):
+        person.control(key)
+        as_set(person, film, edition=number)
+    return "ours and 1986 at six settings, counted %d times in all" % counted(person)
+
+
+def counted(person):
+    """How often the library counted since the page was opened."""
+    return person.script("return window.counted")
 
 
 def newest_wins(person, films):
@@ -279,8 +355,10 @@ def tile_plot(person, films):
         for boxes in changes:
             for box, text in boxes.items():
                 person.type(box, text)
-            plot_three(person, film)
-    return "twelve tiles"
+            for _ in expected.EDITIONS:
+                plot_three(person, film)
+                person.keys("e")
+    return "twelve tiles, each in both editions"
 
 
 def plot_three(person, film):
@@ -296,7 +374,9 @@ def plot_three(person, film):
         person.settled()
         plot = film.plot(x, y, asked)
         same("the plot of the tile at %d, %d" % (x, y), person.script(PLOTTED), plot)
-        same("beside it", person.text("tile-note"), "E %d, looks %d" % (plot["excess"], plot["looks"]))
+        same("beside it", person.text("tile-note"), "E %d, looks %d%s" % (
+            plot["excess"], plot["looks"], " (edition of 1986: no walk)" if asked.edition else ""))
+        hold(asked.edition == 0 or plot["looks"] == 0, "looks in the edition of 1986:", plot["looks"])
 
 
-WAYS = [grid, bins, grey_range, factor, newest_wins, display, refused_settings, no_numbers, pointer, tile_plot]
+WAYS = [grid, bins, grey_range, factor, edition, newest_wins, display, refused_settings, no_numbers, pointer, tile_plot]

@@ -24,7 +24,7 @@ use Rattle.abi.proofs.Runs.{TzPrepareCall, TzPrepares, tz-prepare-given
 
 -- ---- tz_prepare
 
--- any two outcomes are equal: its number, map buffer, scratch and list, and the cells: the record's nine numbers, factor and four arrays, and the footer's three
+-- any two outcomes are equal: its number, map buffer, scratch and list, and the cells: the record's ten numbers, factor and four arrays, and the footer's three
 pub tz-prepare-determined : {c k : TzPrepareCall} → TzPrepares c → TzPrepares k → tz-prepare-given c ≡ tz-prepare-given k
     → (c .number ≡ k .number) × (c .map′ ≡ k .map′) × (c .scratch′ ≡ k .scratch′) × (c .list′ ≡ k .list′) × (c .cells′ ≡ k .cells′)
 tz-prepare-determined x y same =

@@ -45,9 +45,9 @@ pub record TzPrepareCall : Type 0 where
 
 abbrev pub tz-prepare-values : Run prepare.ps prepare.r prepare-reads.Post → TzPrepareCall
 tz-prepare-values run =
-    let (film, (width, (height, (pixels, (across, (down, (bins, (min, (max, (clip, (asked-factor, (map, (scratch, (numbers, (factor, (limit, (asked, (used, (column-edges, (column-centres, (row-edges, (row-centres, (list, end))))))))))))))))))))))) = run .handed in
-    let (_, (_, (_, (_, (_, (_, (_, (_, (_, (_, (_, (map′, (scratch′, (numbers′, (factor′, (limit′, (asked′, (used′, (column-edges′, (column-centres′, (row-edges′, (row-centres′, (list′, end′))))))))))))))))))))))) = run .left in
-    record { film = film; width = width; height = height; pixels = now pixels; settings = settingsFrom across down bins min max clip asked-factor; map = now map; scratch = now scratch; list = now list; cells = celled (now numbers) (now factor) (axed (now column-edges) (now column-centres) (now row-edges) (now row-centres)) (footed (now limit) (now asked) (now used)); number = run .answer; map′ = now map′; scratch′ = now scratch′; list′ = now list′; cells′ = celled (now numbers′) (now factor′) (axed (now column-edges′) (now column-centres′) (now row-edges′) (now row-centres′)) (footed (now limit′) (now asked′) (now used′)) }
+    let (film, (width, (height, (pixels, (across, (down, (bins, (min, (max, (clip, (asked-factor, (map, (scratch, (numbers, (factor, (limit, (asked, (used, (column-edges, (column-centres, (row-edges, (row-centres, (list, (edition, end)))))))))))))))))))))))) = run .handed in
+    let (_, (_, (_, (_, (_, (_, (_, (_, (_, (_, (_, (map′, (scratch′, (numbers′, (factor′, (limit′, (asked′, (used′, (column-edges′, (column-centres′, (row-edges′, (row-centres′, (list′, (_, end′)))))))))))))))))))))))) = run .left in
+    record { film = film; width = width; height = height; pixels = now pixels; settings = settingsFrom across down bins min max clip asked-factor edition; map = now map; scratch = now scratch; list = now list; cells = celled (now numbers) (now factor) (axed (now column-edges) (now column-centres) (now row-edges) (now row-centres)) (footed (now limit) (now asked) (now used)); number = run .answer; map′ = now map′; scratch′ = now scratch′; list′ = now list′; cells′ = celled (now numbers′) (now factor′) (axed (now column-edges′) (now column-centres′) (now row-edges′) (now row-centres′)) (footed (now limit′) (now asked′) (now used′)) }
 
 -- what it is handed
 abbrev pub tz-prepare-given : TzPrepareCall → ℕ × ℕ × ℕ × List ℕ × Settings × List ℕ × List ℕ × List ℕ × Cells
@@ -78,9 +78,9 @@ pub record TzEnhanceCall : Type 0 where
 
 abbrev pub tz-enhance-values : Run enhance.ps enhance.r enhance-reads.Post → TzEnhanceCall
 tz-enhance-values run =
-    let (width, (height, (pixels, (across, (down, (bins, (min, (max, (clip, (factor, (map, (scratch, (limit, (asked, (used, end))))))))))))))) = run .handed in
-    let (_, (_, (pixels′, (_, (_, (_, (_, (_, (_, (_, (map′, (scratch′, (limit′, (asked′, (used′, end′))))))))))))))) = run .left in
-    record { width = width; height = height; pixels = now pixels; settings = settingsFrom across down bins min max clip factor; map = now map; scratch = now scratch; foot = footed (now limit) (now asked) (now used); number = run .answer; pixels′ = now pixels′; map′ = now map′; scratch′ = now scratch′; foot′ = footed (now limit′) (now asked′) (now used′) }
+    let (width, (height, (pixels, (across, (down, (bins, (min, (max, (clip, (factor, (map, (scratch, (limit, (asked, (used, (edition, end)))))))))))))))) = run .handed in
+    let (_, (_, (pixels′, (_, (_, (_, (_, (_, (_, (_, (map′, (scratch′, (limit′, (asked′, (used′, (_, end′)))))))))))))))) = run .left in
+    record { width = width; height = height; pixels = now pixels; settings = settingsFrom across down bins min max clip factor edition; map = now map; scratch = now scratch; foot = footed (now limit) (now asked) (now used); number = run .answer; pixels′ = now pixels′; map′ = now map′; scratch′ = now scratch′; foot′ = footed (now limit′) (now asked′) (now used′) }
 
 -- what it is handed
 abbrev pub tz-enhance-given : TzEnhanceCall → ℕ × ℕ × List ℕ × Settings × List ℕ × List ℕ × Foot
@@ -113,9 +113,9 @@ pub record TzDrawCall : Type 0 where
 
 abbrev pub tz-draw-values : Run draw.ps draw.r draw-reads.Post → TzDrawCall
 tz-draw-values run =
-    let (film, (width, (height, (pixels, (across, (down, (bins, (min, (max, (clip, (asked-factor, (numbers, (factor, (left, (top, (window-width, (window-height, (map, (out, (column-edges, (column-centres, (row-edges, (row-centres, end))))))))))))))))))))))) = run .handed in
+    let (film, (width, (height, (pixels, (across, (down, (bins, (min, (max, (clip, (asked-factor, (numbers, (factor, (left, (top, (window-width, (window-height, (map, (out, (column-edges, (column-centres, (row-edges, (row-centres, (edition, end)))))))))))))))))))))))) = run .handed in
     let (_, (_, (_, (_, (_, (_, (_, (_, (_, (_, (_, (_, (_, (_, (_, (_, (_, (_, (out′, end′))))))))))))))))))) = run .left in
-    record { film = film; width = width; height = height; pixels = now pixels; settings = settingsFrom across down bins min max clip asked-factor; numbers = now numbers; factor = factor; axes = axed (now column-edges) (now column-centres) (now row-edges) (now row-centres); window = windowFrom left top window-width window-height; map = now map; out = now out; number = run .answer; out′ = now out′ }
+    record { film = film; width = width; height = height; pixels = now pixels; settings = settingsFrom across down bins min max clip asked-factor edition; numbers = now numbers; factor = factor; axes = axed (now column-edges) (now column-centres) (now row-edges) (now row-centres); window = windowFrom left top window-width window-height; map = now map; out = now out; number = run .answer; out′ = now out′ }
 
 -- what it is handed
 abbrev pub tz-draw-given : TzDrawCall → ℕ × ℕ × ℕ × List ℕ × Settings × List ℕ × Float × Axes × Window × List ℕ × List ℕ

@@ -4,13 +4,14 @@
 use Prim.Native.Nat.{ℕ}
 use mathlib.Core.List.{List}
 use Rattle.limit.specs.declared.Clip.the-variants.{Off}
+use Rattle.limit.specs.declared.Edition.the-variants.{Ours}
 use Rattle.settings.specs.declared.Settings.{Settings}
 use Rattle.counting.specs.Counting.{Tallied, countedSays}
 use Rattle.flat.specs.Flat.{returned}
 
--- "Counting .. never looks at the clip": the settings of five arguments, with clip off
+-- "Counting .. never looks at the clip": the settings of five arguments, with clip off and our edition
 abbrev pub unclipped : ℕ → ℕ → ℕ → ℕ → ℕ → Settings
-unclipped across down bins min max = record { across = across; down = down; bins = bins; min = min; max = max; clip = Off }
+unclipped across down bins min max = record { across = across; down = down; bins = bins; min = min; max = max; clip = Off; edition = Ours }
 
 -- "A refusal returns its number alone": the number returned, and the counts that were lent
 pub record FlatCounted : Type 0 where

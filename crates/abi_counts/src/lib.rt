@@ -7,9 +7,10 @@ ghost use Rattle.flat.specs.Films.{footed, celled, preparedAs, flatPrepared};
 ghost use Rattle.abi_counts.specs.Flat.{unclipped, countedAs, flatCounted};
 use counting::Counted;
 use limit::Clip;
+use limit::Edition;
 use settings::Settings;
 
-// Counting never looks at the clip setting, so it is not asked for.
+// Counting never looks at the clip setting and its edition, so they are not asked for.
 #[no_mangle]
 pub extern "C" fn tz_count(
     width: u32,
@@ -31,6 +32,7 @@ pub extern "C" fn tz_count(
         min,
         max,
         clip: Clip::Off,
+        edition: Edition::Ours,
     };
     let answer = counting::count_tiles(width, height, picture, s, counts);
     match answer {
@@ -54,7 +56,7 @@ pub extern "C" fn tz_map(
     counts: &[u32],
     map: &mut [u16],
     scratch: &mut [u32],
-    numbers: &mut [u32; 9],
+    numbers: &mut [u32; 10],
     kept: &mut f32,
     limit: &mut u32,
     asked: &mut f32,
@@ -64,10 +66,11 @@ pub extern "C" fn tz_map(
     row_edges: &mut [u32; 17],
     row_centres: &mut [u32; 16],
     list: &mut [u64],
+    edition: u32,
 ) -> u32
-    ensures { λ r. ⌜ preparedAs r (now (map .exit)) (now (scratch .exit)) (now (list .exit)) (celled (now (numbers .exit)) (now (kept .exit)) (axed (now («column_edges» .exit)) (now («column_centres» .exit)) (now («row_edges» .exit)) (now («row_centres» .exit))) (footed (now (limit .exit)) (now (asked .exit)) (now (used .exit)))) ≡ flatPrepared (mapOf film width height (settingsFrom across down bins min max clip factor) (now (counts .entry)) (now (map .entry)) (now (scratch .entry)) (now (list .entry))) (celled (now (numbers .entry)) (now (kept .entry)) (axed (now («column_edges» .entry)) (now («column_centres» .entry)) (now («row_edges» .entry)) (now («row_centres» .entry))) (footed (now (limit .entry)) (now (asked .entry)) (now (used .entry)))) ⌝ }
+    ensures { λ r. ⌜ preparedAs r (now (map .exit)) (now (scratch .exit)) (now (list .exit)) (celled (now (numbers .exit)) (now (kept .exit)) (axed (now («column_edges» .exit)) (now («column_centres» .exit)) (now («row_edges» .exit)) (now («row_centres» .exit))) (footed (now (limit .exit)) (now (asked .exit)) (now (used .exit)))) ≡ flatPrepared (mapOf film width height (settingsFrom across down bins min max clip factor edition) (now (counts .entry)) (now (map .entry)) (now (scratch .entry)) (now (list .entry))) (celled (now (numbers .entry)) (now (kept .entry)) (axed (now («column_edges» .entry)) (now («column_centres» .entry)) (now («row_edges» .entry)) (now («row_centres» .entry))) (footed (now (limit .entry)) (now (asked .entry)) (now (used .entry)))) ⌝ }
 {
-    let s = flat::settings_from(across, down, bins, min, max, clip, factor);
+    let s = flat::settings_from(across, down, bins, min, max, clip, factor, edition);
     let prepared = counts::map_counts(film, width, height, s, counts, map, scratch, list);
     flat::put_prepared(
         numbers,

@@ -52,6 +52,7 @@ fn map_tile(
 {
     let rect = tiles::tile_rect(width, height, s.across, s.down, k);
     let clip = s.clip;
+    let edition = s.edition;
     let bins = settings::bins(s);
     let each = bins as usize;
     let a = k * each;
@@ -66,6 +67,7 @@ fn map_tile(
         clip,
         scratch,
         &mut map[a..e],
+        edition,
     )
 }
 

@@ -17,8 +17,8 @@ use filmset::film::same;
 use filmset::film::unlisted;
 use filmset::film::window;
 use filmset::kept;
+use filmset::kept::Eleven;
 use filmset::kept::Kept;
-use filmset::kept::Ten;
 use filmset::made;
 use filmset::whole::Row;
 use filmset::whole::at;
@@ -173,7 +173,7 @@ fn first(letter: u8, row: Row, drawn: Row, picture: &mut [u8]) -> Made {
 }
 
 // Calls draw with the record; answers its number.
-fn draw_by(drawn: Row, t: Ten, k: Kept, picture: &[u8], map: &[u8], out: &mut [u8]) -> u32 {
+fn draw_by(drawn: Row, t: Eleven, k: Kept, picture: &[u8], map: &[u8], out: &mut [u8]) -> u32 {
     let s: Settings = kept::settings(t);
     let record = kept::record(k);
     let win = window(drawn);
@@ -209,7 +209,7 @@ fn drawn_lines(drawn: Row, number: u32, picture: &[u8], map: &[u8], out: &[u8]) 
 }
 
 // Makes the output and draws from the map.
-fn drawn_from(drawn: Row, t: Ten, k: Kept, picture: &[u8], map: &[u8], out: &mut [u8]) -> Shot {
+fn drawn_from(drawn: Row, t: Eleven, k: Kept, picture: &[u8], map: &[u8], out: &mut [u8]) -> Shot {
     let n = fitting(at(drawn, column::OUT_ROOM), out.len());
     let o = &mut out[0..n];
     bytes::output(o, OUTPUT_BASE);

@@ -8,6 +8,7 @@ use mathlib.Core.Path.{_≡_, refl, sym, ap, _∙_}
 use lib.Ieee.{Float}
 use lib.ListN.{length, getD, take}
 use Rattle.refuse.specs.Refuse.{first, accepted, refused}
+use Rattle.limit.specs.declared.Edition.the-variants.{Ours}
 use Rattle.tile.specs.Tile.{mappedOf}
 use Rattle.settings.specs.declared.MapRecord.{MapRecord}
 use Rattle.settings.specs.declared.Footer.{Footer}
@@ -24,13 +25,13 @@ use Rattle.profile.proofs.Profile.{byte-ready, byte-inside, profile-none}
 use Rattle.promises.specs.Films.{clippedCounts, ruleGrey, ClippingOn, FooterShows, limitIn, FilmSound, LimitFits, BinsReached}
 use Rattle.promises.proofs.Accepted.{refused-says, table-accepted, prepare-work, enhance-work, draw-table}
 use Rattle.promises.proofs.Reuse.{left-settings}
-use Rattle.promises.proofs.Demand2.{own-mapping, own-mapping-enhance, own-rendering, own-pixels}
+use Rattle.promises.proofs.Demand2.{divides-pixels, own-mapping, own-mapping-enhance, own-rendering, own-pixels}
 use Rattle.promises.proofs.Windows.{accepted-handed, accepted-by-rule, accepted-as-film, accepted-as-enhanced}
 use Rattle.promises.proofs.Demand3.{tiles-sound, tiles-sound-enhance, footer-shows, footer-shows-enhance, limit-fits}
 use Rattle.promises.proofs.Bins.{tiled-reached}
 use Rattle.promises.proofs.Runs.{PrepareCall, EnhanceCall, DrawCall}
 use Rattle.promises.proofs.Calls.{drawnGrey}
-use Rattle.byte_promises.proofs.Inside.{prepare-bytes-wide, enhance-bytes-wide, draw-rows-inside, draw-bytes-wide}
+use Rattle.byte_promises.proofs.Inside.{prepare-bytes-profile, prepare-bytes-wide, enhance-bytes-profile, enhance-bytes-wide, draw-rows-inside, draw-bytes-wide}
 use Rattle.byte_promises.proofs.Runs.{PreparesBytes, prepare-bytes-ends, EnhancesBytes, enhance-bytes-ends, DrawsBytes, draw-bytes-ends}
 use Rattle.byte_promises.proofs.Outcomes.{draw-bytes-says}
 
@@ -47,12 +48,20 @@ module _ {p : PrepareCall} {r : MapRecord} {foot : Footer} (ran : PreparesBytes 
   pub prepare-bytes-done : preparedSays (prepareOf (p .film) (p .width) (p .height) (p .pixels) (p .settings) (p .map) (p .scratch) (p .list) .answer) ≡ accepted (r, foot)
   prepare-bytes-done = sym (ap (λ (z : Ended). preparedSays (z .answer)) prepare-bytes-as-wide) ∙ prepared
 
+  -- its settings are of our edition: order 8, "The byte profile keeps the present edition only."
+  pub prepared-bytes-ours : p .settings .edition ≡ Ours
+  prepared-bytes-ours =
+      prepare-bytes-profile (p .film) (p .width) (p .height) (p .pixels) (p .settings) (p .map) (p .scratch) (p .list)
+      (sym (ap (λ (z : Ended). preparedSays (z .answer)) (prepare-bytes-ends ran)) ∙ prepared) .edition
+
   -- each tile's own mapping lies in the map buffer
   pub prepared-bytes-by-rule : clipOne (p .settings .clip) ≡ false → (k b : ℕ) → k < p .settings .across * p .settings .down → b < binsOf (p .settings)
       → getD (p .map′) (k * binsOf (p .settings) + b) 0
       ≡ mappedOf (p .settings .min) (p .settings .max) (pixelsIn (p .width) (p .height) (p .settings) k) (clippedCounts (p .width) (p .height) (p .pixels) (p .settings) k) b
   prepared-bytes-by-rule one k b l q =
       ap (λ (z : Ended). getD (z .map) (k * binsOf (p .settings) + b) 0) prepare-bytes-as-wide ∙ own-mapping _ _ _ _ _ _ _ _ prepare-bytes-done one k b l q
+      ∙ ap (λ n. mappedOf (p .settings .min) (p .settings .max) n (clippedCounts (p .width) (p .height) (p .pixels) (p .settings) k) b)
+      (divides-pixels (p .width) (p .height) (p .pixels) (p .settings) k prepared-bytes-ours)
 
   -- the record's own settings can be handed on for those that were asked
   pub record-bytes-settings : keptOf (r .settings) ≡ keptOf (p .settings)
@@ -64,7 +73,7 @@ module _ {p : PrepareCall} {r : MapRecord} {foot : Footer} (ran : PreparesBytes 
 
   -- and every tile, "with each tile's own N and L"
   pub prepared-bytes-tiles-sound : {f : Float} → ClippingOn (p .settings .clip) f → FilmSound (p .width) (p .height) (p .pixels) (p .settings) f (p .map′)
-  prepared-bytes-tiles-sound on = rw (ap (λ (z : Ended). z .map) prepare-bytes-as-wide) (tiles-sound _ _ _ _ _ (p .map) (p .scratch) (p .list) prepare-bytes-done on)
+  prepared-bytes-tiles-sound on = rw (ap (λ (z : Ended). z .map) prepare-bytes-as-wide) (tiles-sound _ _ _ _ _ (p .map) (p .scratch) (p .list) prepare-bytes-done on prepared-bytes-ours)
 
   -- whose own limit holds it
   pub prepared-bytes-limit-fits : {f : Float} → ClippingOn (p .settings .clip) f → (k : ℕ)
@@ -88,6 +97,12 @@ module _ {e : EnhanceCall} {foot : Footer} (ran : EnhancesBytes e) (done : enhan
   pub enhance-bytes-done : enhancedSays (enhanceOf (e .width) (e .height) (e .pixels) (e .settings) (e .map) (e .scratch) .answer) ≡ accepted foot
   enhance-bytes-done = sym (ap (λ (z : Over). enhancedSays (z .answer)) enhance-bytes-as-wide) ∙ done
 
+  -- its settings are of our edition
+  pub enhanced-bytes-ours : e .settings .edition ≡ Ours
+  enhanced-bytes-ours =
+      enhance-bytes-profile (e .width) (e .height) (e .pixels) (e .settings) (e .map) (e .scratch)
+      (sym (ap (λ (z : Over). enhancedSays (z .answer)) (enhance-bytes-ends ran)) ∙ done) .edition
+
   -- demand 2: each pixel is the rule's
   pub enhanced-bytes-by-rule : clipOne (e .settings .clip) ≡ false → (i j : ℕ) → i < e .width → j < e .height
       → getD (e .pixels′) (j * e .width + i) 0 ≡ ruleGrey (e .width) (e .height) (e .pixels) (e .settings) i j
@@ -104,13 +119,15 @@ module _ {e : EnhanceCall} {foot : Footer} (ran : EnhancesBytes e) (done : enhan
       ≡ mappedOf (e .settings .min) (e .settings .max) (pixelsIn (e .width) (e .height) (e .settings) k) (clippedCounts (e .width) (e .height) (e .pixels) (e .settings) k) b
   enhanced-bytes-mapped-by-rule one k b l q =
       ap (λ (z : Over). getD (z .map) (k * binsOf (e .settings) + b) 0) enhance-bytes-as-wide ∙ own-mapping-enhance _ _ _ _ (e .map) (e .scratch) enhance-bytes-done one k b l q
+      ∙ ap (λ n. mappedOf (e .settings .min) (e .settings .max) n (clippedCounts (e .width) (e .height) (e .pixels) (e .settings) k) b)
+      (divides-pixels (e .width) (e .height) (e .pixels) (e .settings) k enhanced-bytes-ours)
 
   -- demand 3: the footer, and every tile
   pub enhanced-bytes-footer : FooterShows (e .settings .clip) (pixelsIn (e .width) (e .height) (e .settings) 0) (binsOf (e .settings)) foot
   enhanced-bytes-footer = footer-shows-enhance _ _ _ _ (e .map) (e .scratch) enhance-bytes-done
 
   pub enhanced-bytes-tiles-sound : {f : Float} → ClippingOn (e .settings .clip) f → FilmSound (e .width) (e .height) (e .pixels) (e .settings) f (e .map′)
-  enhanced-bytes-tiles-sound on = rw (ap (λ (z : Over). z .map) enhance-bytes-as-wide) (tiles-sound-enhance _ _ _ _ (e .map) (e .scratch) enhance-bytes-done on)
+  enhanced-bytes-tiles-sound on = rw (ap (λ (z : Over). z .map) enhance-bytes-as-wide) (tiles-sound-enhance _ _ _ _ (e .map) (e .scratch) enhance-bytes-done on enhanced-bytes-ours)
 
   pub enhanced-bytes-limit-fits : {f : Float} → ClippingOn (e .settings .clip) f → (k : ℕ)
       → LimitFits f (pixelsIn (e .width) (e .height) (e .settings) k) (binsOf (e .settings)) (limitIn (e .width) (e .height) (e .settings) f k)

@@ -20,7 +20,7 @@ use Rattle.draw.specs.declared.Drawn.the-variants as Drawn
 use Rattle.held.specs.Held.{recordRows, windowRows}
 use Rattle.draw.specs.Draw.{pixelRows, drawRows, drawnPixels, drawnSays, Shows, showing, drawOf}
 use Rattle.draw.proofs.Tables.{draw-rows}
-use Rattle.profile.specs.Profile.{profileRows, byteRows}
+use Rattle.profile.specs.Profile.{profileRows, byteRows, Profile}
 use Rattle.profile.proofs.Profile.{byte-numbered, byte-ready, byte-inside, profile-none}
 use Rattle.byte_film.specs.Bytes.{bytePrepareRows, byteEnhanceRows, bytePrepareOf, byteEnhanceOf}
 use Rattle.byte_film.proofs.Tables.{bytes-profile, enhance-profile}
@@ -43,9 +43,13 @@ module _ (film w h : ℕ) (pic : List ℕ) (s : Settings) (m t n : List ℕ) whe
         says-lent = λ k. refl;
       }
 
-  -- a film that it accepts is inside the profile, and it ends as prepare does
+  -- a film that it accepts is inside the profile
+  pub prepare-bytes-profile : {v : MapRecord × Footer} → preparedSays (bytePrepareOf film w h pic s m t n .answer) ≡ accepted v → Profile s
+  prepare-bytes-profile e = bytes-profile w h pic s (length m) (length t) (length n) (table-accepted prepare-bytes-table e .0)
+
+  -- and it ends as prepare does
   pub prepare-bytes-wide : {v : MapRecord × Footer} → preparedSays (bytePrepareOf film w h pic s m t n .answer) ≡ accepted v → bytePrepareOf film w h pic s m t n ≡ prepareOf film w h pic s m t n
-  prepare-bytes-wide e = prepare-inside film w h pic s m t n (profile-none s (bytes-profile w h pic s (length m) (length t) (length n) (table-accepted prepare-bytes-table e .0)))
+  prepare-bytes-wide e = prepare-inside film w h pic s m t n (profile-none s (prepare-bytes-profile e))
 
 module _ (w h : ℕ) (pic : List ℕ) (s : Settings) (m t : List ℕ) where
   -- enhance on bytes goes by the same rows but 32
@@ -60,8 +64,11 @@ module _ (w h : ℕ) (pic : List ℕ) (s : Settings) (m t : List ℕ) where
         says-lent = λ k. refl;
       }
 
+  pub enhance-bytes-profile : {v : Footer} → enhancedSays (byteEnhanceOf w h pic s m t .answer) ≡ accepted v → Profile s
+  enhance-bytes-profile e = enhance-profile w h pic s (length m) (length t) (table-accepted enhance-bytes-table e .0)
+
   pub enhance-bytes-wide : {v : Footer} → enhancedSays (byteEnhanceOf w h pic s m t .answer) ≡ accepted v → byteEnhanceOf w h pic s m t ≡ enhanceOf w h pic s m t
-  enhance-bytes-wide e = enhance-inside w h pic s m t (profile-none s (enhance-profile w h pic s (length m) (length t) (table-accepted enhance-bytes-table e .0)))
+  enhance-bytes-wide e = enhance-inside w h pic s m t (profile-none s (enhance-bytes-profile e))
 
 -- ---- draw
 

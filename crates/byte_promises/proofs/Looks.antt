@@ -18,7 +18,7 @@ use Rattle.promises.specs.Looks.{FilmLooks, NoLooks}
 use Rattle.promises.proofs.Looks.{list-looks, list-looks-off, list-kept, list-long, list-behind}
 use Rattle.promises.proofs.Runs.{PrepareCall}
 use Rattle.byte_promises.proofs.Runs.{PreparesBytes}
-use Rattle.byte_promises.proofs.Calls.{prepare-bytes-as-wide, prepare-bytes-done}
+use Rattle.byte_promises.proofs.Calls.{prepare-bytes-as-wide, prepare-bytes-done, prepared-bytes-ours}
 
 module _ {p : PrepareCall} {r : MapRecord} {foot : Footer} (ran : PreparesBytes p) (prepared : preparedSays (p .answer) ≡ accepted (r, foot)) where
   done : preparedSays (prepareOf (p .film) (p .width) (p .height) (p .pixels) (p .settings) (p .map) (p .scratch) (p .list) .answer) ≡ accepted (r, foot)
@@ -29,7 +29,7 @@ module _ {p : PrepareCall} {r : MapRecord} {foot : Footer} (ran : PreparesBytes 
 
   -- each tile's E and looks, and their bound, with a factor above one
   pub prepared-bytes-looks : {f : Float} → ClippingOn (p .settings .clip) f → FilmLooks (p .width) (p .height) (p .pixels) (p .settings) f (p .list′)
-  prepared-bytes-looks on = rw listed (list-looks _ _ _ _ _ (p .map) (p .scratch) (p .list) done on)
+  prepared-bytes-looks on = rw listed (list-looks _ _ _ _ _ (p .map) (p .scratch) (p .list) done on (prepared-bytes-ours ran prepared))
 
   -- "With clip off both are 0"
   pub prepared-bytes-looks-off : p .settings .clip ≡ Off → NoLooks (p .settings) (p .list′)

@@ -13,6 +13,7 @@ use Rattle.lists.proofs.Fills.{take-onto}
 use Rattle.lists.proofs.Maps.{onto-whole}
 use Rattle.lists.proofs.Alls.{all-at, all-from}
 use Rattle.limit.specs.declared.Clip.{Clip}
+use Rattle.limit.specs.declared.Edition.{Edition}
 use Rattle.scan.specs.Scan.{within}
 use Rattle.scan.proofs.Spans.{within-high}
 use Rattle.tally.specs.declared.Rect.{Rect}
@@ -65,15 +66,15 @@ module _ {pic : List ℕ} {stride : ℕ} {r : Rect} {lo hi b : ℕ} {clip : Clip
   pub byte-asks : FromAsks clip (r .width * r .height) lo hi (take b s) (length (take b l))
   byte-asks = tile-asks record { counts = asks .tile .counts; holds = asks .tile .holds; room = omega (arith, line-room) } d e
 
-  module _ {o : List ℕ} (h : o ≡ onto (take b l) (countsMapping lo hi clip (r .width * r .height) (take b s))) where
-    mapping-size : length (countsMapping lo hi clip (r .width * r .height) (take b s)) ≡ b
-    mapping-size = length-counts-mapping lo hi clip (r .width * r .height) (take b s) ∙ sym (tile-part (asks .tile) d e)
+  module _ (ed : Edition) {o : List ℕ} (h : o ≡ onto (take b l) (countsMapping lo hi ed clip (r .width * r .height) (take b s))) where
+    mapping-size : length (countsMapping lo hi ed clip (r .width * r .height) (take b s)) ≡ b
+    mapping-size = length-counts-mapping lo hi ed clip (r .width * r .height) (take b s) ∙ sym (tile-part (asks .tile) d e)
 
     -- then it holds the mapping
-    mapped : o ≡ countsMapping lo hi clip (r .width * r .height) (take b s)
+    mapped : o ≡ countsMapping lo hi ed clip (r .width * r .height) (take b s)
     mapped = h ∙ onto-whole (take b l) _ (omega (arith, mapping-size, line-room))
 
-    line-mapping : take b (o ++ drop b l) ≡ countsMapping lo hi clip (r .width * r .height) (take b s)
+    line-mapping : take b (o ++ drop b l) ≡ countsMapping lo hi ed clip (r .width * r .height) (take b s)
     line-mapping = take-at o (drop b l) b (ap length mapped ∙ mapping-size) ∙ mapped
 
     -- in its front
@@ -87,11 +88,11 @@ module _ {pic : List ℕ} {stride : ℕ} {r : Rect} {lo hi b : ℕ} {clip : Clip
     pub mapping-narrow : (length (take b (o ++ drop b l)) ≤ out) × (all isByte (take b (o ++ drop b l)) ≡ true)
     mapping-narrow = (
       omega (arith, mapping-part, asks .tile .room),
-      ap (all isByte) line-mapping ∙ within-bytes lo hi _ (asks .bytes) (counts-mapping-within byte-asks),
+      ap (all isByte) line-mapping ∙ within-bytes lo hi _ (asks .bytes) (counts-mapping-within ed byte-asks),
     )
 
     -- at the end
-    pub mapping-end : (p : List ℕ) {p′ q : List ℕ} {took : Spent} → q ≡ clippedBy clip (r .width * r .height) (take b s) → p′ ≡ onto p (take b (o ++ drop b l))
-        → took ≡ spentBy clip (r .width * r .height) (take b s)
-        → TileMapped lo hi b clip (greysOf pic stride r) d (q ++ drop b s) p p′ took
-    mapping-end p f g k = tile-mapped (asks .tile) d e p f (g ∙ ap (onto p) line-mapping) k
+    pub mapping-end : (p : List ℕ) {p′ q : List ℕ} {took : Spent} → q ≡ clippedBy ed clip (r .width * r .height) (take b s) → p′ ≡ onto p (take b (o ++ drop b l))
+        → took ≡ spentBy ed clip (r .width * r .height) (take b s)
+        → TileMapped lo hi b ed clip (greysOf pic stride r) d (q ++ drop b s) p p′ took
+    mapping-end p f g k = tile-mapped (asks .tile) d e ed p f (g ∙ ap (onto p) line-mapping) k

@@ -8,6 +8,7 @@ ghost use Rattle.tile.specs.Tile.{TileMapped};
 ghost use Rattle.byte_tile.specs.ByteTile.{ByteTileAsks};
 use clip::Spent;
 use limit::Clip;
+use limit::Edition;
 use tally::Rect;
 
 // Adds the greys of one row of bytes to four counts.
@@ -105,9 +106,10 @@ pub fn mapping(
     clip: Clip,
     scratch: &mut [u32],
     out: &mut [u8],
+    edition: Edition,
 ) -> Spent
     requires { ⌜ ByteTileAsks (now picture) stride rect min max bins clip (length (now scratch)) (length (now out)) ⌝ }
-    ensures { λ r. ⌜ TileMapped min max bins clip (greysOf (now (picture .entry)) stride rect) (now (scratch .entry)) (now (scratch .exit)) (now (out .entry)) (now (out .exit)) r ⌝ }
+    ensures { λ r. ⌜ TileMapped min max bins edition clip (greysOf (now (picture .entry)) stride rect) (now (scratch .entry)) (now (scratch .exit)) (now (out .entry)) (now (out .exit)) r ⌝ }
 {
     let pixels = (rect.width * rect.height) as u32;
     let entries = bins as usize;
@@ -120,6 +122,7 @@ pub fn mapping(
         max,
         &mut scratch[..entries],
         &mut line[..entries],
+        edition,
     );
     narrow::narrow(&line[..entries], out);
     spent

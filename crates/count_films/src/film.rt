@@ -16,7 +16,7 @@ use settings::Settings;
 use text::Text;
 
 // The columns that these rows alone have. Of a film: how many counts are lent.
-const COUNTS_ROOM: usize = 24;
+const COUNTS_ROOM: usize = 25;
 
 // Of a mapping: how many counts are lent, what is changed in them, and the turns.
 const LENT_ROOM: usize = 6;
@@ -35,7 +35,9 @@ const EACH: usize = 24;
 
 const TURNS: usize = 25;
 
-const FIRST_TURN: usize = 26;
+const OWN_EDITION: usize = 26;
+
+const FIRST_TURN: usize = 27;
 
 // 2^32.
 const SPAN: u64 = 4294967296;
@@ -262,14 +264,24 @@ fn changed(row: Row, lent: &mut [u32]) {
     words::gain_each(lent, at(row, STEP), at(row, EACH));
 }
 
-// The row with the clip setting of a turn.
+// The row with the edition of a mapping in a film's place. There stood what counts gain, which is no longer asked.
+fn edited(row: Row) -> Row {
+    with(row, column::EDITION, at(row, OWN_EDITION))
+}
+
+// The row with the clip setting and the edition of a turn.
 fn turned(row: Row, turn: u64) -> Row {
-    let place = std::num::wrapping_add_usize(FIRST_TURN, (turn % 8 * 2) as usize);
+    let place = std::num::wrapping_add_usize(FIRST_TURN, (turn % 8 * 3) as usize);
     let clip = with(row, column::CLIP, at(row, place));
-    with(
+    let factor = with(
         clip,
         column::FACTOR,
         at(row, std::num::wrapping_add_usize(place, 1)),
+    );
+    with(
+        factor,
+        column::EDITION,
+        at(row, std::num::wrapping_add_usize(place, 2)),
     )
 }
 
@@ -309,5 +321,5 @@ pub fn mappings(case: Row, row: Row, picture: &mut [u16], counts: &mut [u32]) {
     let n = fitting(at(row, LENT_ROOM), counts.len());
     let c = &mut counts[0..n];
     changed(row, c);
-    all_turns(row, &c[..]);
+    all_turns(edited(row), &c[..]);
 }

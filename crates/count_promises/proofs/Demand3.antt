@@ -1,4 +1,4 @@
--- Demand 3 of mapping: of counts that counting left, mapping is prepare, so each sentence is prepare's of the same film.
+-- Demand 3 of mapping, and order 8's facts, which stand in for it in the edition of 1986: of counts that counting left, mapping is prepare, so each sentence is prepare's of the same film.
 -- Of every run of counting and mapping by their contracts (Runs); a name with ′ is lent memory at the end.
 -- Assumes nothing.
 use Prim.Native.Nat.{ℕ}
@@ -6,13 +6,15 @@ use mathlib.Core.List.{List}
 use mathlib.Core.Path.{_≡_, ap, _∙_}
 use lib.Ieee.{Float}
 use Rattle.refuse.specs.Refuse.{accepted}
+use Rattle.limit.specs.declared.Edition.the-variants.{Ours, Of1986}
 use Rattle.settings.specs.declared.MapRecord.{MapRecord}
 use Rattle.settings.specs.declared.Footer.{Footer}
 use Rattle.settings.specs.Settings.{binsOf}
 use Rattle.tiles.specs.Tiles.{pixelsIn}
 use Rattle.prepare.specs.Prepare.{preparedSays, Ended}
 use Rattle.promises.specs.Films.{ClippingOn, FooterShows, FilmSound}
-use Rattle.promises.proofs.Demand3.{tiles-sound, footer-shows}
+use Rattle.promises.specs.Older.{FilmOlder}
+use Rattle.promises.proofs.Demand3.{tiles-sound, tiles-older, footer-shows}
 use Rattle.count_promises.proofs.Runs.{MapCall, Maps}
 use Rattle.count_promises.proofs.Turns.{CountedAs, mapped-ends, mapped-says}
 
@@ -22,7 +24,12 @@ module _ {pic : List ℕ} {d : MapCall} {r : MapRecord} {foot : Footer} (by : Co
   pub mapped-footer : FooterShows (d .settings .clip) (pixelsIn (d .width) (d .height) (d .settings) 0) (binsOf (d .settings)) foot
   mapped-footer = footer-shows _ _ _ _ _ (d .map) (d .scratch) (d .list) (mapped-says by ran ∙ mapped)
 
-  -- and every tile, with its own limit
-  pub mapped-tiles-sound : {f : Float} → ClippingOn (d .settings .clip) f → FilmSound (d .width) (d .height) pic (d .settings) f (d .map′)
-  mapped-tiles-sound on =
-      rw (ap (λ (z : Ended). z .map) (mapped-ends by ran)) (tiles-sound _ _ _ _ _ (d .map) (d .scratch) (d .list) (mapped-says by ran ∙ mapped) on)
+  -- and every tile, with its own limit, in our edition
+  pub mapped-tiles-sound : {f : Float} → ClippingOn (d .settings .clip) f → d .settings .edition ≡ Ours → FilmSound (d .width) (d .height) pic (d .settings) f (d .map′)
+  mapped-tiles-sound on ours =
+      rw (ap (λ (z : Ended). z .map) (mapped-ends by ran)) (tiles-sound _ _ _ _ _ (d .map) (d .scratch) (d .list) (mapped-says by ran ∙ mapped) on ours)
+
+  -- and in that of 1986
+  pub mapped-tiles-older : {f : Float} → ClippingOn (d .settings .clip) f → d .settings .edition ≡ Of1986 → FilmOlder (d .width) (d .height) pic (d .settings) f (d .map′)
+  mapped-tiles-older on other =
+      rw (ap (λ (z : Ended). z .map) (mapped-ends by ran)) (tiles-older _ _ _ _ _ (d .map) (d .scratch) (d .list) (mapped-says by ran ∙ mapped) on other)

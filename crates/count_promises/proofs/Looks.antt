@@ -10,6 +10,7 @@ use lib.ListN.{length, drop}
 use Rattle.lists.specs.Lists.{onto}
 use Rattle.refuse.specs.Refuse.{accepted}
 use Rattle.limit.specs.declared.Clip.the-variants.{Off}
+use Rattle.limit.specs.declared.Edition.the-variants.{Ours, Of1986}
 use Rattle.settings.specs.declared.MapRecord.{MapRecord}
 use Rattle.settings.specs.declared.Footer.{Footer}
 use Rattle.settings.specs.Settings.{binsOf, clipOne}
@@ -21,10 +22,10 @@ use Rattle.counts.proofs.Tables.{map-ready}
 use Rattle.counts.proofs.Tiles.{length-counts-in}
 use Rattle.counts.proofs.Spents.{counted-excess, counted-looks, counted-behind}
 use Rattle.promises.specs.Films.{ClippingOn}
-use Rattle.promises.specs.Looks.{excessAt, looksAt, TilesLooks, FilmLooks, NoLooks}
+use Rattle.promises.specs.Looks.{excessAt, looksAt, TilesLooks, FilmLooks, NoLooks, TilesOlderLooks, FilmOlderLooks}
 use Rattle.promises.proofs.Accepted.{table-accepted, table-done}
 use Rattle.promises.proofs.Demand3.{on-not-one}
-use Rattle.promises.proofs.Looks.{tiles-looks, tiles-no-looks, list-looks}
+use Rattle.promises.proofs.Looks.{tiles-looks, tiles-older-looks, tiles-no-looks, list-looks, list-older-looks}
 use Rattle.count_promises.proofs.Runs.{MapCall, Maps, map-ends}
 use Rattle.count_promises.proofs.Outcomes.{map-table}
 use Rattle.count_promises.proofs.Turns.{CountedAs, mapped-ends, mapped-says}
@@ -53,10 +54,17 @@ module _ {d : MapCall} {r : MapRecord} {foot : Footer} (ran : Maps d) (mapped : 
       let e = left-list ∙ ap (λ b. cond b (d .list) (onto (d .list) (spentsFrom (d .width) (d .height) (d .settings) (d .counts)))) one in
       (ap (λ xs. excessAt xs k) e ∙ counted-excess _ _ (d .settings) (d .counts) (d .list) l, ap (λ xs. looksAt xs k) e ∙ counted-looks _ _ (d .settings) (d .counts) (d .list) l)
 
-  -- "two entries: E, and the number of looks .. it is 0 when r is 0 and never more than r x B x (B + 1) / 2": of every tile's counts as lent, with a factor above one
-  pub mapped-looks-any : {f : Float} → ClippingOn (d .settings .clip) f → TilesLooks (d .width) (d .height) (d .settings) f (countsIn (d .settings) (d .counts)) (d .list′)
-  mapped-looks-any on =
-      tiles-looks (d .width) (d .height) (d .settings) on (countsIn (d .settings) (d .counts)) (d .list′)
+  -- "two entries: E, and the number of looks .. it is 0 when r is 0 and never more than r x B x (B + 1) / 2": of every tile's counts as lent, with a factor above one, in our edition
+  pub mapped-looks-any : {f : Float} → ClippingOn (d .settings .clip) f → d .settings .edition ≡ Ours → TilesLooks (d .width) (d .height) (d .settings) f (countsIn (d .settings) (d .counts)) (d .list′)
+  mapped-looks-any on ours =
+      tiles-looks (d .width) (d .height) (d .settings) on ours (countsIn (d .settings) (d .counts)) (d .list′)
+      (λ k l. length-counts-in record { film = ready .film; tile = l }) (entries-by (on-not-one on))
+
+  -- order 8, "E is what stands above C, and the looks are 0 here": in that of 1986
+  pub mapped-looks-any-older : {f : Float} → ClippingOn (d .settings .clip) f → d .settings .edition ≡ Of1986
+      → TilesOlderLooks (d .width) (d .height) (d .settings) f (countsIn (d .settings) (d .counts)) (d .list′)
+  mapped-looks-any-older on other =
+      tiles-older-looks (d .width) (d .height) (d .settings) on other (countsIn (d .settings) (d .counts)) (d .list′)
       (λ k l. length-counts-in record { film = ready .film; tile = l }) (entries-by (on-not-one on))
 
   -- "With clip off both are 0"
@@ -78,6 +86,11 @@ module _ {d : MapCall} {r : MapRecord} {foot : Footer} (ran : Maps d) (mapped : 
 module _ {pic : List ℕ} {d : MapCall} {r : MapRecord} {foot : Footer} (by : CountedAs (d .width) (d .height) pic (d .settings) (d .counts)) (ran : Maps d)
     (mapped : preparedSays (d .answer) ≡ accepted (r, foot)) where
   -- the same of the film's own raw counts
-  pub mapped-looks : {f : Float} → ClippingOn (d .settings .clip) f → FilmLooks (d .width) (d .height) pic (d .settings) f (d .list′)
-  mapped-looks on =
-      rw (ap (λ (z : Ended). z .list) (mapped-ends by ran)) (list-looks _ _ _ _ _ (d .map) (d .scratch) (d .list) (mapped-says by ran ∙ mapped) on)
+  pub mapped-looks : {f : Float} → ClippingOn (d .settings .clip) f → d .settings .edition ≡ Ours → FilmLooks (d .width) (d .height) pic (d .settings) f (d .list′)
+  mapped-looks on ours =
+      rw (ap (λ (z : Ended). z .list) (mapped-ends by ran)) (list-looks _ _ _ _ _ (d .map) (d .scratch) (d .list) (mapped-says by ran ∙ mapped) on ours)
+
+  -- and in the edition of 1986
+  pub mapped-looks-older : {f : Float} → ClippingOn (d .settings .clip) f → d .settings .edition ≡ Of1986 → FilmOlderLooks (d .width) (d .height) pic (d .settings) f (d .list′)
+  mapped-looks-older on other =
+      rw (ap (λ (z : Ended). z .list) (mapped-ends by ran)) (list-older-looks _ _ _ _ _ (d .map) (d .scratch) (d .list) (mapped-says by ran ∙ mapped) on other)

@@ -1,5 +1,5 @@
 -- Order 5: "Wherever prepare accepts the film and 33 isn't met, counting then mapping with factor f gives prepare's mappings, record and footer for f, for each f in turn
--- over the same counts"; and so of order 7's list. Of every run of counting, mapping and prepare by their contracts, each handed what is named; a name with ′ is lent memory at the end.
+-- over the same counts"; and so of order 7's list, and of order 8's editions. Of every run of counting, mapping and prepare by their contracts, each handed what is named; a name with ′ is lent memory at the end.
 -- Assumes nothing.
 use Prim.Native.Nat.{ℕ, _≤_}
 use mathlib.Core.List.{List, [], _∷_}
@@ -8,15 +8,16 @@ use lib.ListN.{length}
 use Rattle.lists.specs.Lists.{onto}
 use Rattle.refuse.specs.Refuse.{first, accepted}
 use Rattle.limit.specs.declared.Clip.{Clip}
+use Rattle.limit.specs.declared.Edition.{Edition}
 use Rattle.settings.specs.declared.Settings.{Settings}
 use Rattle.settings.specs.declared.MapRecord.{MapRecord}
 use Rattle.settings.specs.declared.Footer.{Footer}
 use Rattle.settings.specs.Settings.{entriesOf}
 use Rattle.prepare.specs.Prepare.{preparedSays, Ended, ending, prepareOf}
-use Rattle.counting.specs.Counting.{countings, countRows, countedSays, Alike, withClip}
+use Rattle.counting.specs.Counting.{countings, countRows, countedSays, Alike, withClipping}
 use Rattle.counts.specs.Counts.{mapOf}
 use Rattle.counts.proofs.Mapped.{mapped-as-prepared, prepared-counts}
-use Rattle.counting.proofs.Like.{rows-alike, countings-alike, clip-alike}
+use Rattle.counting.proofs.Like.{rows-alike, countings-alike, clipping-alike}
 use Rattle.promises.proofs.Accepted.{says-accepted, prepare-accepts}
 use Rattle.promises.proofs.Runs.{PrepareCall, Prepares, prepare-given, prepare-ends}
 use Rattle.count_promises.proofs.Runs.{CountCall, Counts, MapCall, Maps, map-given, map-ends}
@@ -35,7 +36,7 @@ pub record CountedAs (w h : ℕ) (pic : List ℕ) (s : Settings) (cs : List ℕ)
   pub like : Alike (call .settings) s
   pub left : cs ≡ call .counts′
 
--- mapping these counts is prepare, for every film number, clip setting, map buffer, scratch and list, refusals too
+-- mapping these counts is prepare, for every film number, clip setting, edition, map buffer, scratch and list, refusals too
 pub counted-maps : {w h : ℕ} {pic : List ℕ} {s : Settings} {cs : List ℕ} → CountedAs w h pic s cs → (film : ℕ) (m t n : List ℕ)
     → mapOf film w h s cs m t n ≡ prepareOf film w h pic s m t n
 counted-maps {w} {h} {pic} {s} {cs} by film m t n =
@@ -116,28 +117,37 @@ module _ {p : PrepareCall} {r : MapRecord} {foot : Footer} (prepares : Prepares 
 
 -- ---- "for each f in turn over the same counts"
 
+-- what mapping looks at and counting does not: a factor, or clip off, and the edition of its rule
+pub record Clipping : Type 0 where
+  pub edition : Edition
+  pub clip : Clip
+
+-- the settings s with these
+abbrev pub clippedWith : Settings → Clipping → Settings
+clippedWith s f = withClipping s (f .edition) (f .clip)
+
 -- mapping the counts cs with f ended with e
-pub record MapsWith (film w h : ℕ) (s : Settings) (cs : List ℕ) (f : Clip) (m t n : List ℕ) (e : Ended) : Type 0 where
+pub record MapsWith (film w h : ℕ) (s : Settings) (cs : List ℕ) (f : Clipping) (m t n : List ℕ) (e : Ended) : Type 0 where
   pub call : MapCall
   pub maps : Maps call
-  pub given : map-given call ≡ (film, w, h, withClip s f, cs, m, t, n)
+  pub given : map-given call ≡ (film, w, h, clippedWith s f, cs, m, t, n)
   pub ended : e ≡ ending (call .answer) (call .map′) (call .scratch′) (call .list′)
 
 -- prepare with f ended with e
-pub record PreparesWith (film w h : ℕ) (pic : List ℕ) (s : Settings) (f : Clip) (m t n : List ℕ) (e : Ended) : Type 0 where
+pub record PreparesWith (film w h : ℕ) (pic : List ℕ) (s : Settings) (f : Clipping) (m t n : List ℕ) (e : Ended) : Type 0 where
   pub call : PrepareCall
   pub prepares : Prepares call
-  pub given : prepare-given call ≡ (film, w, h, pic, withClip s f, m, t, n)
+  pub given : prepare-given call ≡ (film, w, h, pic, clippedWith s f, m, t, n)
   pub ended : e ≡ ending (call .answer) (call .map′) (call .scratch′) (call .list′)
 
 -- a call for each f, from the map buffer m, the scratch t and the list n on, each handed what the one before left; es is what each ended with
-abbrev pub InTurn : (Clip → List ℕ → List ℕ → List ℕ → Ended → Type 0) → List Clip → List ℕ → List ℕ → List ℕ → List Ended → Type 0
+abbrev pub InTurn : (Clipping → List ℕ → List ℕ → List ℕ → Ended → Type 0) → List Clipping → List ℕ → List ℕ → List ℕ → List Ended → Type 0
 InTurn Call [] m t n es = es ≡ []
 InTurn Call (f ∷ fs) m t n [] = ⊥
 InTurn Call (f ∷ fs) m t n (e ∷ es) = Call f m t n e × InTurn Call fs (e .map) (e .scratch) (e .list) es
 
 -- mapping in turn over the same counts ends, each time, as prepare in turn does
-pub in-turn : {w h : ℕ} {pic : List ℕ} {s : Settings} {cs : List ℕ} → CountedAs w h pic s cs → (film : ℕ) (fs : List Clip) (m t n : List ℕ) (es es′ : List Ended)
+pub in-turn : {w h : ℕ} {pic : List ℕ} {s : Settings} {cs : List ℕ} → CountedAs w h pic s cs → (film : ℕ) (fs : List Clipping) (m t n : List ℕ) (es es′ : List Ended)
     → InTurn (MapsWith film w h s cs) fs m t n es → InTurn (PreparesWith film w h pic s) fs m t n es′ → es ≡ es′
 in-turn by film [] m t n es es′ x y = x ∙ sym y
 in-turn by film (f ∷ fs) m t n [] es′ x y = absurd x
@@ -145,13 +155,13 @@ in-turn by film (f ∷ fs) m t n (e ∷ es) [] x y = absurd y
 in-turn {w} {h} {pic} {s} {cs} by film (f ∷ fs) m t n (e ∷ es) (e′ ∷ es′) x y =
     ap₂ (λ a b. a ∷ b) same (in-turn by film fs (e .map) (e .scratch) (e .list) es es′ (x .1) (rw same (y .1)))
   where
-    mapped : e ≡ mapOf film w h (withClip s f) cs m t n
+    mapped : e ≡ mapOf film w h (clippedWith s f) cs m t n
     mapped = x .0 .ended ∙ map-ends (x .0 .maps) ∙ ap (λ g. mapOf (g .0) (g .1) (g .2) (g .3) (g .4) (g .5) (g .6) (g .7)) (x .0 .given)
 
-    prepared : e′ ≡ prepareOf film w h pic (withClip s f) m t n
+    prepared : e′ ≡ prepareOf film w h pic (clippedWith s f) m t n
     prepared = y .0 .ended ∙ prepare-ends (y .0 .prepares) ∙ ap (λ g. prepareOf (g .0) (g .1) (g .2) (g .3) (g .4) (g .5) (g .6) (g .7)) (y .0 .given)
 
-    another : CountedAs w h pic (withClip s f) cs
+    another : CountedAs w h pic (clippedWith s f) cs
     another =
         record {
           call = by .call;
@@ -160,7 +170,7 @@ in-turn {w} {h} {pic} {s} {cs} by film (f ∷ fs) m t n (e ∷ es) (e′ ∷ es�
           width = by .width;
           height = by .height;
           pixels = by .pixels;
-          like = record { across = by .like .across; down = by .like .down; bins = by .like .bins ∙ clip-alike s f .bins; min = by .like .min; max = by .like .max };
+          like = record { across = by .like .across; down = by .like .down; bins = by .like .bins ∙ clipping-alike s (f .edition) (f .clip) .bins; min = by .like .min; max = by .like .max };
           left = by .left;
         }
 

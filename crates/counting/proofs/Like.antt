@@ -8,11 +8,12 @@ use Rattle.lists.specs.Lists.{joined}
 use Rattle.lists.proofs.Fills.{joined-cong}
 use Rattle.lists.proofs.Windows.{front-short}
 use Rattle.limit.specs.declared.Clip.{Clip}
+use Rattle.limit.specs.declared.Edition.{Edition}
 use Rattle.settings.specs.declared.Settings.{Settings}
 use Rattle.settings.specs.Settings.{entriesOf, keptOf}
 use Rattle.settings.proofs.Like.{bins-kept}
 use Rattle.settings.proofs.Parts.{bins-alike, grid-alike, range-alike}
-use Rattle.counting.specs.Counting.{rawCounts, countings, countsRows, outsideRows, pictureRows, countRows, countDoneOf, countOf, Alike, withClip}
+use Rattle.counting.specs.Counting.{rawCounts, countings, countsRows, outsideRows, pictureRows, countRows, countDoneOf, countOf, Alike, withClipping}
 
 -- ---- counting does not look at the clip setting
 
@@ -35,9 +36,9 @@ module _ (w h : ℕ) (pic : List ℕ) {s s′ : Settings} (like : Alike s s′) 
   unfolding countOf countDoneOf
   count-alike cs = rw (rows-alike (length cs), countings-alike) refl
 
--- settings that differ in the factor alone
-pub clip-alike : (s : Settings) (f : Clip) → Alike s (withClip s f)
-clip-alike s f = record { across = refl; down = refl; bins = bins-alike s (withClip s f) refl; min = refl; max = refl }
+-- settings that differ in the factor and the edition alone
+pub clipping-alike : (s : Settings) (e : Edition) (f : Clip) → Alike s (withClipping s e f)
+clipping-alike s e f = record { across = refl; down = refl; bins = bins-alike s (withClipping s e f) refl; min = refl; max = refl }
 
 -- and in bins 0 and 128: "Bins B: 2 to 4096. 0 means 128."
 pub kept-alike : (s : Settings) → Alike (keptOf s) s

@@ -9,6 +9,7 @@ use lib.Dec.{ltb}
 use lib.ListN.{length, take, drop}
 use Rattle.lists.specs.Lists.{joined, onto, all}
 use Rattle.limit.specs.declared.Clip.{Clip}
+use Rattle.limit.specs.declared.Edition.{Edition}
 use Rattle.scan.specs.Scan.{within}
 use Rattle.tally.specs.Tally.{greysOf, countsOf}
 use Rattle.refuse.specs.Refuse.{Row, row, first, unless, Says, accepted, refused}
@@ -76,7 +77,7 @@ countOf w h pic s cs = unless (first (countRows w h pic s (length cs))) (λ n. c
 
 -- ---- one counting for each factor
 
--- settings that "for each f in turn over the same counts" agree in all but the factor, with bins 0 read as 128
+-- settings that "for each f in turn over the same counts" agree in all but the factor (and its edition, order 8), with bins 0 read as 128
 pub record Alike (s s′ : Settings) : Type 0 where
   pub across : s .across ≡ s′ .across
   pub down : s .down ≡ s′ .down
@@ -84,9 +85,9 @@ pub record Alike (s s′ : Settings) : Type 0 where
   pub min : s .min ≡ s′ .min
   pub max : s .max ≡ s′ .max
 
--- these settings with another factor
-abbrev pub withClip : Settings → Clip → Settings
-withClip s f = record { across = s .across; down = s .down; bins = s .bins; min = s .min; max = s .max; clip = f }
+-- these settings with another edition and another factor
+abbrev pub withClipping : Settings → Edition → Clip → Settings
+withClipping s e f = record { across = s .across; down = s .down; bins = s .bins; min = s .min; max = s .max; clip = f; edition = e }
 
 -- ---- what the functions below ask
 

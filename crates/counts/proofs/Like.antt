@@ -77,12 +77,12 @@ module _ (w h : ℕ) (s : Settings) (a b : List ℕ) (front : take (entriesOf s)
   -- the mappings are the same
   mappings-front : mappingsFrom w h s a ≡ mappingsFrom w h s b
   unfolding mappingsFrom
-  mappings-front = joined-cong (s .across * s .down) (λ k l. ap (countsMapping (s .min) (s .max) (s .clip) (pixelsIn w h s k)) (same-counts l))
+  mappings-front = joined-cong (s .across * s .down) (λ k l. ap (countsMapping (s .min) (s .max) (s .edition) (s .clip) (pixelsIn w h s k)) (same-counts l))
 
   -- and what clipping takes
   spents-front : spentsFrom w h s a ≡ spentsFrom w h s b
   unfolding spentsFrom
-  spents-front = joined-cong (s .across * s .down) (λ k l. ap (λ cs. spentPair (spentBy (s .clip) (pixelsIn w h s k) cs)) (same-counts l))
+  spents-front = joined-cong (s .across * s .down) (λ k l. ap (λ cs. spentPair (spentBy (s .edition) (s .clip) (pixelsIn w h s k) cs)) (same-counts l))
 
   -- what lies behind the front plays no part
   pub map-front : (film : ℕ) (m t n : List ℕ) → mapOf film w h s a m t n ≡ mapOf film w h s b m t n

@@ -1,5 +1,5 @@
 -- Order 5: "counting then mapping with factor f gives prepare's mappings, record and footer for f". Of the counts that counting left, mapping answers and leaves
--- what prepare does of the film, for every film number, clip setting, map buffer, scratch and list, refusals too.
+-- what prepare does of the film, for every film number, clip setting, edition, map buffer, scratch and list, refusals too.
 -- Assumes nothing.
 use Prim.Native.Nat.{ℕ, zero, suc, _*_, _≤_}
 use mathlib.Core.Bool.{Bool, true, false, cond}
@@ -38,13 +38,13 @@ use Rattle.counts.proofs.Endings.{map-refused, map-done}
 pub own-mappings : (w h : ℕ) (pic : List ℕ) (s : Settings) (cs : List ℕ) → mappingsFrom w h s (onto cs (countings w h pic s)) ≡ mappings w h pic s
 unfolding mappingsFrom
 own-mappings w h pic s cs =
-    joined-cong (s .across * s .down) (λ k l. ap (countsMapping (s .min) (s .max) (s .clip) (pixelsIn w h s k)) (own-counts w h pic s cs l)) ∙ sym (mappings-from w h pic s)
+    joined-cong (s .across * s .down) (λ k l. ap (countsMapping (s .min) (s .max) (s .edition) (s .clip) (pixelsIn w h s k)) (own-counts w h pic s cs l)) ∙ sym (mappings-from w h pic s)
 
 -- it lists what prepare lists
 pub own-spents : (w h : ℕ) (pic : List ℕ) (s : Settings) (cs : List ℕ) → spentsFrom w h s (onto cs (countings w h pic s)) ≡ spents w h pic s
 unfolding spentsFrom
 own-spents w h pic s cs =
-    joined-cong (s .across * s .down) (λ k l. ap (λ x. spentPair (spentBy (s .clip) (pixelsIn w h s k) x)) (own-counts w h pic s cs l)) ∙ sym (spents-from w h pic s)
+    joined-cong (s .across * s .down) (λ k l. ap (λ x. spentPair (spentBy (s .edition) (s .clip) (pixelsIn w h s k) x)) (own-counts w h pic s cs l)) ∙ sym (spents-from w h pic s)
 
 -- and each tile's add up
 pub own-sums : (w h : ℕ) (pic : List ℕ) (s : Settings) (cs : List ℕ) {size : ℕ} → CountsAsk w h pic s size → addsUp w h s (onto cs (countings w h pic s)) ≡ true

@@ -56,7 +56,7 @@ tile-sum {w} {h} {s} {cs} {k} asks = eqb-true (total (countsIn s cs k)) (pixelsI
 
 -- and the mapping has a value for each bin
 pub length-mapping-from : {w h : ℕ} {s : Settings} {cs : List ℕ} {k room scratch : ℕ} → MapAsks w h s cs k room scratch → length (mappingFrom w h s cs k) ≡ binsOf s
-length-mapping-from {w} {h} {s} {cs} {k} asks = length-counts-mapping (s .min) (s .max) (s .clip) (pixelsIn w h s k) (countsIn s cs k) ∙ length-counts-in asks
+length-mapping-from {w} {h} {s} {cs} {k} asks = length-counts-mapping (s .min) (s .max) (s .edition) (s .clip) (pixelsIn w h s k) (countsIn s cs k) ∙ length-counts-in asks
 
 module _ {w h : ℕ} {s : Settings} {cs : List ℕ} {k : ℕ} (m t : List ℕ) (asks : MapAsks w h s cs k (length m) (length t)) {b : ℕ} (q : b ≡ binsOf s) where
   -- the copy of the counts fits into the scratch
@@ -106,8 +106,8 @@ module _ {w h : ℕ} {s : Settings} {cs : List ℕ} {k : ℕ} (m t : List ℕ) (
           }
 
       -- what it leaves and answers
-      pub one-mapped : {ys v : List ℕ} {took : Spent} → v ≡ clippedBy (s .clip) n (take b u) → ys ≡ onto (block m k b) (countsMapping (s .min) (s .max) (s .clip) n (take b u))
-          → took ≡ spentBy (s .clip) n (take b u) → OneMapped w h s cs k m (putMid (k * b) (k * b + b - k * b) m ys) t (v ++ drop b u) took
+      pub one-mapped : {ys v : List ℕ} {took : Spent} → v ≡ clippedBy (s .edition) (s .clip) n (take b u) → ys ≡ onto (block m k b) (countsMapping (s .min) (s .max) (s .edition) (s .clip) n (take b u))
+          → took ≡ spentBy (s .edition) (s .clip) n (take b u) → OneMapped w h s cs k m (putMid (k * b) (k * b + b - k * b) m ys) t (v ++ drop b u) took
       one-mapped {ys} {v} f g j =
           record {
             placed = record {
@@ -115,8 +115,8 @@ module _ {w h : ℕ} {s : Settings} {cs : List ℕ} {k : ℕ} (m t : List ℕ) (
               behind = ap (λ i. drop i (v ++ drop b u)) (sym q) ∙ drop-at v (drop b u) b (clipped ∙ sym q) ∙ ap (drop b) held ∙ drop-onto t (countsIn s cs k) b long ∙ ap (λ i. drop i t) q;
               size = length-front u v b (clipped ∙ sym size) ∙ ap length held ∙ length-onto t (countsIn s cs k) (omega (arith, long, copy-asks .room));
             };
-            spent = j ∙ ap₂ (spentBy (s .clip)) p copied;
+            spent = j ∙ ap₂ (spentBy (s .edition) (s .clip)) p copied;
           }
         where
           clipped : length v ≡ binsOf s
-          clipped = ap length f ∙ length-clipped-by (s .clip) n (take b u) ∙ size
+          clipped = ap length f ∙ length-clipped-by (s .edition) (s .clip) n (take b u) ∙ size

@@ -25,7 +25,7 @@ addsUp w h s cs = every (s .across * s .down) (λ k. eqb (total (countsIn s cs k
 
 -- the mapping of tile k "from those counts"
 abbrev pub mappingFrom : ℕ → ℕ → Settings → List ℕ → ℕ → List ℕ
-mappingFrom w h s cs k = countsMapping (s .min) (s .max) (s .clip) (pixelsIn w h s k) (countsIn s cs k)
+mappingFrom w h s cs k = countsMapping (s .min) (s .max) (s .edition) (s .clip) (pixelsIn w h s k) (countsIn s cs k)
 
 -- "mapping, which makes the mappings .. from those counts"
 unfoldable pub mappingsFrom : ℕ → ℕ → Settings → List ℕ → List ℕ
@@ -33,7 +33,7 @@ mappingsFrom w h s cs = joined (s .across * s .down) (mappingFrom w h s cs)
 
 -- order 7, "E, and the number of looks" of tile k from those counts
 abbrev pub spentFrom : ℕ → ℕ → Settings → List ℕ → ℕ → Spent
-spentFrom w h s cs k = spentBy (s .clip) (pixelsIn w h s k) (countsIn s cs k)
+spentFrom w h s cs k = spentBy (s .edition) (s .clip) (pixelsIn w h s k) (countsIn s cs k)
 
 -- the list "in which each tile in row order has two entries"
 unfoldable pub spentsFrom : ℕ → ℕ → Settings → List ℕ → List ℕ

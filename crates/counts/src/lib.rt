@@ -140,6 +140,7 @@ fn map_one(
 {
     let pixels = tiles::tile_pixels(width, height, s, k);
     let clip = s.clip;
+    let edition = s.edition;
     let each = settings::bins(s) as usize;
     let at = k * each;
     let behind = at + each;
@@ -151,6 +152,7 @@ fn map_one(
         s.max,
         &mut scratch[..each],
         &mut map[at..behind],
+        edition,
     )
 }
 

@@ -6,6 +6,7 @@ use mathlib.Core.List.{List, [], _∷_, _++_}
 use lib.IntN.{pos}
 use lib.Ieee.{Float, fin}
 use Rattle.limit.specs.declared.Clip.the-variants.{Factor}
+use Rattle.limit.specs.declared.Edition.the-variants.{Ours}
 use Rattle.limit.specs.Limit.{limitOf}
 use Rattle.settings.specs.declared.Settings.{Settings}
 use Rattle.tiles.specs.Tiles.{pixelsIn, tileMap, spentIn}
@@ -17,7 +18,7 @@ two = fin false 1 (pos 1)
 
 -- "uses grid 2 by 2, 4 bins, range 0 to maxval, factor 2"
 abbrev pub settingsOf : ℕ → Settings
-settingsOf maxval = record { across = 2; down = 2; bins = 4; min = 0; max = maxval; clip = Factor two }
+settingsOf maxval = record { across = 2; down = 2; bins = 4; min = 0; max = maxval; clip = Factor two; edition = Ours }
 
 -- the limit of tile 0, 0
 abbrev pub limitFor : ℕ → ℕ → ℕ → ℕ

@@ -9,6 +9,7 @@ ghost use Rattle.lines.specs.Asks.{Told};
 ghost use Rattle.film_lines.specs.FilmText.{settingsOf, filmText};
 ghost use Rattle.film_lines.specs.Asks.{keptText, LinesAsk};
 use limit::Clip;
+use limit::Edition;
 use prepare::Made;
 use settings::Settings;
 
@@ -23,6 +24,7 @@ fn settings_for(maxval: u32) -> Settings
         min: 0,
         max: maxval,
         clip: Clip::Factor(2.0),
+        edition: Edition::Ours,
     }
 }
 

@@ -9,10 +9,10 @@ use native.Mathlib.Omega.{arith}
 use borrow.Author.Tests.{lt-ltb, le-ltb, le-leb, lt-leb, eq-eqb, ne-eqb}
 use Rattle.filmset.specs.declared.row.Line.{Line}
 use Rattle.grid.specs.Grid.{axisOf, noAxis}
-use Rattle.filmset.specs.declared.kept.Ten.{Ten}
+use Rattle.filmset.specs.declared.kept.Eleven.{Eleven}
 use Rattle.filmset.specs.declared.kept.Kept.{Kept}
 use Rattle.filmset.specs.declared.axes.Axes.{Axes}
-use Rattle.filmset.specs.Filmset.{freshLine, digitOf, longerLine, fedLine, lookedLine, isFilm, ownOf, tenOf, madeAxis, axesOf, changedAxes, keptAs, placeOf, handedOf}
+use Rattle.filmset.specs.Filmset.{freshLine, digitOf, longerLine, fedLine, lookedLine, isFilm, ownOf, elevenOf, madeAxis, axesOf, changedAxes, keptAs, placeOf, handedOf}
 
 pub digit-low : (b : ℕ) → b < 65 → b - 48 ≡ digitOf b
 unfolding digitOf
@@ -26,25 +26,25 @@ pub digit-small : (b : ℕ) → 97 ≤ b → b - 87 ≡ digitOf b
 unfolding digitOf
 digit-small b h = let k : 65 ≤ b = omega arith in rw (le-ltb b 65 k, le-ltb b 97 h) refl
 
-pub fed-over : (l : Line) (b : ℕ) → 35 < l .count → l ≡ fedLine l b
+pub fed-over : (l : Line) (b : ℕ) → 48 < l .count → l ≡ fedLine l b
 unfolding fedLine
-fed-over l b h = rw (lt-ltb 35 (l .count) h) refl
+fed-over l b h = rw (lt-ltb 48 (l .count) h) refl
 
-pub fed-note : (l : Line) (b : ℕ) → l .count ≤ 35 → b ≡ 35 → _≡_ {A = Line} (record { numbers = l .numbers; count = 36; base = 10 }) (fedLine l b)
+pub fed-note : (l : Line) (b : ℕ) → l .count ≤ 48 → b ≡ 35 → _≡_ {A = Line} (record { numbers = l .numbers; count = 49; base = 10 }) (fedLine l b)
 unfolding fedLine
-fed-note l b h e = rw (le-ltb 35 (l .count) h, eq-eqb b 35 e) refl
+fed-note l b h e = rw (le-ltb 48 (l .count) h, eq-eqb b 35 e) refl
 
-pub fed-hex : (l : Line) (b : ℕ) → l .count ≤ 35 → b ≡ 120 → _≡_ {A = Line} (record { numbers = l .numbers; count = l .count; base = 16 }) (fedLine l b)
+pub fed-hex : (l : Line) (b : ℕ) → l .count ≤ 48 → b ≡ 120 → _≡_ {A = Line} (record { numbers = l .numbers; count = l .count; base = 16 }) (fedLine l b)
 unfolding fedLine
-fed-hex l b h e = rw (le-ltb 35 (l .count) h, e) refl
+fed-hex l b h e = rw (le-ltb 48 (l .count) h, e) refl
 
-pub fed-blank : (l : Line) (b : ℕ) → l .count ≤ 35 → b ≡ 32 → _≡_ {A = Line} (record { numbers = l .numbers; count = l .count + 1; base = 10 }) (fedLine l b)
+pub fed-blank : (l : Line) (b : ℕ) → l .count ≤ 48 → b ≡ 32 → _≡_ {A = Line} (record { numbers = l .numbers; count = l .count + 1; base = 10 }) (fedLine l b)
 unfolding fedLine
-fed-blank l b h e = rw (le-ltb 35 (l .count) h, e) refl
+fed-blank l b h e = rw (le-ltb 48 (l .count) h, e) refl
 
-pub fed-digit : (l : Line) (b : ℕ) {m : Line} → l .count ≤ 35 → (b ≡ 35 → ⊥) → (b ≡ 120 → ⊥) → (b ≡ 32 → ⊥) → m ≡ longerLine l b → m ≡ fedLine l b
+pub fed-digit : (l : Line) (b : ℕ) {m : Line} → l .count ≤ 48 → (b ≡ 35 → ⊥) → (b ≡ 120 → ⊥) → (b ≡ 32 → ⊥) → m ≡ longerLine l b → m ≡ fedLine l b
 unfolding fedLine
-fed-digit l b h n x k e = rw (le-ltb 35 (l .count) h, ne-eqb b 35 n, ne-eqb b 120 x, ne-eqb b 32 k) e
+fed-digit l b h n x k e = rw (le-ltb 48 (l .count) h, ne-eqb b 35 n, ne-eqb b 120 x, ne-eqb b 32 k) e
 
 pub looked-fed : (n : ℕ) (l : Line) (b : ℕ) {m : Line} → (b ≡ 10 → ⊥) → m ≡ fedLine l b → m ≡ lookedLine n l b
 unfolding lookedLine
@@ -58,7 +58,7 @@ pub looked-number : (n : ℕ) (l : Line) (b : ℕ) {m : Line} → b ≡ 10 → g
 unfolding lookedLine
 looked-number n l b h k o e = rw (eq-eqb b 10 h, eq-eqb (getD (l .numbers) 0 0) 70 k, ne-eqb (getD (l .numbers) 1 0) n o) e
 
-pub looked-film : (n : ℕ) (l : Line) (b : ℕ) → b ≡ 10 → getD (l .numbers) 0 0 ≡ 70 → getD (l .numbers) 1 0 ≡ n → _≡_ {A = Line} (record { numbers = l .numbers; count = 36; base = 10 }) (lookedLine n l b)
+pub looked-film : (n : ℕ) (l : Line) (b : ℕ) → b ≡ 10 → getD (l .numbers) 0 0 ≡ 70 → getD (l .numbers) 1 0 ≡ n → _≡_ {A = Line} (record { numbers = l .numbers; count = 49; base = 10 }) (lookedLine n l b)
 unfolding lookedLine
 looked-film n l b h k o = rw (eq-eqb b 10 h, eq-eqb (getD (l .numbers) 0 0) 70 k, eq-eqb (getD (l .numbers) 1 0) n o) refl
 
@@ -70,14 +70,14 @@ pub own-at : (row : List ℕ) (place whole : ℕ) {r : ℕ} → isFilm row ≡ f
 unfolding ownOf
 own-at row place whole h e = rw h e
 
-module _ (row drawn : List ℕ) (k : Kept) {f : ℕ} (e : f ≡ ownOf drawn 9 10) where
-  pub handed-kept : {a : Axes} → 10 ≤ f → a ≡ changedAxes (k .axes) f (getD drawn 10 0) → keptAs (k .number) (k .ten) a ≡ handedOf row drawn k
+module _ (row drawn : List ℕ) (k : Kept) {f : ℕ} (e : f ≡ ownOf drawn 9 12) where
+  pub handed-kept : {a : Axes} → 11 ≤ f → a ≡ changedAxes (k .axes) f (getD drawn 10 0) → keptAs (k .number) (k .eleven) a ≡ handedOf row drawn k
   unfolding handedOf
-  handed-kept h q = rw (← e, le-leb 10 f h, q) refl
+  handed-kept h q = rw (← e, le-leb 11 f h, q) refl
 
-  pub handed-made : {t : Ten} {a : Axes} → f < 10 → t ≡ tenOf (set row (placeOf f) (getD drawn 10 0)) → a ≡ axesOf (tenOf row) → keptAs (k .number) t a ≡ handedOf row drawn k
+  pub handed-made : {t : Eleven} {a : Axes} → f < 11 → t ≡ elevenOf (set row (placeOf f) (getD drawn 10 0)) → a ≡ axesOf (elevenOf row) → keptAs (k .number) t a ≡ handedOf row drawn k
   unfolding handedOf
-  handed-made h q r = rw (← e, lt-leb 10 f h, q, r) refl
+  handed-made h q r = rw (← e, lt-leb 11 f h, q, r) refl
 
 -- ---- an axis of a made record
 

@@ -10,6 +10,8 @@ use Rattle.text.specs.declared.Text.{Text}
 use Rattle.text.specs.Text.{run, blankText, fieldOf, fieldsOf, hexFieldOf, startOf, endOf, lineOf, smallOf}
 use Rattle.limit.specs.declared.Clip.{Clip}
 use Rattle.limit.specs.declared.Clip.the-variants.{Off, Factor}
+use Rattle.limit.specs.declared.Edition.{Edition}
+use Rattle.limit.specs.declared.Edition.the-variants.{Ours, Of1986}
 use Rattle.grid.specs.declared.Axis.{Axis}
 use Rattle.grid.specs.Grid.{axisOf, noAxis}
 use Rattle.settings.specs.declared.Settings.{Settings}
@@ -23,7 +25,7 @@ use Rattle.prepare.specs.declared.Enhanced.the-variants as enhanced
 use Rattle.draw.specs.declared.Drawn.{Drawn}
 use Rattle.draw.specs.declared.Drawn.the-variants as drawn
 use Rattle.filmset.specs.declared.row.Line.{Line}
-use Rattle.filmset.specs.declared.kept.Ten.{Ten}
+use Rattle.filmset.specs.declared.kept.Eleven.{Eleven}
 use Rattle.filmset.specs.declared.kept.Kept.{Kept}
 use Rattle.filmset.specs.declared.axes.Axes.{Axes}
 use Rattle.filmset.specs.declared.film.Left.{Left}
@@ -55,7 +57,7 @@ digestOf s = mixed (run mixed 7 s) (length s)
 
 -- before a line
 abbrev pub freshLine : Line
-freshLine = record { numbers = replicate 36 0; count = 0; base = 10 }
+freshLine = record { numbers = replicate 49 0; count = 0; base = 10 }
 
 -- the value of a digit; a capital stands for its own code
 unfoldable pub digitOf : ℕ → ℕ
@@ -73,8 +75,8 @@ longerLine l b =
 -- the line with one byte more: `#` ends it, `x` makes its number hexadecimal, a blank ends the number
 unfoldable pub fedLine : Line → ℕ → Line
 fedLine l b =
-    cond (ltb 35 (l .count)) l
-    (cond (eqb b 35) (record { numbers = l .numbers; count = 36; base = 10 })
+    cond (ltb 48 (l .count)) l
+    (cond (eqb b 35) (record { numbers = l .numbers; count = 49; base = 10 })
     (cond (eqb b 120) (record { numbers = l .numbers; count = l .count; base = 16 })
     (cond (eqb b 32) (record { numbers = l .numbers; count = l .count + 1; base = 10 })
     (longerLine l b))))
@@ -84,7 +86,7 @@ unfoldable pub lookedLine : ℕ → Line → ℕ → Line
 lookedLine n l b =
     cond (eqb b 10)
     (cond (eqb (getD (l .numbers) 0 0) 70)
-    (cond (eqb (getD (l .numbers) 1 0) n) (record { numbers = l .numbers; count = 36; base = 10 }) freshLine) freshLine)
+    (cond (eqb (getD (l .numbers) 1 0) n) (record { numbers = l .numbers; count = 49; base = 10 }) freshLine) freshLine)
     (fedLine l b)
 
 -- the row of film `no`, zeros where there is none
@@ -98,8 +100,8 @@ unfoldable pub factorOf : ℕ → Float
 factorOf bits = cond (ltb 2139095040 (bits % 2147483648)) nan (ofBits binary32 bits)
 
 -- the made record of a film's row
-unfoldable pub tenOf : List ℕ → Ten
-tenOf row =
+unfoldable pub elevenOf : List ℕ → Eleven
+elevenOf row =
     record {
       film = wordOf row 2;
       width = wordOf row 3;
@@ -111,15 +113,20 @@ tenOf row =
       max = wordOf row 16;
       clip = wordOf row 17;
       factor = factorOf (wordOf row 18);
+      edition = wordOf row 24;
     }
 
 -- a clip of 0 is off, any other number is the factor
-unfoldable pub clipOf : Ten → Clip
+unfoldable pub clipOf : Eleven → Clip
 clipOf t = cond (eqb (t .clip) 0) Off (Factor (t .factor))
 
--- the settings among the ten
-unfoldable pub settingsOf : Ten → Settings
-settingsOf t = record { across = t .across; down = t .down; bins = t .bins; min = t .min; max = t .max; clip = clipOf t }
+-- "an edition of 0 is ours, any other number that of 1986"
+unfoldable pub editionOf : Eleven → Edition
+editionOf t = cond (eqb (t .edition) 0) Ours Of1986
+
+-- the settings among the eleven
+unfoldable pub settingsOf : Eleven → Settings
+settingsOf t = record { across = t .across; down = t .down; bins = t .bins; min = t .min; max = t .max; clip = clipOf t; edition = editionOf t }
 
 -- the number of a clip setting
 abbrev pub clipNumber : Clip → ℕ
@@ -131,8 +138,13 @@ abbrev pub clipFactor : Clip → Float
 clipFactor Off = ofBits binary32 0
 clipFactor (Factor f) = f
 
--- the ten numbers of a map record
-unfoldable pub flatOf : MapRecord → Ten
+-- the number of an edition
+abbrev pub editionNumber : Edition → ℕ
+editionNumber Ours = 0
+editionNumber Of1986 = 1
+
+-- the eleven numbers of a map record
+unfoldable pub flatOf : MapRecord → Eleven
 flatOf r =
     record {
       film = r .film;
@@ -145,6 +157,7 @@ flatOf r =
       max = r .settings .max;
       clip = clipNumber (r .settings .clip);
       factor = clipFactor (r .settings .clip);
+      edition = editionNumber (r .settings .edition);
     }
 
 -- ---- axes
@@ -154,7 +167,7 @@ unfoldable pub madeAxis : ℕ → ℕ → Axis
 madeAxis side grid = cond (leb 2 grid && leb grid 16 && leb grid side && leb side 4096) (axisOf side grid) noAxis
 
 -- "The made record's axes are the rule's for its own width, height, across and down"
-unfoldable pub axesOf : Ten → Axes
+unfoldable pub axesOf : Eleven → Axes
 axesOf t = record { columns = madeAxis (t .width) (t .across); rows = madeAxis (t .height) (t .down) }
 
 -- those of a map record
@@ -180,14 +193,19 @@ changedAxes a field value =
 
 -- ---- what is kept
 
--- the ten but for the factor, in the order in which C has them
-abbrev pub nineOf : Ten → List ℕ
+-- the eleven but for the factor and the edition, in the order in which they are printed
+abbrev pub nineOf : Eleven → List ℕ
 nineOf t =
     t .film ∷ t .width ∷ t .height ∷ t .across ∷ t .down ∷ t .bins ∷ t .min ∷ t .max ∷ t .clip ∷ []
 
--- the ten of these nine and the factor
-unfoldable pub tenFrom : List ℕ → Float → Ten
-tenFrom n f =
+-- the eleven but for the factor, in the order in which C has them
+abbrev pub tenOf : Eleven → List ℕ
+tenOf t =
+    t .film ∷ t .width ∷ t .height ∷ t .across ∷ t .down ∷ t .bins ∷ t .min ∷ t .max ∷ t .clip ∷ t .edition ∷ []
+
+-- the eleven of these ten and the factor
+unfoldable pub elevenFrom : List ℕ → Float → Eleven
+elevenFrom n f =
     record {
       film = getD n 0 0;
       width = getD n 1 0;
@@ -199,27 +217,28 @@ tenFrom n f =
       max = getD n 7 0;
       clip = getD n 8 0;
       factor = f;
+      edition = getD n 9 0;
     }
 
 -- an answer and a record
-abbrev pub keptAs : ℕ → Ten → Axes → Kept
-keptAs number t a = record { number = number; ten = t; axes = a }
+abbrev pub keptAs : ℕ → Eleven → Axes → Kept
+keptAs number t a = record { number = number; eleven = t; axes = a }
 
 -- an answer and the made record
-abbrev pub keptMade : ℕ → Ten → Kept
+abbrev pub keptMade : ℕ → Eleven → Kept
 keptMade number t = keptAs number t (axesOf t)
 
 -- what is kept of an answer beside its record: that record, or the made one beside the refusal's number
-abbrev pub keptBeside : Ten → MapRecord → Made → Kept
+abbrev pub keptBeside : Eleven → MapRecord → Made → Kept
 keptBeside t r (made.Done foot) = keptAs 0 (flatOf r) (axesIn r)
 keptBeside t r (made.Refused n) = keptMade n t
 
 -- what is kept of prepare's answer
-abbrev pub keptPrepared : Ten → Prepared → Kept
+abbrev pub keptPrepared : Eleven → Prepared → Kept
 keptPrepared t p = keptBeside t (p .kept) (p .answer)
 
 -- what is kept of enhance's answer
-abbrev pub keptEnhanced : Ten → Enhanced → Kept
+abbrev pub keptEnhanced : Eleven → Enhanced → Kept
 keptEnhanced t (enhanced.Done foot) = keptMade 0 t
 keptEnhanced t (enhanced.Refused n) = keptMade n t
 
@@ -235,19 +254,19 @@ leftAlone k = record { kept = k; list = 0; line = blankText }
 unfoldable pub recordOf : Kept → MapRecord
 recordOf k =
     record {
-      film = k .ten .film;
-      width = k .ten .width;
-      height = k .ten .height;
-      settings = settingsOf (k .ten);
+      film = k .eleven .film;
+      width = k .eleven .width;
+      height = k .eleven .height;
+      settings = settingsOf (k .eleven);
       columns = k .axes .columns;
       rows = k .axes .rows;
     }
 
 -- ---- printed lines
 
--- the fields of the ten
-unfoldable pub tenFields : Text → Ten → Text
-tenFields line t = hexFieldOf (fieldsOf line (nineOf t)) 8 (toBits binary32 (t .factor))
+-- the fields of the eleven
+unfoldable pub elevenFields : Text → Eleven → Text
+elevenFields line t = fieldOf (hexFieldOf (fieldsOf line (nineOf t)) 8 (toBits binary32 (t .factor))) (t .edition)
 
 -- the digests of an axis: of its edges and of its centres
 unfoldable pub axisFields : Text → Axis → Text
@@ -261,7 +280,7 @@ axesFields line a = axisFields (axisFields line (a .columns)) (a .rows)
 unfoldable pub doneFields : Text → ℕ → Kept → ℕ → Float → Float → Text
 doneFields line letter k limit asked used =
     let foot = hexFieldOf (hexFieldOf (fieldOf line limit) 8 (toBits binary32 asked)) 16 (toBits binary64 used) in
-    cond (eqb letter 80) (axesFields (tenFields foot (k .ten)) (k .axes)) foot
+    cond (eqb letter 80) (axesFields (elevenFields foot (k .eleven)) (k .axes)) foot
 
 -- the line of prepare or enhance: the answer, and of an accepted call its fields; none under the letter 0
 unfoldable pub answerLine : ℕ → ℕ → Kept → ℕ → Float → Float → Text
@@ -312,15 +331,15 @@ drawnNumber (drawn.Refused n) = n
 
 -- the column of a record's field in a film's row
 unfoldable pub placeOf : ℕ → ℕ
-placeOf field = cond (ltb field 3) (field + 2) (field % 16 + 9)
+placeOf field = cond (ltb field 3) (field + 2) (cond (eqb field 10) 24 (field % 16 + 9))
 
 -- the record handed to draw: the kept one, of whose axes an entry may be changed, or the made one "with that field's number set to value,
 -- and its axes as they were"
 unfoldable pub handedOf : List ℕ → List ℕ → Kept → Kept
 handedOf row drawn k =
-    cond (leb 10 (ownOf drawn 9 10))
-    (keptAs (k .number) (k .ten) (changedAxes (k .axes) (ownOf drawn 9 10) (getD drawn 10 0)))
-    (keptAs (k .number) (tenOf (set row (placeOf (ownOf drawn 9 10)) (getD drawn 10 0))) (axesOf (tenOf row)))
+    cond (leb 11 (ownOf drawn 9 12))
+    (keptAs (k .number) (k .eleven) (changedAxes (k .axes) (ownOf drawn 9 12) (getD drawn 10 0)))
+    (keptAs (k .number) (elevenOf (set row (placeOf (ownOf drawn 9 12)) (getD drawn 10 0))) (axesOf (elevenOf row)))
 
 -- what came of two calls, the second of which rendered
 unfoldable pub joinedOf : ℕ → Shot → Shot

@@ -5,7 +5,7 @@ ghost use Prim.Native.Nat.{_/_, _%_};
 ghost use lib.ListN.{set};
 ghost use Rattle.filmset.specs.Filmset.{madeAxis, axesOf, changedAxis, changedAxes, axisFields, axesFields};
 use crate::digest;
-use crate::kept::Ten;
+use crate::kept::Eleven;
 use grid::Axis;
 use text::Text;
 
@@ -35,7 +35,7 @@ fn made_axis(side: u32, tiles: u32) -> Axis
 }
 
 // The axes of the made record.
-pub(crate) fn of(t: Ten) -> Axes
+pub(crate) fn of(t: Eleven) -> Axes
     ensures { λ r. ⌜ r ≡ axesOf t ⌝ }
 {
     Axes {

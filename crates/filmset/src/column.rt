@@ -48,6 +48,8 @@ pub const FILL_SPAN: usize = 22;
 
 pub const LIST_ROOM: usize = 23;
 
+pub const EDITION: usize = 24;
+
 // Draws. The output's length stands where a film has the picture's, which is the output's length when it is drawn whole.
 pub const CASE: usize = 5;
 

@@ -7,8 +7,8 @@ use crate::axes::Axes;
 use crate::column;
 use crate::digest;
 use crate::kept;
+use crate::kept::Eleven;
 use crate::kept::Kept;
-use crate::kept::Ten;
 use crate::made;
 use crate::whole::Row;
 use crate::whole::at;
@@ -27,8 +27,11 @@ pub const OUTPUT_BASE: u64 = 50000;
 // The letter of a film's row.
 pub const FILM: u64 = 70;
 
-// The number of no field of a record.
-const NO_FIELD: u64 = 10;
+// How many fields of a record a draw may change.
+const FIELDS: u64 = 11;
+
+// The number of no field of a record, and of no wide one.
+const NO_FIELD: u64 = 12;
 
 // The place of no entry.
 pub const NOWHERE: u64 = 18446744073709551615;
@@ -107,13 +110,13 @@ pub fn unlisted(kept: Kept) -> Left
 fn prepare_c(
     letter: u8,
     no: u64,
-    t: Ten,
+    t: Eleven,
     picture: &[u16],
     map: &mut [u16],
     scratch: &mut [u32],
     list: &mut [u64],
 ) -> Kept {
-    let mut numbers = kept::nine(t);
+    let mut numbers = kept::ten(t);
     let mut factor = t.factor;
     let made = axes::of(t);
     let columns = made.columns;
@@ -149,6 +152,7 @@ fn prepare_c(
         &mut row_edges,
         &mut row_centres,
         list,
+        t.edition,
     );
     let left = Axes {
         columns: Axis {
@@ -210,7 +214,13 @@ fn prepare_listed(
 }
 
 // Calls enhance for C.
-fn enhance_c(no: u64, t: Ten, picture: &mut [u16], map: &mut [u16], scratch: &mut [u32]) -> Kept {
+fn enhance_c(
+    no: u64,
+    t: Eleven,
+    picture: &mut [u16],
+    map: &mut [u16],
+    scratch: &mut [u32],
+) -> Kept {
     let mut limit = 0;
     let mut asked = 0.0;
     let mut used = 0.0;
@@ -230,6 +240,7 @@ fn enhance_c(no: u64, t: Ten, picture: &mut [u16], map: &mut [u16], scratch: &mu
         &mut limit,
         &mut asked,
         &mut used,
+        t.edition,
     );
     let k = kept::of_made(number, t);
     text::print(kept::line(b'E', no, k, limit, asked, used));
@@ -326,12 +337,12 @@ pub fn called(by_c: bool, letter: u8, row: Row, picture: &mut [u16]) -> Made
 }
 
 // Calls draw for C; answers its number.
-fn draw_c(drawn: Row, t: Ten, k: Kept, picture: &[u16], map: &[u16], out: &mut [u16]) -> u32 {
-    let ten = k.ten;
+fn draw_c(drawn: Row, t: Eleven, k: Kept, picture: &[u16], map: &[u16], out: &mut [u16]) -> u32 {
+    let eleven = k.eleven;
     let axes = k.axes;
     let columns = axes.columns;
     let rows = axes.rows;
-    let numbers = kept::nine(ten);
+    let numbers = kept::ten(eleven);
     let column_edges = columns.edges;
     let column_centres = columns.centres;
     let row_edges = rows.edges;
@@ -350,7 +361,7 @@ fn draw_c(drawn: Row, t: Ten, k: Kept, picture: &[u16], map: &[u16], out: &mut [
         t.clip,
         t.factor,
         &numbers,
-        ten.factor,
+        eleven.factor,
         win.left,
         win.top,
         win.width,
@@ -361,6 +372,7 @@ fn draw_c(drawn: Row, t: Ten, k: Kept, picture: &[u16], map: &[u16], out: &mut [
         &column_centres,
         &row_edges,
         &row_centres,
+        t.edition,
     )
 }
 
@@ -377,7 +389,7 @@ pub fn drawn_number(d: Drawn) -> u32
 fn draw_by(
     by_c: bool,
     drawn: Row,
-    t: Ten,
+    t: Eleven,
     k: Kept,
     picture: &[u16],
     map: &[u16],
@@ -402,12 +414,16 @@ fn draw_by(
     ))
 }
 
-// The column of a record's field in a film's row: film, width and height stand before the picture's columns, the settings behind.
+// The column of a record's field in a film's row: film, width and height stand before the picture's columns, the settings behind, and the
+// edition last of all.
 fn place(field: u64) -> usize
     ensures { λ r. ⌜ r ≡ placeOf field ⌝ }
 {
     if field < 3 {
         return (field + 2) as usize;
+    }
+    if field == 10 {
+        return column::EDITION;
     }
     (field % 16 + 9) as usize
 }
@@ -419,18 +435,18 @@ pub fn handed(row: Row, drawn: Row, k: Kept) -> Kept
 {
     let field = own(drawn, column::FIELD, NO_FIELD);
     let value = at(drawn, column::VALUE);
-    if NO_FIELD <= field {
-        let ten = k.ten;
+    if FIELDS <= field {
+        let eleven = k.eleven;
         let left = k.axes;
         return Kept {
             number: k.number,
-            ten,
+            eleven,
             axes: axes::changed(left, field, value),
         };
     }
     Kept {
         number: k.number,
-        ten: kept::made(with(row, place(field), value)),
+        eleven: kept::made(with(row, place(field), value)),
         axes: axes::of(kept::made(row)),
     }
 }
@@ -456,7 +472,7 @@ fn drawn_lines(drawn: Row, number: u32, picture: &[u16], map: &[u16], out: &[u16
 fn drawn_from(
     by_c: bool,
     drawn: Row,
-    t: Ten,
+    t: Eleven,
     k: Kept,
     picture: &[u16],
     map: &[u16],

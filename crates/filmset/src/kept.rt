@@ -1,13 +1,14 @@
-// The ten numbers of a film's record, and what the calls of prepare make of them and of its axes.
+// The eleven numbers of a film's record, and what the calls of prepare make of them and of its axes.
 ghost use mathlib.Core.Path.{_≡_};
 ghost use lib.ListN.{getD};
-ghost use Rattle.filmset.specs.Filmset.{factorOf, tenOf, clipOf, settingsOf, recordOf, clipNumber, clipFactor, flatOf, axesIn, nineOf, tenFrom, keptAs, keptMade, keptPrepared, keptEnhanced, tenFields, doneFields, answerLine};
+ghost use Rattle.filmset.specs.Filmset.{factorOf, elevenOf, clipOf, editionOf, settingsOf, recordOf, clipNumber, clipFactor, editionNumber, flatOf, axesIn, nineOf, tenOf, elevenFrom, keptAs, keptMade, keptPrepared, keptEnhanced, elevenFields, doneFields, answerLine};
 use crate::axes;
 use crate::axes::Axes;
 use crate::column;
 use crate::whole::Row;
 use crate::whole::word;
 use limit::Clip;
+use limit::Edition;
 use prepare::Enhanced;
 use prepare::Made;
 use prepare::Prepared;
@@ -16,7 +17,7 @@ use settings::Settings;
 use text::Text;
 
 // A film's number, sizes and settings, as flat as C hands them.
-pub struct Ten {
+pub struct Eleven {
     pub film: u32,
     pub width: u32,
     pub height: u32,
@@ -27,12 +28,13 @@ pub struct Ten {
     pub max: u32,
     pub clip: u32,
     pub factor: f32,
+    pub edition: u32,
 }
 
 // An answer, 0 where the call accepted, and the record that prepare returned or, where it refused, the made one.
 pub struct Kept {
     pub number: u32,
-    pub ten: Ten,
+    pub eleven: Eleven,
     pub axes: Axes,
 }
 
@@ -47,10 +49,10 @@ fn factor_of(bits: u32) -> f32
 }
 
 // The made record of a film's row.
-pub fn made(row: Row) -> Ten
-    ensures { λ r. ⌜ r ≡ tenOf row ⌝ }
+pub fn made(row: Row) -> Eleven
+    ensures { λ r. ⌜ r ≡ elevenOf row ⌝ }
 {
-    Ten {
+    Eleven {
         film: word(row, column::FILM),
         width: word(row, column::WIDTH),
         height: word(row, column::HEIGHT),
@@ -61,10 +63,11 @@ pub fn made(row: Row) -> Ten
         max: word(row, column::MAX),
         clip: word(row, column::CLIP),
         factor: factor_of(word(row, column::FACTOR)),
+        edition: word(row, column::EDITION),
     }
 }
 
-fn clip_of(t: Ten) -> Clip
+fn clip_of(t: Eleven) -> Clip
     ensures { λ r. ⌜ r ≡ clipOf t ⌝ }
 {
     if t.clip == 0 {
@@ -73,11 +76,21 @@ fn clip_of(t: Ten) -> Clip
     Clip::Factor(t.factor)
 }
 
-// The settings among the ten.
-pub fn settings(t: Ten) -> Settings
+fn edition_of(t: Eleven) -> Edition
+    ensures { λ r. ⌜ r ≡ editionOf t ⌝ }
+{
+    if t.edition == 0 {
+        return Edition::Ours;
+    }
+    Edition::Of1986
+}
+
+// The settings among the eleven.
+pub fn settings(t: Eleven) -> Settings
     ensures { λ r. ⌜ r ≡ settingsOf t ⌝ }
 {
     let clip = clip_of(t);
+    let edition = edition_of(t);
     Settings {
         across: t.across,
         down: t.down,
@@ -85,6 +98,7 @@ pub fn settings(t: Ten) -> Settings
         min: t.min,
         max: t.max,
         clip,
+        edition,
     }
 }
 
@@ -92,7 +106,7 @@ pub fn settings(t: Ten) -> Settings
 pub fn record(k: Kept) -> MapRecord
     ensures { λ r. ⌜ r ≡ recordOf k ⌝ }
 {
-    let t = k.ten;
+    let t = k.eleven;
     let axes = k.axes;
     let settings = settings(t);
     let columns = axes.columns;
@@ -125,13 +139,23 @@ fn clip_factor(c: Clip) -> f32
     }
 }
 
-// The ten numbers of a record.
-fn flat(r: MapRecord) -> Ten
+fn edition_number(e: Edition) -> u32
+    ensures { λ r. ⌜ r ≡ editionNumber e ⌝ }
+{
+    match e {
+        Edition::Ours => 0,
+        Edition::Of1986 => 1,
+    }
+}
+
+// The eleven numbers of a record.
+fn flat(r: MapRecord) -> Eleven
     ensures { λ t. ⌜ t ≡ flatOf r ⌝ }
 {
     let s = r.settings;
     let c = s.clip;
-    Ten {
+    let e = s.edition;
+    Eleven {
         film: r.film,
         width: r.width,
         height: r.height,
@@ -142,6 +166,7 @@ fn flat(r: MapRecord) -> Ten
         max: s.max,
         clip: clip_number(c),
         factor: clip_factor(c),
+        edition: edition_number(e),
     }
 }
 
@@ -154,12 +179,15 @@ fn axes_in(r: MapRecord) -> Axes
     Axes { columns, rows }
 }
 
-// The fields of the ten.
-fn ten_fields(line: Text, t: Ten) -> Text
-    ensures { λ r. ⌜ r ≡ tenFields line t ⌝ }
+// The fields of the eleven.
+fn eleven_fields(line: Text, t: Eleven) -> Text
+    ensures { λ r. ⌜ r ≡ elevenFields line t ⌝ }
 {
     let numbers = nine(t);
-    text::factor_field(text::word_fields(line, &numbers), t.factor)
+    text::word(
+        text::factor_field(text::word_fields(line, &numbers), t.factor),
+        t.edition,
+    )
 }
 
 // The fields of an accepted call: the footer, and of prepare the record.
@@ -168,9 +196,9 @@ fn done_fields(line: Text, letter: u8, k: Kept, limit: u32, asked: f32, used: f6
 {
     let foot = text::used_field(text::factor_field(text::word(line, limit), asked), used);
     if letter == b'P' {
-        let ten = k.ten;
+        let eleven = k.eleven;
         let axes = k.axes;
-        return axes::fields(ten_fields(foot, ten), axes);
+        return axes::fields(eleven_fields(foot, eleven), axes);
     }
     foot
 }
@@ -189,8 +217,8 @@ pub(crate) fn line(letter: u8, no: u64, k: Kept, limit: u32, asked: f32, used: f
     text::end(done_fields(line, letter, k, limit, asked, used))
 }
 
-// The ten but for the factor, in the order in which C has them.
-pub(crate) fn nine(t: Ten) -> [u32; 9]
+// The eleven but for the factor and the edition, in the order in which they are printed.
+fn nine(t: Eleven) -> [u32; 9]
     ensures { λ r. ⌜ r ≡ nineOf t ⌝ }
 {
     [
@@ -206,20 +234,38 @@ pub(crate) fn nine(t: Ten) -> [u32; 9]
     ]
 }
 
-fn nth(numbers: [u32; 9], i: usize) -> u32
+// The eleven but for the factor, in the order in which C has them.
+pub(crate) fn ten(t: Eleven) -> [u32; 10]
+    ensures { λ r. ⌜ r ≡ tenOf t ⌝ }
+{
+    [
+        t.film,
+        t.width,
+        t.height,
+        t.across,
+        t.down,
+        t.bins,
+        t.min,
+        t.max,
+        t.clip,
+        t.edition,
+    ]
+}
+
+fn nth(numbers: [u32; 10], i: usize) -> u32
     ensures { λ r. ⌜ r ≡ getD numbers i 0 ⌝ }
 {
-    if i < 9 {
+    if i < 10 {
         return numbers[i];
     }
     0
 }
 
-// The ten of these nine and the factor.
-fn ten_of(n: [u32; 9], factor: f32) -> Ten
-    ensures { λ r. ⌜ r ≡ tenFrom n factor ⌝ }
+// The eleven of these ten and the factor.
+fn eleven_of(n: [u32; 10], factor: f32) -> Eleven
+    ensures { λ r. ⌜ r ≡ elevenFrom n factor ⌝ }
 {
-    Ten {
+    Eleven {
         film: nth(n, 0),
         width: nth(n, 1),
         height: nth(n, 2),
@@ -230,15 +276,20 @@ fn ten_of(n: [u32; 9], factor: f32) -> Ten
         max: nth(n, 7),
         clip: nth(n, 8),
         factor,
+        edition: nth(n, 9),
     }
 }
 
 // An answer beside the made record.
-pub(crate) fn of_made(number: u32, ten: Ten) -> Kept
-    ensures { λ r. ⌜ r ≡ keptMade number ten ⌝ }
+pub(crate) fn of_made(number: u32, eleven: Eleven) -> Kept
+    ensures { λ r. ⌜ r ≡ keptMade number eleven ⌝ }
 {
-    let axes = axes::of(ten);
-    Kept { number, ten, axes }
+    let axes = axes::of(eleven);
+    Kept {
+        number,
+        eleven,
+        axes,
+    }
 }
 
 // What prepare for C left, printed under the letter if that is not 0.
@@ -246,34 +297,38 @@ pub(crate) fn of_c(
     letter: u8,
     no: u64,
     number: u32,
-    numbers: [u32; 9],
+    numbers: [u32; 10],
     factor: f32,
     axes: Axes,
     limit: u32,
     asked: f32,
     used: f64,
 ) -> Kept
-    ensures { λ r. ⌜ r ≡ keptAs number (tenFrom numbers factor) axes ⌝ }
+    ensures { λ r. ⌜ r ≡ keptAs number (elevenFrom numbers factor) axes ⌝ }
 {
-    let ten = ten_of(numbers, factor);
-    let k = Kept { number, ten, axes };
+    let eleven = eleven_of(numbers, factor);
+    let k = Kept {
+        number,
+        eleven,
+        axes,
+    };
     text::print(line(letter, no, k, limit, asked, used));
     k
 }
 
 // What prepare answered, printed under the letter if that is not 0.
-pub fn of_prepared(letter: u8, no: u64, asked: Ten, p: Prepared) -> Kept
+pub fn of_prepared(letter: u8, no: u64, asked: Eleven, p: Prepared) -> Kept
     ensures { λ r. ⌜ r ≡ keptPrepared asked p ⌝ }
 {
     let answer = p.answer;
     let record = p.kept;
     match answer {
         Made::Done(footer) => {
-            let ten = flat(record);
+            let eleven = flat(record);
             let axes = axes_in(record);
             let k = Kept {
                 number: 0,
-                ten,
+                eleven,
                 axes,
             };
             text::print(line(letter, no, k, footer.limit, footer.asked, footer.used));
@@ -288,7 +343,7 @@ pub fn of_prepared(letter: u8, no: u64, asked: Ten, p: Prepared) -> Kept
 }
 
 // What enhance answered, printed.
-pub fn of_enhanced(no: u64, asked: Ten, e: Enhanced) -> Kept
+pub fn of_enhanced(no: u64, asked: Eleven, e: Enhanced) -> Kept
     ensures { λ r. ⌜ r ≡ keptEnhanced asked e ⌝ }
 {
     match e {

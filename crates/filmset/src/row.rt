@@ -36,7 +36,7 @@ pub fn fresh() -> Line
     ensures { λ r. ⌜ r ≡ freshLine ⌝ }
 {
     Line {
-        numbers: [0; 36],
+        numbers: [0; 49],
         count: 0,
         base: 10,
     }
@@ -74,13 +74,13 @@ pub fn fed(line: Line, b: u8) -> Line
 {
     let numbers = line.numbers;
     let count = line.count;
-    if 35 < count {
+    if 48 < count {
         return line;
     }
     match b {
         b'#' => Line {
             numbers,
-            count: 36,
+            count: 49,
             base: 10,
         },
         b'x' => Line {
@@ -149,7 +149,7 @@ fn looked(line: Line, no: u64, b: u8) -> Line
     }
     Line {
         numbers,
-        count: 36,
+        count: 49,
         base: 10,
     }
 }

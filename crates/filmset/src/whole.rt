@@ -7,7 +7,7 @@ ghost use lib.ListN.{getD, set};
 ghost use Rattle.filmset.specs.Filmset.{restOf, wordOf};
 
 // The numbers of a row, 0 behind the last.
-pub type Row = [u64; 36];
+pub type Row = [u64; 49];
 
 pub fn plus(a: u64, b: u64) -> u64
     ensures { λ r. ⌜ r ≡ (a + b) % 2 ^ 64 ⌝ }
@@ -46,7 +46,7 @@ pub fn rest(a: u64, b: u64) -> u64
 pub fn at(row: Row, column: usize) -> u64
     ensures { λ r. ⌜ r ≡ getD row column 0 ⌝ }
 {
-    if column < 36 {
+    if column < 49 {
         return row[column];
     }
     0
@@ -71,7 +71,7 @@ pub fn with(row: Row, column: usize, n: u64) -> Row
     ensures { λ r. ⌜ r ≡ set row column n ⌝ }
 {
     let mut next = row;
-    if column < 36 {
+    if column < 49 {
         next[column] = n;
     }
     next

@@ -2,12 +2,14 @@
 -- Assumes nothing.
 use Prim.Native.Nat.{ℕ, zero, suc, _-_, _≤_}
 use mathlib.Core.List.{List, [], _∷_}
-use mathlib.Core.Path.{_≡_, refl, sym, ap}
+use mathlib.Core.Path.{_≡_, refl, sym, ap, ap₂}
 use native.Mathlib.Omega.{arith}
 use lib.Ieee.{Float}
 use lib.ListN.{length, length-drop}
 use Rattle.limit.specs.declared.Clip.{Clip}
 use Rattle.limit.specs.declared.Clip.the-variants.{Off, Factor}
+use Rattle.limit.specs.declared.Edition.{Edition}
+use Rattle.limit.specs.declared.Edition.the-variants.{Ours, Of1986}
 use Rattle.settings.specs.declared.MapRecord.{MapRecord}
 use Rattle.settings.specs.declared.Footer.{Footer}
 use Rattle.prepare.specs.declared.Prepared.{Prepared}
@@ -30,7 +32,7 @@ use Rattle.pgm.specs.Pgm.{readOf, sizesOf, rasterOf, sizesSays}
 use Rattle.pgm_greys.specs.Greys.{turnedSays, Greyed, greyedAs}
 use Rattle.pgm_write.specs.Write.{writtenSays, Wrote, wroteAs}
 use Rattle.pgm.proofs.Tables.{read-within}
-use Rattle.flat.specs.Flat.{returned, clipFrom, clipNumber, clipFactor, recordNumbers, Axes, axesAfter, recordFrom}
+use Rattle.flat.specs.Flat.{returned, clipFrom, clipNumber, clipFactor, editionFrom, editionNumber, recordNumbers, Axes, axesAfter, recordFrom}
 use Rattle.flat.specs.Films.{Foot, footAfter, Cells, celled, cellsAfter, preparedAs, flatPrepared, enhancedAs, flatEnhanced, drawnAs, flatDrawn}
 use Rattle.flat.specs.Files.{answered, flatSizes, flatRaster, flatGreys, writtenAs, flatWritten}
 
@@ -38,6 +40,11 @@ use Rattle.flat.specs.Files.{answered, flatSizes, flatRaster, flatGreys,
 pub clip-some : (n : ℕ) (f : Float) → (n ≡ 0 → ⊥) → Factor f ≡ clipFrom n f
 clip-some zero f h = absurd (h refl)
 clip-some (suc n) f h = refl
+
+-- and is the edition of 1986
+pub edition-some : (n : ℕ) → (n ≡ 0 → ⊥) → Of1986 ≡ editionFrom n
+edition-some zero h = absurd (h refl)
+edition-some (suc n) h = refl
 
 -- ---- films
 
@@ -133,10 +140,15 @@ clip-back : (clip : Clip) → clipFrom (clipNumber clip) (clipFactor clip) ≡ c
 clip-back Off = refl
 clip-back (Factor f) = refl
 
--- "A record is nine numbers and its factor apart.", and its edges and centres: those that tz_prepare hands out are read by tz_draw as the same record
+-- and so does the edition's number
+edition-back : (e : Edition) → editionFrom (editionNumber e) ≡ e
+edition-back Ours = refl
+edition-back Of1986 = refl
+
+-- "A record is ten numbers and its factor apart.", and its edges and centres: those that tz_prepare hands out are read by tz_draw as the same record
 pub record-back : (r : MapRecord) → recordFrom (recordNumbers r) (clipFactor (r .settings .clip)) (axesAfter r) ≡ r
 record-back r =
-    ap (λ c. record {
+    ap₂ (λ c e. record {
       film = r .film;
       width = r .width;
       height = r .height;
@@ -148,7 +160,8 @@ record-back r =
             min = r .settings .min;
             max = r .settings .max;
             clip = c;
+            edition = e;
           };
       columns = r .columns;
       rows = r .rows;
-    }) (clip-back (r .settings .clip))
+    }) (clip-back (r .settings .clip)) (edition-back (r .settings .edition))

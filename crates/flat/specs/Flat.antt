@@ -10,6 +10,8 @@ use lib.ListN.{getD}
 use Rattle.refuse.specs.Refuse.{Says, accepted, refused}
 use Rattle.limit.specs.declared.Clip.{Clip}
 use Rattle.limit.specs.declared.Clip.the-variants.{Off, Factor}
+use Rattle.limit.specs.declared.Edition.{Edition}
+use Rattle.limit.specs.declared.Edition.the-variants.{Ours, Of1986}
 use Rattle.grid.specs.declared.Axis.{Axis}
 use Rattle.settings.specs.declared.Settings.{Settings}
 use Rattle.settings.specs.declared.MapRecord.{MapRecord}
@@ -35,12 +37,22 @@ abbrev pub clipFactor : Clip → Float
 clipFactor Off = fin false 0 (pos 0)
 clipFactor (Factor f) = f
 
--- "It sits inside the settings record": grid across and down, bins, Min, Max and the clip setting, from seven arguments
-abbrev pub settingsFrom : ℕ → ℕ → ℕ → ℕ → ℕ → ℕ → Float → Settings
-settingsFrom across down bins min max clip factor =
-    record { across = across; down = down; bins = bins; min = min; max = max; clip = clipFrom clip factor }
+-- order 8, "The edition is a setting": 0 is ours, any other number is that of 1986
+abbrev pub editionFrom : ℕ → Edition
+editionFrom zero = Ours
+editionFrom (suc n) = Of1986
 
--- "A record is nine numbers and its factor apart.": film, width, height, across, down, bins, min, max, clip
+-- its number back again: 0 or 1
+abbrev pub editionNumber : Edition → ℕ
+editionNumber Ours = 0
+editionNumber Of1986 = 1
+
+-- "It sits inside the settings record": grid across and down, bins, Min, Max, the clip setting and the edition, from eight arguments
+abbrev pub settingsFrom : ℕ → ℕ → ℕ → ℕ → ℕ → ℕ → Float → ℕ → Settings
+settingsFrom across down bins min max clip factor edition =
+    record { across = across; down = down; bins = bins; min = min; max = max; clip = clipFrom clip factor; edition = editionFrom edition }
+
+-- "A record is ten numbers and its factor apart.": film, width, height, across, down, bins, min, max, clip, edition
 abbrev pub recordNumbers : MapRecord → List ℕ
 recordNumbers r =
     r .film
@@ -52,6 +64,7 @@ recordNumbers r =
     ∷ r .settings .min
     ∷ r .settings .max
     ∷ clipNumber (r .settings .clip)
+    ∷ editionNumber (r .settings .edition)
     ∷ []
 
 -- order 6: "The map record keeps the edges and centres": the four arrays that they are handed over in
@@ -77,14 +90,14 @@ axesAfter r = axesOf (r .columns) (r .rows)
 abbrev pub axisFrom : List ℕ → List ℕ → Axis
 axisFrom edges centres = record { edges = edges; centres = centres }
 
--- "A map record holds the film's number (any 32-bit number), sizes and settings", and its edges and centres: from its nine numbers, its factor and its four arrays
+-- "A map record holds the film's number (any 32-bit number), sizes and settings", and its edges and centres: from its ten numbers, its factor and its four arrays
 abbrev pub recordFrom : List ℕ → Float → Axes → MapRecord
 recordFrom l factor axes =
     record {
       film = getD l 0 0;
       width = getD l 1 0;
       height = getD l 2 0;
-      settings = settingsFrom (getD l 3 0) (getD l 4 0) (getD l 5 0) (getD l 6 0) (getD l 7 0) (getD l 8 0) factor;
+      settings = settingsFrom (getD l 3 0) (getD l 4 0) (getD l 5 0) (getD l 6 0) (getD l 7 0) (getD l 8 0) factor (getD l 9 0);
       columns = axisFrom (axes .columnEdges) (axes .columnCentres);
       rows = axisFrom (axes .rowEdges) (axes .rowCentres);
     }

@@ -1,10 +1,11 @@
 // Settings, records and footers as the calls for C pass them: numbers and slices to records and back, once.
 ghost use mathlib.Core.Path.{_≡_};
 ghost use Rattle.prepare.specs.Prepare.{preparedSays};
-ghost use Rattle.flat.specs.Flat.{returned, clipFrom, clipNumber, clipFactor, settingsFrom, recordNumbers, axed, axesOf, axesAfter, axisFrom, recordFrom};
+ghost use Rattle.flat.specs.Flat.{returned, clipFrom, clipNumber, clipFactor, editionFrom, editionNumber, settingsFrom, recordNumbers, axed, axesOf, axesAfter, axisFrom, recordFrom};
 ghost use Rattle.flat.specs.Films.{footed, footAfter, celled, cellsAfter};
 use grid::Axis;
 use limit::Clip;
+use limit::Edition;
 use prepare::Made;
 use prepare::Prepared;
 use settings::Footer;
@@ -38,6 +39,24 @@ pub fn clip_factor(clip: Clip) -> f32
     }
 }
 
+pub fn edition_from(edition: u32) -> Edition
+    ensures { λ r. ⌜ r ≡ editionFrom edition ⌝ }
+{
+    if edition == 0 {
+        return Edition::Ours;
+    }
+    Edition::Of1986
+}
+
+pub fn edition_number(edition: Edition) -> u32
+    ensures { λ r. ⌜ r ≡ editionNumber edition ⌝ }
+{
+    match edition {
+        Edition::Ours => 0,
+        Edition::Of1986 => 1,
+    }
+}
+
 pub fn settings_from(
     across: u32,
     down: u32,
@@ -46,10 +65,12 @@ pub fn settings_from(
     max: u32,
     clip: u32,
     factor: f32,
+    edition: u32,
 ) -> Settings
-    ensures { λ r. ⌜ r ≡ settingsFrom across down bins min max clip factor ⌝ }
+    ensures { λ r. ⌜ r ≡ settingsFrom across down bins min max clip factor edition ⌝ }
 {
     let clip = clip_from(clip, factor);
+    let edition = edition_from(edition);
     Settings {
         across,
         down,
@@ -57,6 +78,7 @@ pub fn settings_from(
         min,
         max,
         clip,
+        edition,
     }
 }
 
@@ -81,9 +103,9 @@ pub fn axis_from(edges: &[u32; 17], centres: &[u32; 16]) -> Axis
     }
 }
 
-// A record goes out in nine numbers, its factor in a cell apart, and its edges and centres in four arrays.
+// A record goes out in ten numbers, its factor in a cell apart, and its edges and centres in four arrays.
 fn put_record(
-    numbers: &mut [u32; 9],
+    numbers: &mut [u32; 10],
     kept: &mut f32,
     column_edges: &mut [u32; 17],
     column_centres: &mut [u32; 16],
@@ -95,6 +117,7 @@ fn put_record(
 {
     let s = r.settings;
     let clip = s.clip;
+    let edition = s.edition;
     *numbers = [
         r.film,
         r.width,
@@ -105,6 +128,7 @@ fn put_record(
         s.min,
         s.max,
         clip_number(clip),
+        edition_number(edition),
     ];
     *kept = clip_factor(clip);
     let columns = r.columns;
@@ -113,7 +137,7 @@ fn put_record(
     put_axis(row_edges, row_centres, rows);
 }
 
-pub fn record_from(numbers: &[u32; 9], factor: f32, columns: Axis, rows: Axis) -> MapRecord
+pub fn record_from(numbers: &[u32; 10], factor: f32, columns: Axis, rows: Axis) -> MapRecord
     ensures { λ r. ⌜ r ≡ recordFrom (now (numbers .entry)) factor (axesOf columns rows) ⌝ }
 {
     let settings = settings_from(
@@ -124,6 +148,7 @@ pub fn record_from(numbers: &[u32; 9], factor: f32, columns: Axis, rows: Axis) -
         numbers[7],
         numbers[8],
         factor,
+        numbers[9],
     );
     MapRecord {
         film: numbers[0],
@@ -146,7 +171,7 @@ pub fn put_footer(limit: &mut u32, asked: &mut f32, used: &mut f64, foot: Footer
 
 // What prepare answers goes out: an accepted film's record and footer to their cells. A refusal writes to none.
 pub fn put_prepared(
-    numbers: &mut [u32; 9],
+    numbers: &mut [u32; 10],
     kept: &mut f32,
     limit: &mut u32,
     asked: &mut f32,

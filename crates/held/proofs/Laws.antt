@@ -2,6 +2,7 @@
 -- Assumes nothing.
 use Prim.Native.Nat.{ℕ, _*_}
 use mathlib.Core.Bool.{Bool, true, false, _||_, Bool·beq}
+use mathlib.Core.List.{_++_}
 use mathlib.Core.Logic.{_≢_}
 use mathlib.Core.Path.{_≡_, refl, sym, ap, _∙_}
 use lib.Dec.{eqb}
@@ -21,8 +22,9 @@ use Rattle.settings.specs.declared.MapRecord.{MapRecord}
 use Rattle.settings.specs.Settings.{binsOf, keptOf, recordOf, keptRecord, clipBad, sameClip}
 use Rattle.settings.proofs.Like.{bins-kept}
 use Rattle.settings.proofs.Records.{record-film, record-width, record-height, record-settings, record-columns, record-rows}
-use Rattle.held.specs.Held.{filmRows, keptRows, axisRows, recordRows, Held}
-use Rattle.held.proofs.Tables.{record-numbers, kept-numbered, record-held}
+use Rattle.settings.proofs.Editions.{same-edition-self}
+use Rattle.held.specs.Held.{filmRows, keptRows, editionRows, axisRows, recordRows, Held}
+use Rattle.held.proofs.Tables.{record-numbers, kept-numbered, edition-numbered, record-held}
 
 -- ---- a record that is another film's, of another size, of other settings or with other edges or centres
 
@@ -38,6 +40,10 @@ module _ (film w h : ℕ) (s : Settings) (r : MapRecord) where
   -- a record that differs in any field is refused with 15
   pub other-held : (Held film w h s r → ⊥) → first (recordRows film w h s r) ≡ 15
   other-held d = record-fifteen film w h s r (λ e. d (record-held film w h s r e))
+
+  -- "The edition is a setting, so it is part of what 15 compares."
+  pub other-edition : s .edition ≢ r .settings .edition → first (recordRows film w h s r) ≡ 15
+  other-edition d = other-held (λ held. d (held .edition))
 
   -- "also given where the record's edges or centres aren't those of this rule": those of the columns
   pub other-columns : axisOf w (s .across) ≢ r .columns → first (recordRows film w h s r) ≡ 15
@@ -81,34 +87,42 @@ own-settings s c =
     )
     refl
 
+-- nor is their edition
+pub own-edition : (s : Settings) → first (editionRows s (keptOf s)) ≡ 0
+unfolding first editionRows
+own-edition s = rw (same-edition-self (s .edition)) refl
+
 -- nor are the edges and centres of a film's record
 pub own-axes : (film w h : ℕ) (s : Settings) → first (axisRows w h s (recordOf film w h s)) ≡ 0
 unfolding first axisRows
 own-axes film w h s =
     rw (record-columns film w h s, record-rows film w h s, same-axis-self (axisOf w (s .across)), same-axis-self (axisOf h (s .down))) refl
 
--- a record of the film, its sizes, its settings and its edges and centres is not refused
-same-record : (film w h : ℕ) (s : Settings) (r : MapRecord) → film ≡ r .film → w ≡ r .width → h ≡ r .height → first (keptRows s (r .settings)) ≡ 0 → first (axisRows w h s r) ≡ 0
+-- a record of the film, its sizes, its settings, its edition and its edges and centres is not refused
+same-record : (film w h : ℕ) (s : Settings) (r : MapRecord) → film ≡ r .film → w ≡ r .width → h ≡ r .height → first (keptRows s (r .settings)) ≡ 0 → first (editionRows s (r .settings)) ≡ 0 → first (axisRows w h s r) ≡ 0
     → first (recordRows film w h s r) ≡ 0
 unfolding first recordRows filmRows
-same-record film w h s r number wide high kept axes =
+same-record film w h s r number wide high kept edition axes =
     rw (eq-eqb film (r .film) number, eq-eqb w (r .width) wide, eq-eqb h (r .height) high)
-    (sym (behind (keptRows s (r .settings)) (axisRows w h s r) (kept-numbered s (r .settings)) (sym kept) refl (sym axes)))
+    (sym
+    (behind (keptRows s (r .settings)) (editionRows s (r .settings) ++ axisRows w h s r) (kept-numbered s (r .settings)) (sym kept) refl
+    (behind (editionRows s (r .settings)) (axisRows w h s r) (edition-numbered s (r .settings)) (sym edition) refl (sym axes))))
 
 -- nor is the record of a film, its sizes and these settings
 pub own-record : (film w h : ℕ) (s : Settings) → clipBad (s .clip) ≡ false → first (recordRows film w h s (recordOf film w h s)) ≡ 0
 own-record film w h s c =
     same-record film w h s (recordOf film w h s) (sym (record-film film w h s)) (sym (record-width film w h s)) (sym (record-height film w h s))
     (ap (λ kept. first (keptRows s kept)) (record-settings film w h s) ∙ own-settings s c)
+    (ap (λ kept. first (editionRows s kept)) (record-settings film w h s) ∙ own-edition s)
     (own-axes film w h s)
 
 -- ---- the settings, with bins 0 kept as 128
 
 -- 15 reads the bins so on both sides
 pub record-kept : (film w h : ℕ) (s : Settings) (r : MapRecord) → recordRows film w h (keptOf s) r ≡ recordRows film w h s r
-unfolding recordRows keptRows axisRows
+unfolding recordRows keptRows editionRows axisRows
 record-kept film w h s r = rw (bins-kept s) refl
 
 pub record-kept-record : (film w h : ℕ) (s : Settings) (r : MapRecord) → recordRows film w h s (keptRecord r) ≡ recordRows film w h s r
-unfolding recordRows filmRows keptRows axisRows
+unfolding recordRows filmRows keptRows editionRows axisRows
 record-kept-record film w h s r = rw (bins-kept (r .settings)) refl

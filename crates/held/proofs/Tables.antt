@@ -15,7 +15,8 @@ use Rattle.grid.proofs.Axes.{same-axis-is}
 use Rattle.settings.specs.declared.Settings.{Settings}
 use Rattle.settings.specs.declared.MapRecord.{MapRecord}
 use Rattle.settings.specs.declared.Window.{Window}
-use Rattle.held.specs.Held.{filmRows, keptRows, axisRows, recordRows, windowRows, Held}
+use Rattle.settings.proofs.Editions.{same-edition-is}
+use Rattle.held.specs.Held.{filmRows, keptRows, editionRows, axisRows, recordRows, windowRows, Held}
 
 -- ---- the numbers, in the order of document 01
 
@@ -27,14 +28,18 @@ pub kept-numbers : (s kept : Settings) → numbersOf (keptRows s kept) ≡ 15 �
 unfolding numbersOf keptRows
 kept-numbers s kept = refl
 
+pub edition-numbers : (s kept : Settings) → numbersOf (editionRows s kept) ≡ 15 ∷ []
+unfolding numbersOf editionRows
+edition-numbers s kept = refl
+
 pub axis-numbers : (w h : ℕ) (s : Settings) (r : MapRecord) → numbersOf (axisRows w h s r) ≡ 15 ∷ 15 ∷ []
 unfolding numbersOf axisRows
 axis-numbers w h s r = refl
 
 -- of 15
 pub record-numbers : (film w h : ℕ) (s : Settings) (r : MapRecord)
-    → numbersOf (recordRows film w h s r) ≡ 15 ∷ 15 ∷ 15 ∷ 15 ∷ 15 ∷ 15 ∷ 15 ∷ 15 ∷ 15 ∷ 15 ∷ 15 ∷ []
-unfolding numbersOf recordRows filmRows keptRows axisRows
+    → numbersOf (recordRows film w h s r) ≡ 15 ∷ 15 ∷ 15 ∷ 15 ∷ 15 ∷ 15 ∷ 15 ∷ 15 ∷ 15 ∷ 15 ∷ 15 ∷ 15 ∷ []
+unfolding numbersOf recordRows filmRows keptRows editionRows axisRows
 record-numbers film w h s r = refl
 
 -- of 16 and 17
@@ -52,6 +57,10 @@ pub kept-numbered : (s kept : Settings) → Numbered (keptRows s kept)
 unfolding all
 kept-numbered s kept = rw (kept-numbers s kept) refl
 
+pub edition-numbered : (s kept : Settings) → Numbered (editionRows s kept)
+unfolding all
+edition-numbered s kept = rw (edition-numbers s kept) refl
+
 pub axis-numbered : (w h : ℕ) (s : Settings) (r : MapRecord) → Numbered (axisRows w h s r)
 unfolding all
 axis-numbered w h s r = rw (axis-numbers w h s r) refl
@@ -68,13 +77,15 @@ window-numbered w h win room = rw (window-numbers w h win room) refl
 
 -- none of the rows of 15: the record is this film's, with its edges and centres
 pub record-held : (film w h : ℕ) (s : Settings) (r : MapRecord) → first (recordRows film w h s r) ≡ 0 → Held film w h s r
-unfolding recordRows filmRows keptRows axisRows
+unfolding recordRows filmRows keptRows editionRows axisRows
 record-held film w h s r e =
-    let both = first-both (filmRows film w h r) (keptRows s (r .settings) ++ axisRows w h s r) (film-numbered film w h r) e in
-    let rest = first-both (keptRows s (r .settings)) (axisRows w h s r) (kept-numbered s (r .settings)) (both .1) in
+    let both = first-both (filmRows film w h r) (keptRows s (r .settings) ++ (editionRows s (r .settings) ++ axisRows w h s r)) (film-numbered film w h r) e in
+    let rest = first-both (keptRows s (r .settings)) (editionRows s (r .settings) ++ axisRows w h s r) (kept-numbered s (r .settings)) (both .1) in
+    let last = first-both (editionRows s (r .settings)) (axisRows w h s r) (edition-numbered s (r .settings)) (rest .1) in
     let n = first-none (filmRows film w h r) (film-numbered film w h r) (both .0) in
     let k = first-none (keptRows s (r .settings)) (kept-numbered s (r .settings)) (rest .0) in
-    let a = first-none (axisRows w h s r) (axis-numbered w h s r) (rest .1) in
+    let o = first-none (editionRows s (r .settings)) (edition-numbered s (r .settings)) (last .0) in
+    let a = first-none (axisRows w h s r) (axis-numbered w h s r) (last .1) in
     record {
       number = eqb-true _ _ (not-false _ (n .0));
       wide = eqb-true _ _ (not-false _ (n .1 .0));
@@ -85,6 +96,7 @@ record-held film w h s r e =
       least = eqb-true _ _ (not-false _ (k .1 .1 .1 .0));
       most = eqb-true _ _ (not-false _ (k .1 .1 .1 .1 .0));
       clip = not-false _ (k .1 .1 .1 .1 .1 .0);
+      edition = same-edition-is _ _ (not-false _ (o .0));
       columns = same-axis-is _ _ (not-false _ (a .0));
       rows = same-axis-is _ _ (not-false _ (a .1 .0));
     }

@@ -11,7 +11,7 @@ use Rattle.grid.specs.Grid.{axisOf, sameAxis}
 use Rattle.settings.specs.declared.Settings.{Settings}
 use Rattle.settings.specs.declared.MapRecord.{MapRecord}
 use Rattle.settings.specs.declared.Window.{Window}
-use Rattle.settings.specs.Settings.{binsOf, sameClip}
+use Rattle.settings.specs.Settings.{binsOf, sameClip, sameEdition}
 
 -- 15: "record differs in film number, size ..", a row for each
 unfoldable pub filmRows : ℕ → ℕ → ℕ → MapRecord → List Row
@@ -29,6 +29,10 @@ keptRows s kept =
     ∷ row 15 (not (sameClip (s .clip) (kept .clip)))
     ∷ []
 
+-- 15, order 8: "The edition is a setting, so it is part of what 15 compares."
+unfoldable pub editionRows : Settings → Settings → List Row
+editionRows s kept = row 15 (not (sameEdition (s .edition) (kept .edition))) ∷ []
+
 -- 15: "also given where the record's edges or centres aren't those of this rule", a row for the columns and one for the rows
 unfoldable pub axisRows : ℕ → ℕ → Settings → MapRecord → List Row
 axisRows w h s r =
@@ -36,7 +40,7 @@ axisRows w h s r =
 
 -- 15: the record was made for another film, another size or other settings, or has other edges or centres
 unfoldable pub recordRows : ℕ → ℕ → ℕ → Settings → MapRecord → List Row
-recordRows film w h s r = filmRows film w h r ++ (keptRows s (r .settings) ++ axisRows w h s r)
+recordRows film w h s r = filmRows film w h r ++ (keptRows s (r .settings) ++ (editionRows s (r .settings) ++ axisRows w h s r))
 
 -- 16 and 17: "window empty or not inside the film / output length is not the window's area"
 unfoldable pub windowRows : ℕ → ℕ → Window → ℕ → List Row
@@ -59,5 +63,6 @@ pub record Held (film w h : ℕ) (s : Settings) (r : MapRecord) : Type 0 where
   pub least : s .min ≡ r .settings .min
   pub most : s .max ≡ r .settings .max
   pub clip : sameClip (s .clip) (r .settings .clip) ≡ true
+  pub edition : s .edition ≡ r .settings .edition
   pub columns : axisOf w (s .across) ≡ r .columns
   pub rows : axisOf h (s .down) ≡ r .rows

@@ -2,7 +2,7 @@
 ghost use mathlib.Core.Path.{_≡_};
 ghost use Rattle.refuse.specs.Refuse.{first};
 ghost use Rattle.settings.specs.Settings.{Tiled};
-ghost use Rattle.held.specs.Held.{filmRows, keptRows, axisRows, recordRows, windowRows};
+ghost use Rattle.held.specs.Held.{filmRows, keptRows, editionRows, axisRows, recordRows, windowRows};
 use settings::MapRecord;
 use settings::Settings;
 use settings::Window;
@@ -50,6 +50,18 @@ pub fn kept_refusal(s: Settings, kept: Settings) -> u32
     0
 }
 
+// Refusal 15, where the edition is not the one that was kept, else 0: with clip off and at factor 1.0 too.
+pub fn edition_refusal(s: Settings, kept: Settings) -> u32
+    ensures { λ r. ⌜ r ≡ first (editionRows s kept) ⌝ }
+{
+    let asked = s.edition;
+    let made = kept.edition;
+    if !settings::same_edition(asked, made) {
+        return 15;
+    }
+    0
+}
+
 // Refusal 15, where the record's edges or centres are not those of a film of this size with this grid, else 0.
 pub fn axis_refusal(width: u32, height: u32, s: Settings, record: MapRecord) -> u32
     requires { ⌜ Tiled width height s ⌝ }
@@ -79,6 +91,10 @@ pub fn record_refusal(film: u32, width: u32, height: u32, s: Settings, record: M
     let other = kept_refusal(s, kept);
     if other != 0 {
         return other;
+    }
+    let elder = edition_refusal(s, kept);
+    if elder != 0 {
+        return elder;
     }
     axis_refusal(width, height, s, record)
 }

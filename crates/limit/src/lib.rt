@@ -8,6 +8,12 @@ pub enum Clip {
     Factor(f32),
 }
 
+// Whose clip rule is followed: ours, or that of the report of 1986.
+pub enum Edition {
+    Ours,
+    Of1986,
+}
+
 // What a clip setting is worth: off, refused with 10, exactly 1.0, or a factor above it.
 pub enum Judged {
     Off,

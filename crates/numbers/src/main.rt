@@ -8,6 +8,7 @@ ghost use Rattle.lists.specs.Lists.{all};
 ghost use Rattle.scan.specs.Scan.{within};
 use libc::STDOUT_FILENO;
 use limit::Clip;
+use limit::Edition;
 use prepare::Enhanced;
 use settings::Settings;
 use settings::Window;
@@ -31,6 +32,7 @@ fn asked(factor: f32) -> Enhanced {
         min: 0,
         max: 255,
         clip: Clip::Factor(factor),
+        edition: Edition::Ours,
     };
     prepare::enhance(20, 20, &mut picture[..], s, &mut map[..], &mut scratch[..])
 }
@@ -73,6 +75,7 @@ fn rendered() -> u32 {
         min: 0,
         max: 15,
         clip: Clip::Factor(2.0),
+        edition: Edition::Ours,
     };
     let answer = prepare::enhance(4, 4, &mut picture[..], s, &mut map[..], &mut scratch[..]);
     match answer {
@@ -101,6 +104,7 @@ fn show(pixels: &mut [u16], side: u32, past: u32)
         min: 0,
         max: 4095,
         clip: Clip::Off,
+        edition: Edition::Ours,
     };
     let at = side / 2 + past;
     let win = Window {

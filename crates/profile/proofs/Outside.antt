@@ -11,11 +11,16 @@ use borrow.Author.Tests.{eqb-true, eqb-false, ne-eqb}
 use Rattle.lists.specs.Lists.{all}
 use Rattle.refuse.specs.Refuse.{Row, first}
 use Rattle.refuse.proofs.Walk.{each-first, first-front, first-behind, first-none}
+use Rattle.limit.specs.declared.Edition.the-variants.{Ours}
 use Rattle.settings.specs.declared.Settings.{Settings}
 use Rattle.settings.specs.Settings.{settingRows, roomRows}
 use Rattle.settings.proofs.Ready.{setting-numbered}
 use Rattle.profile.specs.Profile.{profileRows, byteRows}
-use Rattle.profile.proofs.Profile.{profile-numbers}
+use Rattle.profile.proofs.Profile.{profile-numbers, profile}
+
+-- order 8, "The byte profile keeps the present edition only.": another edition is outside it
+pub edition-outside : (s : Settings) → s .edition ≢ Ours → first (profileRows s) ≢ 0
+edition-outside s other none = other (profile s none .edition)
 
 -- a row of the profile that applies gives 30
 pub profile-thirty : (s : Settings) → first (profileRows s) ≢ 0 → first (profileRows s) ≡ 30

@@ -11,14 +11,16 @@ use borrow.Author.Tests.{eqb-true, not-false}
 use Rattle.lists.specs.Lists.{all}
 use Rattle.refuse.specs.Refuse.{Row, row, first, numbersOf, Numbered}
 use Rattle.refuse.proofs.Walk.{first-none, first-both, first-behind, numbers-append}
+use Rattle.limit.specs.declared.Edition.the-variants.{Ours}
 use Rattle.settings.specs.declared.Settings.{Settings}
 use Rattle.settings.specs.Settings.{binsOf, settingRows, roomRows, sharedRows}
 use Rattle.settings.proofs.Ready.{setting-numbers, setting-numbered, room-numbers, setting-tiled, room-fits, shared-parts}
+use Rattle.settings.proofs.Editions.{same-edition-is, same-edition-self}
 use Rattle.profile.specs.Profile.{binsIn, profileRows, byteRows, Profile, ByteReady}
 
 -- ---- the numbers
 
-pub profile-numbers : (s : Settings) → numbersOf (profileRows s) ≡ 30 ∷ 30 ∷ 30 ∷ 30 ∷ 30 ∷ []
+pub profile-numbers : (s : Settings) → numbersOf (profileRows s) ≡ 30 ∷ 30 ∷ 30 ∷ 30 ∷ 30 ∷ 30 ∷ []
 unfolding numbersOf profileRows
 profile-numbers s = refl
 
@@ -29,7 +31,7 @@ profile-numbered s = rw (profile-numbers s) refl
 -- "1 to 10 as they stand, then 30 .., then 11"; 31 stands behind 9
 pub byte-numbers : (w h size : ℕ) (s : Settings) (room : ℕ)
     → numbersOf (byteRows w h size s room)
-    ≡ 1 ∷ 1 ∷ 1 ∷ 1 ∷ 2 ∷ 3 ∷ 3 ∷ 4 ∷ 4 ∷ 5 ∷ 6 ∷ 7 ∷ 8 ∷ 9 ∷ 9 ∷ 31 ∷ 10 ∷ 30 ∷ 30 ∷ 30 ∷ 30 ∷ 30 ∷ 11 ∷ []
+    ≡ 1 ∷ 1 ∷ 1 ∷ 1 ∷ 2 ∷ 3 ∷ 3 ∷ 4 ∷ 4 ∷ 5 ∷ 6 ∷ 7 ∷ 8 ∷ 9 ∷ 9 ∷ 31 ∷ 10 ∷ 30 ∷ 30 ∷ 30 ∷ 30 ∷ 30 ∷ 30 ∷ 11 ∷ []
 unfolding byteRows
 byte-numbers w h size s room =
     numbers-append (settingRows w h size s) (profileRows s ++ roomRows s room)
@@ -62,12 +64,13 @@ profile s e =
       few = bins-few (binsOf s) (not-false _ (n .1 .1 .0));
       min = eqb-true _ _ (not-false _ (n .1 .1 .1 .0));
       max = eqb-true _ _ (not-false _ (n .1 .1 .1 .1 .0));
+      edition = same-edition-is _ _ (not-false _ (n .1 .1 .1 .1 .1 .0));
     }
 
 -- and inside it there is no 30
 pub profile-none : (s : Settings) → Profile s → first (profileRows s) ≡ 0
 unfolding first profileRows
-profile-none s p = rw (p .bins, p .across, p .down, p .min, p .max) refl
+profile-none s p = rw (p .bins, p .across, p .down, p .min, p .max, p .edition, same-edition-self Ours) refl
 
 -- none of the rows 1 to 9, 31, 10, 30 and 11 applies: what the work below relies on
 pub byte-ready : (w h size : ℕ) (s : Settings) (room : ℕ) → first (byteRows w h size s room) ≡ 0 → ByteReady w h size s room

@@ -5,15 +5,16 @@ use mathlib.Core.Bool.{Bool, true, not, _||_}
 use mathlib.Core.List.{List, [], _∷_, _++_}
 use mathlib.Core.Path.{_≡_}
 use lib.Dec.{eqb}
+use Rattle.limit.specs.declared.Edition.the-variants.{Ours}
 use Rattle.refuse.specs.Refuse.{Row, row}
 use Rattle.settings.specs.declared.Settings.{Settings}
-use Rattle.settings.specs.Settings.{binsOf, settingRows, roomRows, Ready}
+use Rattle.settings.specs.Settings.{binsOf, sameEdition, settingRows, roomRows, Ready}
 
 -- "bins 64, 128 (or 0) or 256": 0 is read as 128 before this is asked
 abbrev pub binsIn : ℕ → Bool
 binsIn b = eqb b 64 || (eqb b 128 || eqb b 256)
 
--- 30: "Min 0, Max 255, grid 8 by 8 only, bins 64, 128 (or 0) or 256 .. Outside this profile: refusal 30", a row for each
+-- 30: "Min 0, Max 255, grid 8 by 8 only, bins 64, 128 (or 0) or 256 .. Outside this profile: refusal 30", a row for each; order 8: "The byte profile keeps the present edition only."
 unfoldable pub profileRows : Settings → List Row
 profileRows s =
     row 30 (not (eqb (s .across) 8))
@@ -21,6 +22,7 @@ profileRows s =
     ∷ row 30 (not (binsIn (binsOf s)))
     ∷ row 30 (not (eqb (s .min) 0))
     ∷ row 30 (not (eqb (s .max) 255))
+    ∷ row 30 (not (sameEdition (s .edition) Ours))
     ∷ []
 
 -- the rows 1 to 9, 31 and 10, then 30, then 11
@@ -35,6 +37,7 @@ pub record Profile (s : Settings) : Type 0 where
   pub few : binsOf s ≤ 256
   pub min : s .min ≡ 0
   pub max : s .max ≡ 255
+  pub edition : s .edition ≡ Ours
 
 -- what a byte call knows once none of the rows 1 to 9, 31, 10, 30 and 11 applies
 pub record ByteReady (w h size : ℕ) (s : Settings) (room : ℕ) : Type 0 where

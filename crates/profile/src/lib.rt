@@ -2,6 +2,7 @@
 ghost use mathlib.Core.Path.{_≡_};
 ghost use Rattle.refuse.specs.Refuse.{first};
 ghost use Rattle.profile.specs.Profile.{binsIn, profileRows, byteRows};
+use limit::Edition;
 use settings::Settings;
 
 // Whether the bins, 0 read as 128, are 64, 128 or 256.
@@ -34,6 +35,10 @@ pub fn profile_refusal(s: Settings) -> u32
         return 30;
     }
     if s.max != 255 {
+        return 30;
+    }
+    let edition = s.edition;
+    if !settings::same_edition(edition, Edition::Ours) {
         return 30;
     }
     0

@@ -4,28 +4,30 @@
 use Prim.Native.Nat.{ℕ, zero, suc, _+_, _*_, _≤_, _<_}
 use mathlib.Core.Bool.{true, false}
 use mathlib.Core.Logic.{_≢_}
-use mathlib.Core.Path.{_≡_, refl, sym, ap, subst, _∙_}
+use mathlib.Core.Path.{_≡_, refl, sym, ap, ap₂, subst, _∙_}
 use native.Mathlib.Omega.{arith}
 use lib.ListN.{length, getD, take}
 use Rattle.refuse.specs.Refuse.{first, accepted, refused}
 use Rattle.grid.specs.Grid.{axisOf}
+use Rattle.limit.specs.declared.Clip.the-variants.{Off}
 use Rattle.tile.specs.Tile.{mappedOf}
 use Rattle.settings.specs.declared.MapRecord.{MapRecord}
 use Rattle.settings.specs.declared.Footer.{Footer}
 use Rattle.settings.specs.Settings.{binsOf, entriesOf, keptOf, clipOne, sameClip, sharedRows}
 use Rattle.settings.proofs.Records.{record-film}
 use Rattle.tiles.specs.Tiles.{pixelsIn}
+use Rattle.counting.specs.Counting.{rawCounts}
 use Rattle.prepare.specs.Prepare.{preparedSays, enhancedSays, Ended, prepareOf, Over, overing, enhanceOf}
 use Rattle.held.specs.Held.{Held}
 use Rattle.draw.specs.Draw.{drawRows, drawnSays, Shows, showing, drawOf}
 use Rattle.draw.proofs.Laws.{other-field}
 use Rattle.draw.proofs.Tables.{draw-ready}
-use Rattle.promises.specs.Films.{clippedCounts, ruleGrey, HandedOn}
+use Rattle.promises.specs.Films.{clippedCounts, dividesIn, ruleGrey, HandedOn}
 use Rattle.promises.proofs.Accepted.{refused-says, prepare-record}
 use Rattle.prepare.proofs.Like.{enhance-kept}
 use Rattle.promises.proofs.Reuse.{left-settings}
 use Rattle.promises.proofs.Demand1.{draw-refusal-keeps, prepare-accepted, enhance-accepted, draw-says}
-use Rattle.promises.proofs.Demand2.{own-mapping, own-mapping-enhance, own-rendering, own-pixels, enhance-agrees, draw-agrees}
+use Rattle.promises.proofs.Demand2.{divides-pixels-off, counts-raw-off, own-mapping, own-mapping-enhance, own-rendering, own-pixels, enhance-agrees, draw-agrees}
 use Rattle.promises.proofs.Windows.{accepted-handed, accepted-by-rule, accepted-as-film, accepted-as-enhanced}
 use Rattle.promises.proofs.Runs.{PrepareCall, Prepares, prepare-ends, EnhanceCall, Enhances, enhance-ends, DrawCall, Draws, draw-ends}
 
@@ -90,6 +92,10 @@ module _ {d : DrawCall} (ran : Draws d) (shared : first (sharedRows (d .width) (
   pub other-clip-15 : sameClip (d .settings .clip) (d .kept .settings .clip) ≢ true → drawnSays (d .answer) ≡ refused 15
   other-clip-15 other = draw-differing-15 (λ held. other (held .clip))
 
+  -- in the edition: order 8, "The edition is a setting, so it is part of what 15 compares.", with clip off and at the factor 1.0 too
+  pub other-edition-15 : d .settings .edition ≢ d .kept .settings .edition → drawnSays (d .answer) ≡ refused 15
+  other-edition-15 other = draw-differing-15 (λ held. other (held .edition))
+
   -- order 6, "15 is also given where the record's edges or centres aren't those of this rule": those of the columns, any of them
   pub other-columns-15 : axisOf (d .width) (d .settings .across) ≢ d .kept .columns → drawnSays (d .answer) ≡ refused 15
   other-columns-15 other = draw-differing-15 (λ held. other (held .columns))
@@ -118,9 +124,17 @@ module _ {e : EnhanceCall} {foot : Footer} (ran : Enhances e) (enhanced : enhanc
   -- "the same buffers": each tile's own mapping lies in the map buffer
   pub enhanced-mapped-by-rule : clipOne (e .settings .clip) ≡ false → (k b : ℕ) → k < e .settings .across * e .settings .down → b < binsOf (e .settings)
       → getD (e .map′) (k * binsOf (e .settings) + b) 0
-      ≡ mappedOf (e .settings .min) (e .settings .max) (pixelsIn (e .width) (e .height) (e .settings) k) (clippedCounts (e .width) (e .height) (e .pixels) (e .settings) k) b
+      ≡ mappedOf (e .settings .min) (e .settings .max) (dividesIn (e .width) (e .height) (e .pixels) (e .settings) k) (clippedCounts (e .width) (e .height) (e .pixels) (e .settings) k) b
   enhanced-mapped-by-rule one k b l q =
       ap (λ (z : Over). getD (z .map) (k * binsOf (e .settings) + b) 0) (enhance-ends ran) ∙ own-mapping-enhance _ _ _ _ (e .map) (e .scratch) over one k b l q
+
+  -- order 8, "Clip off .. stay as in 01": in either edition "the raw counts are mapped", over N
+  pub enhanced-off-by-rule : e .settings .clip ≡ Off → (k b : ℕ) → k < e .settings .across * e .settings .down → b < binsOf (e .settings)
+      → getD (e .map′) (k * binsOf (e .settings) + b) 0
+      ≡ mappedOf (e .settings .min) (e .settings .max) (pixelsIn (e .width) (e .height) (e .settings) k) (rawCounts (e .width) (e .height) (e .pixels) (e .settings) k) b
+  enhanced-off-by-rule off k b l q =
+      enhanced-mapped-by-rule (rw off refl) k b l q
+      ∙ ap₂ (λ n cs. mappedOf (e .settings .min) (e .settings .max) n cs b) (divides-pixels-off (e .width) (e .height) (e .pixels) (e .settings) k off) (counts-raw-off (e .width) (e .height) (e .pixels) (e .settings) k off)
 
 -- ---- what prepare left
 
@@ -136,9 +150,17 @@ module _ {p : PrepareCall} {r : MapRecord} {foot : Footer} (ran : Prepares p) (p
   -- each tile's own mapping lies in the map buffer
   pub prepared-by-rule : clipOne (p .settings .clip) ≡ false → (k b : ℕ) → k < p .settings .across * p .settings .down → b < binsOf (p .settings)
       → getD (p .map′) (k * binsOf (p .settings) + b) 0
-      ≡ mappedOf (p .settings .min) (p .settings .max) (pixelsIn (p .width) (p .height) (p .settings) k) (clippedCounts (p .width) (p .height) (p .pixels) (p .settings) k) b
+      ≡ mappedOf (p .settings .min) (p .settings .max) (dividesIn (p .width) (p .height) (p .pixels) (p .settings) k) (clippedCounts (p .width) (p .height) (p .pixels) (p .settings) k) b
   prepared-by-rule one k b l q =
       ap (λ (z : Ended). getD (z .map) (k * binsOf (p .settings) + b) 0) (prepare-ends ran) ∙ own-mapping _ _ _ _ _ _ _ _ done one k b l q
+
+  -- order 8, "Clip off .. stay as in 01": in either edition "the raw counts are mapped", over N
+  pub prepared-off-by-rule : p .settings .clip ≡ Off → (k b : ℕ) → k < p .settings .across * p .settings .down → b < binsOf (p .settings)
+      → getD (p .map′) (k * binsOf (p .settings) + b) 0
+      ≡ mappedOf (p .settings .min) (p .settings .max) (pixelsIn (p .width) (p .height) (p .settings) k) (rawCounts (p .width) (p .height) (p .pixels) (p .settings) k) b
+  prepared-off-by-rule off k b l q =
+      prepared-by-rule (rw off refl) k b l q
+      ∙ ap₂ (λ n cs. mappedOf (p .settings .min) (p .settings .max) n cs b) (divides-pixels-off (p .width) (p .height) (p .pixels) (p .settings) k off) (counts-raw-off (p .width) (p .height) (p .pixels) (p .settings) k off)
 
   -- the record's own settings can be handed on for those that were asked
   pub record-settings : keptOf (r .settings) ≡ keptOf (p .settings)

@@ -1,5 +1,5 @@
 -- Document 00, demand 3, call by call: "in every tile of a film that prepare or enhance accepts", with "each tile's own N and L" (order 6), of which the footer shows
--- the first tile's; and order 2: those limits, and that no clip refusal is given.
+-- the first tile's, and order 8, whose facts stand in for it in the edition of 1986; and order 2: those limits, and that no clip refusal is given.
 -- Of every run of the calls by their contracts (Runs); a name with ′ is lent memory at the end.
 -- Assumes nothing.
 use Prim.Native.Nat.{ℕ}
@@ -9,6 +9,7 @@ use mathlib.Core.Path.{_≡_, refl, sym, ap, _∙_}
 use lib.Ieee.{Float}
 use lib.ListN.{length}
 use Rattle.refuse.specs.Refuse.{row, first, accepted, refused}
+use Rattle.limit.specs.declared.Edition.the-variants.{Ours, Of1986}
 use Rattle.limit.specs.declared.Judged.{Judged}
 use Rattle.limit.specs.declared.Judged.the-variants as Judged
 use Rattle.limit.specs.Limit.{judgedNumber, judgedSays}
@@ -20,9 +21,10 @@ use Rattle.tiles.specs.Tiles.{pixelsIn}
 use Rattle.prepare.specs.Prepare.{preparedSays, enhancedSays, Ended, prepareOf, Over, enhanceOf}
 use Rattle.prepare.proofs.Table.{table-never-14, over-never-14}
 use Rattle.promises.specs.Films.{ClippingOn, ClipCase, FooterShows, limitIn, FilmSound, LimitFits}
+use Rattle.promises.specs.Older.{FilmOlder}
 use Rattle.promises.proofs.Accepted.{says-refused, prepare-work, enhance-work}
 use Rattle.promises.proofs.Demand1.{prepare-says, enhance-says, prepare-accepted, enhance-accepted}
-use Rattle.promises.proofs.Demand3.{tiles-sound, tiles-sound-enhance, footer-shows, footer-shows-enhance, clip-cases, limit-fits}
+use Rattle.promises.proofs.Demand3.{tiles-sound, tiles-sound-enhance, tiles-older, tiles-older-enhance, footer-shows, footer-shows-enhance, clip-cases, limit-fits}
 use Rattle.promises.proofs.Runs.{PrepareCall, Prepares, prepare-ends, EnhanceCall, Enhances, enhance-ends, JudgeCall, Judges, judge-ends}
 
 -- ---- every tile
@@ -40,9 +42,13 @@ module _ {p : PrepareCall} {r : MapRecord} {foot : Footer} (ran : Prepares p) (d
   pub prepared-clip : ClipCase (p .settings .clip)
   prepared-clip = clip-cases (prepare-work _ _ _ _ _ (p .map) (p .scratch) (p .list) prepared)
 
-  -- "With clipping on (a factor above one), in every tile of a film that prepare .. accepts": with the tile's own limit, and the map entries that prepare left
-  pub prepared-tiles-sound : {f : Float} → ClippingOn (p .settings .clip) f → FilmSound (p .width) (p .height) (p .pixels) (p .settings) f (p .map′)
-  prepared-tiles-sound on = rw (ap (λ (z : Ended). z .map) (prepare-ends ran)) (tiles-sound _ _ _ _ _ (p .map) (p .scratch) (p .list) prepared on)
+  -- "With clipping on (a factor above one), in every tile of a film that prepare .. accepts": with the tile's own limit, and the map entries that prepare left, in our edition
+  pub prepared-tiles-sound : {f : Float} → ClippingOn (p .settings .clip) f → p .settings .edition ≡ Ours → FilmSound (p .width) (p .height) (p .pixels) (p .settings) f (p .map′)
+  prepared-tiles-sound on ours = rw (ap (λ (z : Ended). z .map) (prepare-ends ran)) (tiles-sound _ _ _ _ _ (p .map) (p .scratch) (p .list) prepared on ours)
+
+  -- order 8, "Here these facts stand in for demand 3.": in the edition of 1986
+  pub prepared-tiles-older : {f : Float} → ClippingOn (p .settings .clip) f → p .settings .edition ≡ Of1986 → FilmOlder (p .width) (p .height) (p .pixels) (p .settings) f (p .map′)
+  prepared-tiles-older on other = rw (ap (λ (z : Ended). z .map) (prepare-ends ran)) (tiles-older _ _ _ _ _ (p .map) (p .scratch) (p .list) prepared on other)
 
   -- "L x B is never below N, and L is the least that can hold the tile where the factor would give less": of each tile and its own limit
   pub prepared-limit-fits : {f : Float} → ClippingOn (p .settings .clip) f → (k : ℕ)
@@ -62,9 +68,13 @@ module _ {e : EnhanceCall} {foot : Footer} (ran : Enhances e) (done : enhancedSa
   pub enhanced-clip : ClipCase (e .settings .clip)
   enhanced-clip = clip-cases (enhance-work _ _ _ _ (e .map) (e .scratch) enhanced)
 
-  -- "With clipping on (a factor above one), in every tile of a film that .. enhance accepts"
-  pub enhanced-tiles-sound : {f : Float} → ClippingOn (e .settings .clip) f → FilmSound (e .width) (e .height) (e .pixels) (e .settings) f (e .map′)
-  enhanced-tiles-sound on = rw (ap (λ (z : Over). z .map) (enhance-ends ran)) (tiles-sound-enhance _ _ _ _ (e .map) (e .scratch) enhanced on)
+  -- "With clipping on (a factor above one), in every tile of a film that .. enhance accepts", in our edition
+  pub enhanced-tiles-sound : {f : Float} → ClippingOn (e .settings .clip) f → e .settings .edition ≡ Ours → FilmSound (e .width) (e .height) (e .pixels) (e .settings) f (e .map′)
+  enhanced-tiles-sound on ours = rw (ap (λ (z : Over). z .map) (enhance-ends ran)) (tiles-sound-enhance _ _ _ _ (e .map) (e .scratch) enhanced on ours)
+
+  -- order 8, in that of 1986
+  pub enhanced-tiles-older : {f : Float} → ClippingOn (e .settings .clip) f → e .settings .edition ≡ Of1986 → FilmOlder (e .width) (e .height) (e .pixels) (e .settings) f (e .map′)
+  enhanced-tiles-older on other = rw (ap (λ (z : Over). z .map) (enhance-ends ran)) (tiles-older-enhance _ _ _ _ (e .map) (e .scratch) enhanced on other)
 
   -- "L x B is never below N, and L is the least that can hold the tile where the factor would give less"
   pub enhanced-limit-fits : {f : Float} → ClippingOn (e .settings .clip) f → (k : ℕ)

@@ -14,9 +14,11 @@ use Rattle.lists.proofs.Blocks.{block-fits}
 use Rattle.lists.proofs.Alls.{all-at}
 use Rattle.refuse.specs.Refuse.{first, accepted, says}
 use Rattle.scan.specs.Scan.{within}
-use Rattle.binning.specs.Binning.{binOf}
 use Rattle.tally.specs.Tally.{greysOf}
-use Rattle.tile.specs.Tile.{mappedOf}
+use Rattle.limit.specs.declared.Clip.the-variants.{Off}
+use Rattle.limit.specs.declared.Edition.the-variants.{Ours}
+use Rattle.tile.specs.Tile.{mappedOf, tileCounts, tileDivides}
+use Rattle.tile.proofs.Tiles.{divides-ours, divides-off, tile-counts-off}
 use Rattle.settings.specs.declared.Settings.{Settings}
 use Rattle.settings.specs.declared.MapRecord.{MapRecord}
 use Rattle.settings.specs.declared.Footer.{Footer}
@@ -27,22 +29,44 @@ use Rattle.render.proofs.Pixels.{tile-index}
 use Rattle.tally.proofs.Greys.{getD-greys}
 use Rattle.render.proofs.Laws.{render-at, rendered-by, window-law}
 use Rattle.tiles.specs.Tiles.{tileOf, pixelsIn, mappings, Work, TilesAsk}
+use Rattle.tiles.proofs.Tiles.{length-tile-greys}
+use Rattle.counting.specs.Counting.{rawCounts}
 use Rattle.prepare.specs.Prepare.{preparedSays, enhancedSays, Ended, prepareOf, preparedOf, Over, enhanceOf, enhancedOf}
 use Rattle.prepare.proofs.Table.{rows-any}
-use Rattle.tiles.proofs.Tiles.{tile-area}
 use Rattle.tiles.proofs.Films.{length-mappings, mappings-own}
 use Rattle.prepare.proofs.Renders.{laid-mapped, laid-render}
 use Rattle.draw.specs.Draw.{drawRows, drawnSays, Shows, drawOf}
-use Rattle.promises.specs.Films.{clippedCounts, tileValue, greyFrom, ruleGrey, HandedOn}
+use Rattle.promises.specs.Films.{clippedCounts, dividesIn, tileValue, greyFrom, ruleGrey, HandedOn}
 use Rattle.promises.proofs.Accepted.{table-says, prepare-accepts, prepare-work, prepare-done, prepare-foot, enhance-table, enhance-work, enhance-done, draw-table}
 use Rattle.draw.proofs.Like.{drawn-pixels, draw-kept, draw-room}
 use Rattle.promises.proofs.Reuse.{left-room, left-laid, left-asks, draw-free}
 
 -- ---- each tile's own mapping
 
+module _ (w h : ℕ) (pic : List ℕ) (s : Settings) (k : ℕ) where
+  -- in our edition it divides by the tile's pixels
+  pub divides-pixels : s .edition ≡ Ours → dividesIn w h pic s k ≡ pixelsIn w h s k
+  divides-pixels ours =
+      ap (λ e. tileDivides (s .min) (s .max) (binsOf s) e (s .clip) (greysOf pic w (tileOf w h s k))) ours
+      ∙ divides-ours (s .min) (s .max) (binsOf s) (s .clip) (greysOf pic w (tileOf w h s k))
+      ∙ length-tile-greys w h pic s k
+
+  -- order 8, "Clip off .. stay as in 01": so it does with clip off in both
+  pub divides-pixels-off : s .clip ≡ Off → dividesIn w h pic s k ≡ pixelsIn w h s k
+  divides-pixels-off off =
+      ap (λ c. tileDivides (s .min) (s .max) (binsOf s) (s .edition) c (greysOf pic w (tileOf w h s k))) off
+      ∙ divides-off (s .min) (s .max) (binsOf s) (s .edition) (greysOf pic w (tileOf w h s k))
+      ∙ length-tile-greys w h pic s k
+
+  -- and "the raw counts are mapped"
+  pub counts-raw-off : s .clip ≡ Off → clippedCounts w h pic s k ≡ rawCounts w h pic s k
+  counts-raw-off off =
+      ap (λ c. tileCounts (s .min) (s .max) (binsOf s) (s .edition) c (greysOf pic w (tileOf w h s k))) off
+      ∙ tile-counts-off (s .min) (s .max) (binsOf s) (s .edition) (greysOf pic w (tileOf w h s k))
+
 -- the entry of tile k and bin b of a buffer that the mappings were laid down in
 laid-own : (w h : ℕ) (pic : List ℕ) (s : Settings) (m : List ℕ) (k b : ℕ) → k < s .across * s .down → b < binsOf s
-    → getD (onto m (mappings w h pic s)) (k * binsOf s + b) 0 ≡ mappedOf (s .min) (s .max) (pixelsIn w h s k) (clippedCounts w h pic s k) b
+    → getD (onto m (mappings w h pic s)) (k * binsOf s + b) 0 ≡ mappedOf (s .min) (s .max) (dividesIn w h pic s k) (clippedCounts w h pic s k) b
 unfolding onto
 laid-own w h pic s m k b l q =
     List·getD-append (mappings w h pic s) _ 0 (k * binsOf s + b)
@@ -50,10 +74,10 @@ laid-own w h pic s m k b l q =
     ∙ mappings-own w h pic s k b l q
 
 -- "the one that the integer rule of document 01 gives for that film's own pixels and settings": the map entry of tile k and bin b that prepare leaves
--- is the mapped value of that tile's own clipped counts, for every tile and bin
+-- is the mapped value of that tile's own clipped counts, over N or, in the edition of 1986, T, for every tile and bin
 pub own-mapping : (film w h : ℕ) (pic : List ℕ) (s : Settings) (m t n : List ℕ) {r : MapRecord} {foot : Footer}
     → preparedSays (prepareOf film w h pic s m t n .answer) ≡ accepted (r, foot) → clipOne (s .clip) ≡ false → (k b : ℕ) → k < s .across * s .down → b < binsOf s
-    → getD (prepareOf film w h pic s m t n .map) (k * binsOf s + b) 0 ≡ mappedOf (s .min) (s .max) (pixelsIn w h s k) (clippedCounts w h pic s k) b
+    → getD (prepareOf film w h pic s m t n .map) (k * binsOf s + b) 0 ≡ mappedOf (s .min) (s .max) (dividesIn w h pic s k) (clippedCounts w h pic s k) b
 unfolding preparedOf
 own-mapping film w h pic s m t n e one k b l q =
     ap (λ (x : Ended). getD (x .map) (k * binsOf s + b) 0) (prepare-done film w h pic s m t n e)
@@ -63,7 +87,7 @@ own-mapping film w h pic s m t n e one k b l q =
 -- the same of the map entries that enhance leaves
 pub own-mapping-enhance : (w h : ℕ) (pic : List ℕ) (s : Settings) (m t : List ℕ) {foot : Footer}
     → enhancedSays (enhanceOf w h pic s m t .answer) ≡ accepted foot → clipOne (s .clip) ≡ false → (k b : ℕ) → k < s .across * s .down → b < binsOf s
-    → getD (enhanceOf w h pic s m t .map) (k * binsOf s + b) 0 ≡ mappedOf (s .min) (s .max) (pixelsIn w h s k) (clippedCounts w h pic s k) b
+    → getD (enhanceOf w h pic s m t .map) (k * binsOf s + b) 0 ≡ mappedOf (s .min) (s .max) (dividesIn w h pic s k) (clippedCounts w h pic s k) b
 unfolding enhancedOf
 own-mapping-enhance w h pic s m t e one k b l q =
     ap (λ (x : Over). getD (x .map) (k * binsOf s + b) 0) (enhance-done w h pic s m t e)
@@ -80,9 +104,7 @@ unfolding ruleGrey greyFrom tileValue
 laid-grey m {w} {h} {pic} {s} asks x y l k g =
     rendered-by (laid-mapped m asks refl) (λ j i. tileValue w pic s (tileOf w h s (j * s .across + i)) (getD pic (y * w + x) 0)) (getD pic (y * w + x) 0) l k g
     (λ j i p q bin.
-    laid-own w h pic s m (j * s .across + i) _ (tile-index {across = s .across} {down = s .down} p q) bin
-    ∙ ap (λ n. mappedOf (s .min) (s .max) n (clippedCounts w h pic s (j * s .across + i)) (binOf (s .min) (s .max) (binsOf s) (getD pic (y * w + x) 0)))
-    (sym (tile-area w h (s .across) (s .down) (j * s .across + i))))
+    laid-own w h pic s m (j * s .across + i) _ (tile-index {across = s .across} {down = s .down} p q) bin)
 
 -- "The rendering of every accepted film is the one that the integer rule of document 01 gives for that film's own pixels and settings: whole":
 -- each pixel of enhance's picture

@@ -1,30 +1,34 @@
 -- Document 00, demand 3: "With clipping on (a factor above one), in every tile of a film that prepare or enhance accepts": one law over the greys of any
--- rectangle, of which each tile is a case. Laws of the outcomes that the contracts of prepare and enhance cite; of the calls themselves they are said in Clipping.
+-- rectangle, of which each tile is a case; and order 8, whose facts stand in for it in the edition of 1986. Laws of the outcomes that the contracts of prepare and enhance cite; of the calls themselves they are said in Clipping.
 -- Assumes nothing.
-use Prim.Native.Nat.{ℕ, _+_, _*_, _≤_, _<_}
+use Prim.Native.Nat.{ℕ, _+_, _-_, _*_, _≤_, _<_, min}
 use mathlib.Core.Bool.{Bool, true, false}
 use mathlib.Core.List.{List}
-use mathlib.Core.Path.{_≡_, refl, sym, ap, _∙_, subst}
+use mathlib.Core.Path.{_≡_, refl, sym, ap, ap₂, _∙_, subst}
 use native.Mathlib.Omega.{arith}
 use lib.Ieee.{Float, ofBits}
-use lib.ListN.{length}
-use borrow.Author.Tests.{not-false}
+use lib.ListN.{length, getD}
+use borrow.Author.Tests.{not-false, leb-true, leb-false}
 use Rattle.lists.specs.Lists.{total, all}
 use Rattle.refuse.specs.Refuse.{accepted}
 use Rattle.limit.specs.declared.Clip.{Clip}
 use Rattle.limit.specs.declared.Clip.the-variants.{Off, Factor}
+use Rattle.limit.specs.declared.Edition.{Edition}
+use Rattle.limit.specs.declared.Edition.the-variants.{Ours, Of1986}
 use Rattle.limit.specs.Limit.{allowed, isOne, limitOf}
 use Rattle.limit.proofs.Laws.{above-one, above-not-one, limit-holds, limit-tight, limit-floored}
-use Rattle.clip.specs.Clip.{clipped}
+use Rattle.clip.specs.Clip.{excess, clipped}
 use Rattle.clip.proofs.Laws.{length-clipped, total-clipped, clipped-most, clipped-least}
+use Rattle.older.specs.Older.{levelOf, older}
+use Rattle.older.proofs.Levels.{level-largest, length-older, older-between, older-most, older-is}
 use Rattle.scan.specs.Scan.{within}
 use Rattle.tally.specs.declared.Rect.{Rect}
 use Rattle.tally.specs.Tally.{greysOf, countsOf}
 use Rattle.tally.proofs.Counts.{length-counts, total-counts}
 use Rattle.tally.proofs.Greys.{length-greys}
-use Rattle.tile.specs.Tile.{mappedOf, tileCounts, Holds}
-use Rattle.tile.proofs.Mapped.{mapped-mono, mapped-rise, mapped-first}
-use Rattle.tile.proofs.Tiles.{holds-room, tile-counts-factor}
+use Rattle.tile.specs.Tile.{mappedOf, tileCounts, tileDivides, Holds}
+use Rattle.tile.proofs.Mapped.{mapped-mono, mapped-rise, mapped-first, mapped-last}
+use Rattle.tile.proofs.Tiles.{holds-room, total-tile-counts, divides-ours, tile-counts-factor}
 use Rattle.settings.specs.declared.Settings.{Settings}
 use Rattle.settings.specs.declared.MapRecord.{MapRecord}
 use Rattle.settings.specs.declared.Footer.{Footer}
@@ -35,7 +39,8 @@ use Rattle.tiles.proofs.Footers.{footer-asks, film-asks, footer-off, footer-one
 use Rattle.tiles.proofs.Tiles.{tile-area, tile-pixels-some}
 use Rattle.tiles.proofs.Films.{tile-greys, rect-holds}
 use Rattle.counting.specs.Counting.{rawCounts}
-use Rattle.promises.specs.Films.{clippedCounts, ClippingOn, ClipCase, clip-off, clip-one, clip-on, FooterShows, TileSound, limitIn, FilmSound, LimitFits}
+use Rattle.promises.specs.Films.{clippedCounts, ClippingOn, ClipCase, clip-off, clip-one, clip-on, FooterShows, TileSound, limitIn, dividesIn, FilmSound, LimitFits}
+use Rattle.promises.specs.Older.{TileOlder, FilmOlder}
 use Rattle.promises.proofs.Accepted.{prepare-work, prepare-foot, enhance-work, enhance-foot}
 use Rattle.promises.proofs.Demand2.{own-mapping, own-mapping-enhance}
 
@@ -56,44 +61,111 @@ sound lo hi n b l raw entry long all some pixels room own =
       begins = omega (arith, own 0 some, mapped-first lo hi n l (clipped l raw) pixels (clipped-most l raw 0));
     }
 
+-- the counts by the rule of 1986 and their mapping by T, where the bins have room for the pixels
+sound-older : (lo hi n b c : ℕ) (raw : List ℕ) (entry : ℕ → ℕ) → length raw ≡ b → total raw ≡ n → 0 < b → 0 < n → n ≤ c * b → lo ≤ hi
+    → ((i : ℕ) → i < b → entry i ≡ mappedOf lo hi (total (older c raw)) (older c raw) i) → TileOlder lo hi n b c (levelOf c raw) raw (older c raw) entry
+sound-older lo hi n b c raw entry long all some pixels room order own =
+    let holds : total raw ≤ c * length raw = rw long (omega arith) in
+    let x = level-largest c raw holds in
+    let y = older-between c raw (omega arith) holds in
+    let t : ℕ = total (older c raw) in
+    let above : 0 < t = omega (arith, y .0) in
+    let each : (i : ℕ) → i < b → getD (older c raw) i 0 ≡ min c (getD raw i 0 + (c - levelOf c raw)) = λ i h. older-is c raw holds i (omega arith) in
+    record {
+      upto = x .most;
+      fits = subst (λ k. excess (levelOf c raw) raw ≤ k * (c - levelOf c raw)) long (leb-true (excess (levelOf c raw) raw) (length raw * (c - levelOf c raw)) (x .fits));
+      largest = λ q l m. subst (λ k. k * (c - q) < excess q raw) long (leb-false (excess q raw) (length raw * (c - q)) (x .above q l m));
+      bins = length-older c raw ∙ long;
+      raises = λ i h u. omega (arith, each i h, x .most);
+      fills = λ i h u. omega (arith, each i h, x .most);
+      atleast = omega (arith, y .0);
+      below = omega (arith, y .1);
+      under = λ i h. older-most c raw i;
+      least = λ i h. omega (arith, each i h);
+      mapped = own;
+      grows = λ i h. omega (arith, own i (omega arith), own (i + 1) h, mapped-mono lo hi t (older c raw) above i (i + 1) (omega arith));
+      slow = λ i h. omega (arith, own i (omega arith), own (i + 1) h, mapped-rise lo hi t c (older c raw) above i (older-most c raw (i + 1)));
+      begins = omega (arith, own 0 some, mapped-first lo hi t c (older c raw) above (older-most c raw 0));
+      ends = own (b - 1) (omega arith) ∙ ap (λ k. mappedOf lo hi t (older c raw) (k - 1)) (sym (length-older c raw ∙ long))
+          ∙ mapped-last lo hi t (older c raw) above refl order (omega (arith, length-older c raw));
+    }
+
 -- a factor above one is not 1.0
 pub on-not-one : {clip : Clip} {f : Float} → ClippingOn clip f → clipOne clip ≡ false
 on-not-one {clip} {f} on = rw (on .factor, above-not-one f (on .above)) refl
 
 -- ---- any rectangle
 
--- what demand 3 asks of a rectangle of a picture: a pixel and a bin at least, pixels from Min to Max, and room for them under the limit
+-- what demand 3 asks of a rectangle of a picture: a pixel and a bin at least, pixels from Min to Max, which is in order, and room for them under the limit
 pub record RectAsks (lo hi b : ℕ) (clip : Clip) (pic : List ℕ) (w : ℕ) (r : Rect) : Type 0 where
   pub some : 0 < r .width * r .height
   pub bins : 0 < b
+  pub order : lo ≤ hi
   pub greys : all (within lo hi) (greysOf pic w r) ≡ true
   pub holds : Holds clip (r .width * r .height) b
 
--- the greys of any rectangle, counted, clipped and mapped with a factor above one
-pub rect-sound : {lo hi b : ℕ} {clip : Clip} {pic : List ℕ} {w : ℕ} {r : Rect} → RectAsks lo hi b clip pic w r → {f : Float} → ClippingOn clip f → (entry : ℕ → ℕ)
-    → ((i : ℕ) → i < b → entry i ≡ mappedOf lo hi (r .width * r .height) (tileCounts lo hi b clip (greysOf pic w r)) i)
-    → TileSound lo hi (r .width * r .height) b (limitOf f (r .width * r .height) b) (countsOf lo hi b (greysOf pic w r)) (tileCounts lo hi b clip (greysOf pic w r)) entry
-rect-sound {lo} {hi} {b} {clip} {pic} {w} {r} asks {f} on entry own =
-    subst (λ cs. TileSound lo hi n b (limitOf f n b) raw cs entry) (sym clipped-own)
-    (sound lo hi n b (limitOf f n b) raw entry
-    (length-counts lo hi b (greysOf pic w r))
-    (total-counts lo hi b (greysOf pic w r) (asks .greys) (asks .bins) ∙ length-greys pic w r)
-    (asks .bins)
-    (asks .some)
-    (holds-room (subst (λ x. Holds x n b) (on .factor) (asks .holds)))
-    (λ i q. own i q ∙ ap (λ cs. mappedOf lo hi n cs i) clipped-own))
-  where
-    n : ℕ
-    n = r .width * r .height
+module _ {lo hi b : ℕ} {clip : Clip} {pic : List ℕ} {w : ℕ} {r : Rect} (asks : RectAsks lo hi b clip pic w r) {f : Float} (on : ClippingOn clip f) where
+  -- its pixels, and its raw counts
+  abbrev pub area : ℕ
+  area = r .width * r .height
 
-    raw : List ℕ
-    raw = countsOf lo hi b (greysOf pic w r)
+  abbrev pub counted : List ℕ
+  counted = countsOf lo hi b (greysOf pic w r)
 
-    clipped-own : tileCounts lo hi b clip (greysOf pic w r) ≡ clipped (limitOf f n b) raw
-    clipped-own =
-        ap (λ x. tileCounts lo hi b x (greysOf pic w r)) (on .factor)
-        ∙ tile-counts-factor lo hi b f (greysOf pic w r)
-        ∙ ap (λ k. clipped (limitOf f k b) raw) (length-greys pic w r)
+  counted-total : total counted ≡ area
+  counted-total = total-counts lo hi b (greysOf pic w r) (asks .greys) (asks .bins) ∙ length-greys pic w r
+
+  counted-room : area ≤ limitOf f area b * b
+  counted-room = holds-room (subst (λ x. Holds x area b) (on .factor) (asks .holds))
+
+  -- the greys of any rectangle, counted, clipped and mapped with a factor above one, in our edition
+  pub rect-sound : {ed : Edition} → ed ≡ Ours → (entry : ℕ → ℕ)
+      → ((i : ℕ) → i < b → entry i ≡ mappedOf lo hi (tileDivides lo hi b ed clip (greysOf pic w r)) (tileCounts lo hi b ed clip (greysOf pic w r)) i)
+      → TileSound lo hi area b (limitOf f area b) counted (tileCounts lo hi b ed clip (greysOf pic w r)) entry
+  rect-sound {ed} ours entry own =
+      subst (λ cs. TileSound lo hi area b (limitOf f area b) counted cs entry) (sym clipped-own)
+      (sound lo hi area b (limitOf f area b) counted entry
+      (length-counts lo hi b (greysOf pic w r))
+      counted-total
+      (asks .bins)
+      (asks .some)
+      counted-room
+      (λ i q. own i q ∙ ap₂ (λ n cs. mappedOf lo hi n cs i) divides-own clipped-own))
+    where
+      clipped-own : tileCounts lo hi b ed clip (greysOf pic w r) ≡ clipped (limitOf f area b) counted
+      clipped-own =
+          ap₂ (λ x y. tileCounts lo hi b x y (greysOf pic w r)) ours (on .factor)
+          ∙ tile-counts-factor lo hi b Ours f (greysOf pic w r)
+          ∙ ap (λ k. clipped (limitOf f k b) counted) (length-greys pic w r)
+
+      divides-own : tileDivides lo hi b ed clip (greysOf pic w r) ≡ area
+      divides-own = ap (λ x. tileDivides lo hi b x clip (greysOf pic w r)) ours ∙ divides-ours lo hi b clip (greysOf pic w r) ∙ length-greys pic w r
+
+  -- and in the edition of 1986
+  pub rect-older : {ed : Edition} → ed ≡ Of1986 → (entry : ℕ → ℕ)
+      → ((i : ℕ) → i < b → entry i ≡ mappedOf lo hi (tileDivides lo hi b ed clip (greysOf pic w r)) (tileCounts lo hi b ed clip (greysOf pic w r)) i)
+      → TileOlder lo hi area b (limitOf f area b) (levelOf (limitOf f area b) counted) counted (tileCounts lo hi b ed clip (greysOf pic w r)) entry
+  rect-older {ed} other entry own =
+      subst (λ cs. TileOlder lo hi area b (limitOf f area b) (levelOf (limitOf f area b) counted) counted cs entry) (sym older-own)
+      (sound-older lo hi area b (limitOf f area b) counted entry
+      (length-counts lo hi b (greysOf pic w r))
+      counted-total
+      (asks .bins)
+      (asks .some)
+      counted-room
+      (asks .order)
+      (λ i q. own i q ∙ ap₂ (λ n cs. mappedOf lo hi n cs i) divides-own older-own))
+    where
+      older-own : tileCounts lo hi b ed clip (greysOf pic w r) ≡ older (limitOf f area b) counted
+      older-own =
+          ap₂ (λ x y. tileCounts lo hi b x y (greysOf pic w r)) other (on .factor)
+          ∙ tile-counts-factor lo hi b Of1986 f (greysOf pic w r)
+          ∙ ap (λ k. older (limitOf f k b) counted) (length-greys pic w r)
+
+      divides-own : tileDivides lo hi b ed clip (greysOf pic w r) ≡ total (older (limitOf f area b) counted)
+      divides-own =
+          sym (total-tile-counts lo hi b ed clip (greysOf pic w r) (asks .greys) (asks .bins) (subst (λ n. Holds clip n b) (sym (length-greys pic w r)) (asks .holds)))
+          ∙ ap total older-own
 
 -- a tile is one of them
 module _ {w h : ℕ} {pic : List ℕ} {s : Settings} {room scratch : ℕ} (work : Work w h pic s room scratch) {f : Float} (on : ClippingOn (s .clip) f) where
@@ -103,36 +175,60 @@ module _ {w h : ℕ} {pic : List ℕ} {s : Settings} {room scratch : ℕ} (work 
       record {
         some = rw (tile-area w h (s .across) (s .down) k) (tile-pixels-some (work .ready .tiled) l);
         bins = omega (arith, work .ready .tiled .bins);
+        order = omega (arith, work .ready .tiled .min);
         greys = tile-greys asks l;
         holds = rect-holds asks k;
       }
 
-  -- with its own pixels and its own limit
-  tile-sound : (k : ℕ) → k < s .across * s .down → (entry : ℕ → ℕ)
-      → ((i : ℕ) → i < binsOf s → entry i ≡ mappedOf (s .min) (s .max) (pixelsIn w h s k) (clippedCounts w h pic s k) i)
+  -- with its own pixels and its own limit, in our edition
+  tile-sound : s .edition ≡ Ours → (k : ℕ) → k < s .across * s .down → (entry : ℕ → ℕ)
+      → ((i : ℕ) → i < binsOf s → entry i ≡ mappedOf (s .min) (s .max) (dividesIn w h pic s k) (clippedCounts w h pic s k) i)
       → TileSound (s .min) (s .max) (pixelsIn w h s k) (binsOf s) (limitIn w h s f k) (rawCounts w h pic s k) (clippedCounts w h pic s k) entry
-  tile-sound k l entry =
+  tile-sound ours k l entry own =
       subst
-      (λ n. ((i : ℕ) → i < binsOf s → entry i ≡ mappedOf (s .min) (s .max) n (clippedCounts w h pic s k) i)
-      → TileSound (s .min) (s .max) n (binsOf s) (limitOf f n (binsOf s)) (rawCounts w h pic s k) (clippedCounts w h pic s k) entry)
+      (λ n. TileSound (s .min) (s .max) n (binsOf s) (limitOf f n (binsOf s)) (rawCounts w h pic s k) (clippedCounts w h pic s k) entry)
       (tile-area w h (s .across) (s .down) k)
-      (rect-sound (tile-rect-asks k l) on entry)
+      (rect-sound (tile-rect-asks k l) on ours entry own)
+
+  -- and in that of 1986
+  tile-older : s .edition ≡ Of1986 → (k : ℕ) → k < s .across * s .down → (entry : ℕ → ℕ)
+      → ((i : ℕ) → i < binsOf s → entry i ≡ mappedOf (s .min) (s .max) (dividesIn w h pic s k) (clippedCounts w h pic s k) i)
+      → TileOlder (s .min) (s .max) (pixelsIn w h s k) (binsOf s) (limitIn w h s f k) (levelOf (limitIn w h s f k) (rawCounts w h pic s k)) (rawCounts w h pic s k) (clippedCounts w h pic s k) entry
+  tile-older other k l entry own =
+      subst
+      (λ n. TileOlder (s .min) (s .max) n (binsOf s) (limitOf f n (binsOf s)) (levelOf (limitOf f n (binsOf s)) (rawCounts w h pic s k)) (rawCounts w h pic s k) (clippedCounts w h pic s k) entry)
+      (tile-area w h (s .across) (s .down) k)
+      (rect-older (tile-rect-asks k l) on other entry own)
 
 -- ---- every tile
 
--- demand 3, of prepare: every tile of an accepted film with a factor above one, with its own limit, and the map entries that prepare leaves for it
+-- demand 3, of prepare in our edition: every tile of an accepted film with a factor above one, with its own limit, and the map entries that prepare leaves for it
 pub tiles-sound : (film w h : ℕ) (pic : List ℕ) (s : Settings) (m t n : List ℕ) {r : MapRecord} {foot : Footer} {f : Float}
-    → preparedSays (prepareOf film w h pic s m t n .answer) ≡ accepted (r, foot) → ClippingOn (s .clip) f
+    → preparedSays (prepareOf film w h pic s m t n .answer) ≡ accepted (r, foot) → ClippingOn (s .clip) f → s .edition ≡ Ours
     → FilmSound w h pic s f (prepareOf film w h pic s m t n .map)
-tiles-sound film w h pic s m t n e on k l =
-    tile-sound (prepare-work film w h pic s m t n e) on k l _ (λ i q. own-mapping film w h pic s m t n e (on-not-one on) k i l q)
+tiles-sound film w h pic s m t n e on ours k l =
+    tile-sound (prepare-work film w h pic s m t n e) on ours k l _ (λ i q. own-mapping film w h pic s m t n e (on-not-one on) k i l q)
 
 -- the same of enhance
 pub tiles-sound-enhance : (w h : ℕ) (pic : List ℕ) (s : Settings) (m t : List ℕ) {foot : Footer} {f : Float}
-    → enhancedSays (enhanceOf w h pic s m t .answer) ≡ accepted foot → ClippingOn (s .clip) f
+    → enhancedSays (enhanceOf w h pic s m t .answer) ≡ accepted foot → ClippingOn (s .clip) f → s .edition ≡ Ours
     → FilmSound w h pic s f (enhanceOf w h pic s m t .map)
-tiles-sound-enhance w h pic s m t e on k l =
-    tile-sound (enhance-work w h pic s m t e) on k l _ (λ i q. own-mapping-enhance w h pic s m t e (on-not-one on) k i l q)
+tiles-sound-enhance w h pic s m t e on ours k l =
+    tile-sound (enhance-work w h pic s m t e) on ours k l _ (λ i q. own-mapping-enhance w h pic s m t e (on-not-one on) k i l q)
+
+-- order 8, of prepare in the edition of 1986: "Here these facts stand in for demand 3."
+pub tiles-older : (film w h : ℕ) (pic : List ℕ) (s : Settings) (m t n : List ℕ) {r : MapRecord} {foot : Footer} {f : Float}
+    → preparedSays (prepareOf film w h pic s m t n .answer) ≡ accepted (r, foot) → ClippingOn (s .clip) f → s .edition ≡ Of1986
+    → FilmOlder w h pic s f (prepareOf film w h pic s m t n .map)
+tiles-older film w h pic s m t n e on other k l =
+    tile-older (prepare-work film w h pic s m t n e) on other k l _ (λ i q. own-mapping film w h pic s m t n e (on-not-one on) k i l q)
+
+-- the same of enhance
+pub tiles-older-enhance : (w h : ℕ) (pic : List ℕ) (s : Settings) (m t : List ℕ) {foot : Footer} {f : Float}
+    → enhancedSays (enhanceOf w h pic s m t .answer) ≡ accepted foot → ClippingOn (s .clip) f → s .edition ≡ Of1986
+    → FilmOlder w h pic s f (enhanceOf w h pic s m t .map)
+tiles-older-enhance w h pic s m t e on other k l =
+    tile-older (enhance-work w h pic s m t e) on other k l _ (λ i q. own-mapping-enhance w h pic s m t e (on-not-one on) k i l q)
 
 -- ---- the footer
 

@@ -5,7 +5,7 @@ use Prim.Native.Nat.{ℕ, zero, suc, _+_, _*_, _≤_, _<_}
 use mathlib.Core.Bool.{Bool, true, false, cond}
 use mathlib.Core.List.{List}
 use mathlib.Core.Logic.{_≢_, _⊎_, inl, inr}
-use mathlib.Core.Path.{_≡_, refl, sym, ap, _∙_, subst, subst₂}
+use mathlib.Core.Path.{_≡_, refl, sym, ap, ap₂, _∙_, subst, subst₂}
 use native.Mathlib.Omega.{arith}
 use lib.Ieee.{Float}
 use lib.ListN.{length, drop}
@@ -15,6 +15,8 @@ use Rattle.refuse.specs.Refuse.{first, accepted, refused}
 use Rattle.refuse.proofs.Walk.{first-never, only-behind}
 use Rattle.limit.specs.declared.Clip.{Clip}
 use Rattle.limit.specs.declared.Clip.the-variants.{Off}
+use Rattle.limit.specs.declared.Edition.{Edition}
+use Rattle.limit.specs.declared.Edition.the-variants.{Ours, Of1986}
 use Rattle.limit.specs.Limit.{limitOf}
 use Rattle.clip.specs.declared.Spent.{Spent}
 use Rattle.clip.specs.Clip.{excess, left}
@@ -23,7 +25,7 @@ use Rattle.clip.proofs.Laws.{looks-none, looks-within}
 use Rattle.scan.specs.Scan.{within}
 use Rattle.tally.specs.Tally.{greysOf}
 use Rattle.tally.proofs.Counts.{length-counts}
-use Rattle.tile.specs.Tile.{spentBy}
+use Rattle.tile.specs.Tile.{tookIn, spentBy}
 use Rattle.tile.proofs.Tiles.{spent-off, spent-factor}
 use Rattle.settings.specs.declared.Settings.{Settings}
 use Rattle.settings.specs.declared.MapRecord.{MapRecord}
@@ -36,7 +38,7 @@ use Rattle.counting.specs.Counting.{rawCounts}
 use Rattle.prepare.specs.Prepare.{listedRows, enhanceRows, prepareRows, preparedSays, enhancedSays, Ended, prepareOf, preparedOf}
 use Rattle.prepare.proofs.Table.{listed-scratch, listed-short, listed-greys, table-parts, table-shared, table-work, table-listed, over-numbers}
 use Rattle.promises.specs.Films.{ClippingOn, limitIn}
-use Rattle.promises.specs.Looks.{excessAt, looksAt, TileLooks, TilesLooks, FilmLooks, NoLooks, ListShort}
+use Rattle.promises.specs.Looks.{excessAt, looksAt, TileLooks, TilesLooks, FilmLooks, NoLooks, TilesOlderLooks, FilmOlderLooks, ListShort}
 use Rattle.promises.proofs.Accepted.{says-refused, refused-says, prepare-accepts, prepare-done}
 use Rattle.promises.proofs.Demand1.{prepare-says, enhance-says, prepare-accepted}
 use Rattle.promises.proofs.Demand3.{on-not-one}
@@ -56,28 +58,39 @@ tile-looks b l raw long =
     }
 
 -- with clipping on, what clipping takes of the counts of a tile of n pixels and b bins
-spent-with : {clip : Clip} {f : Float} → ClippingOn clip f → (n b : ℕ) (raw : List ℕ) → length raw ≡ b → spentBy clip n raw ≡ spentOf (limitOf f n b) raw
-spent-with {f = f} on n b raw long = sym (spent-factor n raw (on .factor) refl refl) ∙ ap (λ k. spentOf (limitOf f n k) raw) long
+spent-with : {clip : Clip} {f : Float} → ClippingOn clip f → {ed : Edition} (x : Edition) → ed ≡ x → (n b : ℕ) (raw : List ℕ) → length raw ≡ b → spentBy ed clip n raw ≡ tookIn x (limitOf f n b) raw
+spent-with {f = f} on {ed} x same n b raw long = sym (spent-factor ed n raw (on .factor) refl refl) ∙ ap₂ (λ e k. tookIn e (limitOf f n k) raw) same long
 
--- a list that has what clipping took of these counts of tile k in the entries 2k and 2k + 1
-pub tiles-looks : (w h : ℕ) (s : Settings) {f : Float} → ClippingOn (s .clip) f → (counts : ℕ → List ℕ) (n : List ℕ)
+-- a list that has what clipping took of these counts of tile k in the entries 2k and 2k + 1, in our edition
+pub tiles-looks : (w h : ℕ) (s : Settings) {f : Float} → ClippingOn (s .clip) f → s .edition ≡ Ours → (counts : ℕ → List ℕ) (n : List ℕ)
     → ((k : ℕ) → k < s .across * s .down → length (counts k) ≡ binsOf s)
     → ((k : ℕ) → k < s .across * s .down
-    → (excessAt n k ≡ spentBy (s .clip) (pixelsIn w h s k) (counts k) .excess) × (looksAt n k ≡ spentBy (s .clip) (pixelsIn w h s k) (counts k) .looks))
+    → (excessAt n k ≡ spentBy (s .edition) (s .clip) (pixelsIn w h s k) (counts k) .excess) × (looksAt n k ≡ spentBy (s .edition) (s .clip) (pixelsIn w h s k) (counts k) .looks))
     → TilesLooks w h s f counts n
-tiles-looks w h s {f} on counts n bins entries k l =
-    let e : spentBy (s .clip) (pixelsIn w h s k) (counts k) ≡ spentOf (limitIn w h s f k) (counts k) = spent-with on (pixelsIn w h s k) (binsOf s) (counts k) (bins k l) in
+tiles-looks w h s {f} on ours counts n bins entries k l =
+    let e : spentBy (s .edition) (s .clip) (pixelsIn w h s k) (counts k) ≡ spentOf (limitIn w h s f k) (counts k) = spent-with on Ours ours (pixelsIn w h s k) (binsOf s) (counts k) (bins k l) in
     let (x, y) = entries k l in
     subst₂ (TileLooks (binsOf s) (limitIn w h s f k) (counts k)) (sym (x ∙ ap (λ (p : Spent). p .excess) e)) (sym (y ∙ ap (λ (p : Spent). p .looks) e))
     (tile-looks (binsOf s) (limitIn w h s f k) (counts k) (bins k l))
 
+-- in that of 1986
+pub tiles-older-looks : (w h : ℕ) (s : Settings) {f : Float} → ClippingOn (s .clip) f → s .edition ≡ Of1986 → (counts : ℕ → List ℕ) (n : List ℕ)
+    → ((k : ℕ) → k < s .across * s .down → length (counts k) ≡ binsOf s)
+    → ((k : ℕ) → k < s .across * s .down
+    → (excessAt n k ≡ spentBy (s .edition) (s .clip) (pixelsIn w h s k) (counts k) .excess) × (looksAt n k ≡ spentBy (s .edition) (s .clip) (pixelsIn w h s k) (counts k) .looks))
+    → TilesOlderLooks w h s f counts n
+tiles-older-looks w h s {f} on other counts n bins entries k l =
+    let e : spentBy (s .edition) (s .clip) (pixelsIn w h s k) (counts k) ≡ spentAs (excess (limitIn w h s f k) (counts k)) 0 = spent-with on Of1986 other (pixelsIn w h s k) (binsOf s) (counts k) (bins k l) in
+    let (x, y) = entries k l in
+    (x ∙ ap (λ (p : Spent). p .excess) e, y ∙ ap (λ (p : Spent). p .looks) e)
+
 -- and with clip off
 pub tiles-no-looks : (w h : ℕ) (s : Settings) → s .clip ≡ Off → (counts : ℕ → List ℕ) (n : List ℕ)
     → ((k : ℕ) → k < s .across * s .down
-    → (excessAt n k ≡ spentBy (s .clip) (pixelsIn w h s k) (counts k) .excess) × (looksAt n k ≡ spentBy (s .clip) (pixelsIn w h s k) (counts k) .looks))
+    → (excessAt n k ≡ spentBy (s .edition) (s .clip) (pixelsIn w h s k) (counts k) .excess) × (looksAt n k ≡ spentBy (s .edition) (s .clip) (pixelsIn w h s k) (counts k) .looks))
     → NoLooks s n
 tiles-no-looks w h s off counts n entries k l =
-    let e : spentBy (s .clip) (pixelsIn w h s k) (counts k) ≡ spentAs 0 0 = sym (spent-off (pixelsIn w h s k) (counts k) off) in
+    let e : spentBy (s .edition) (s .clip) (pixelsIn w h s k) (counts k) ≡ spentAs 0 0 = sym (spent-off (s .edition) (pixelsIn w h s k) (counts k) off) in
     let (x, y) = entries k l in
     (x ∙ ap (λ (p : Spent). p .excess) e, y ∙ ap (λ (p : Spent). p .looks) e)
 
@@ -95,17 +108,23 @@ module _ (film w h : ℕ) (pic : List ℕ) (s : Settings) (m t n : List ℕ) {r 
 
   -- where the factor is not 1.0, the entries of tile k are those of its raw counts
   entries-by : clipOne (s .clip) ≡ false → (k : ℕ) → k < s .across * s .down
-      → (excessAt (prepareOf film w h pic s m t n .list) k ≡ spentBy (s .clip) (pixelsIn w h s k) (rawCounts w h pic s k) .excess)
-      × (looksAt (prepareOf film w h pic s m t n .list) k ≡ spentBy (s .clip) (pixelsIn w h s k) (rawCounts w h pic s k) .looks)
+      → (excessAt (prepareOf film w h pic s m t n .list) k ≡ spentBy (s .edition) (s .clip) (pixelsIn w h s k) (rawCounts w h pic s k) .excess)
+      × (looksAt (prepareOf film w h pic s m t n .list) k ≡ spentBy (s .edition) (s .clip) (pixelsIn w h s k) (rawCounts w h pic s k) .looks)
   entries-by one k l = (
     ap (λ xs. excessAt xs k) (list-by one) ∙ listed-excess w h pic s n l ∙ ap (λ (x : Spent). x .excess) (spent-in-from w h pic s k),
     ap (λ xs. looksAt xs k) (list-by one) ∙ listed-looks w h pic s n l ∙ ap (λ (x : Spent). x .looks) (spent-in-from w h pic s k),
   )
 
   -- with clipping on: E and the looks of each tile, and what the order says of them
-  pub list-looks : {f : Float} → ClippingOn (s .clip) f → FilmLooks w h pic s f (prepareOf film w h pic s m t n .list)
-  list-looks on =
-      tiles-looks w h s on (rawCounts w h pic s) (prepareOf film w h pic s m t n .list) (λ k l. length-counts (s .min) (s .max) (binsOf s) (greysOf pic w (tileOf w h s k)))
+  pub list-looks : {f : Float} → ClippingOn (s .clip) f → s .edition ≡ Ours → FilmLooks w h pic s f (prepareOf film w h pic s m t n .list)
+  list-looks on ours =
+      tiles-looks w h s on ours (rawCounts w h pic s) (prepareOf film w h pic s m t n .list) (λ k l. length-counts (s .min) (s .max) (binsOf s) (greysOf pic w (tileOf w h s k)))
+      (entries-by (on-not-one on))
+
+  -- in the edition of 1986
+  pub list-older-looks : {f : Float} → ClippingOn (s .clip) f → s .edition ≡ Of1986 → FilmOlderLooks w h pic s f (prepareOf film w h pic s m t n .list)
+  list-older-looks on other =
+      tiles-older-looks w h s on other (rawCounts w h pic s) (prepareOf film w h pic s m t n .list) (λ k l. length-counts (s .min) (s .max) (binsOf s) (greysOf pic w (tileOf w h s k)))
       (entries-by (on-not-one on))
 
   -- with clip off: none
@@ -145,9 +164,13 @@ module _ {p : PrepareCall} {r : MapRecord} {foot : Footer} (ran : Prepares p) (p
   listed : p .list′ ≡ prepareOf (p .film) (p .width) (p .height) (p .pixels) (p .settings) (p .map) (p .scratch) (p .list) .list
   listed = ap (λ (z : Ended). z .list) (prepare-ends ran)
 
-  -- "each tile in row order has two entries: E, and the number of looks .. it is 0 when r is 0 and never more than r x B x (B + 1) / 2": of every tile, with a factor above one
-  pub prepared-looks : {f : Float} → ClippingOn (p .settings .clip) f → FilmLooks (p .width) (p .height) (p .pixels) (p .settings) f (p .list′)
-  prepared-looks on = rw listed (list-looks _ _ _ _ _ (p .map) (p .scratch) (p .list) done on)
+  -- "each tile in row order has two entries: E, and the number of looks .. it is 0 when r is 0 and never more than r x B x (B + 1) / 2": of every tile, with a factor above one, in our edition
+  pub prepared-looks : {f : Float} → ClippingOn (p .settings .clip) f → p .settings .edition ≡ Ours → FilmLooks (p .width) (p .height) (p .pixels) (p .settings) f (p .list′)
+  prepared-looks on ours = rw listed (list-looks _ _ _ _ _ (p .map) (p .scratch) (p .list) done on ours)
+
+  -- order 8, "In order 7's list E is what stands above C, and the looks are 0 here": in that of 1986
+  pub prepared-looks-older : {f : Float} → ClippingOn (p .settings .clip) f → p .settings .edition ≡ Of1986 → FilmOlderLooks (p .width) (p .height) (p .pixels) (p .settings) f (p .list′)
+  prepared-looks-older on other = rw listed (list-older-looks _ _ _ _ _ (p .map) (p .scratch) (p .list) done on other)
 
   -- "With clip off both are 0"
   pub prepared-looks-off : p .settings .clip ≡ Off → NoLooks (p .settings) (p .list′)

@@ -7,6 +7,7 @@ use Rattle.lists.specs.Lists.{tab, total, same}
 use Rattle.limit.specs.Limit.{flooredOf, limitOf}
 use Rattle.clip.specs.Clip.{excess, share, left, walk, starts, clipped}
 use Rattle.clip.specs.Looks.{looksIn, looksFrom, looksOf}
+use Rattle.older.specs.Older.{levelFrom, levelOf, older}
 use Rattle.binning.specs.Binning.{binOf}
 use Rattle.tile.specs.Tile.{mappedOf, mappingOf}
 use Rattle.grid.specs.Grid.{edgeOf, sizeOf, centreOf}
@@ -14,5 +15,5 @@ use Rattle.blend.specs.Blend.{reachedOf, placeOf, greyOf}
 use Rattle.promises.specs.Worked.{greyAt, holds, allHold, worked}
 
 pub worked-numbers : allHold worked ≡ true
-unfolding same greyAt holds allHold worked ofBits tab total flooredOf limitOf excess share left walk starts clipped looksIn looksFrom looksOf binOf mappedOf mappingOf edgeOf sizeOf centreOf reachedOf placeOf greyOf
+unfolding same greyAt holds allHold worked ofBits tab total flooredOf limitOf excess share left walk starts clipped looksIn looksFrom looksOf levelFrom levelOf older binOf mappedOf mappingOf edgeOf sizeOf centreOf reachedOf placeOf greyOf
 worked-numbers = refl

@@ -65,7 +65,7 @@ module _ (film w h : ℕ) (pic : List ℕ) (s : Settings) (m t n : List ℕ) {r 
   left-settings =
       ap (λ (x : MapRecord). keptOf (x .settings)) (sym (prepare-record film w h pic s m t n done))
       ∙ ap keptOf (record-settings film w h s)
-      ∙ kept-same s (keptOf s) refl refl (bins-kept s) refl refl refl
+      ∙ kept-same s (keptOf s) refl refl (bins-kept s) refl refl refl refl
 
   -- with a factor that is not 1.0 the mappings lie there
   pub left-laid : clipOne (s .clip) ≡ false → prepareOf film w h pic s m t n .map ≡ onto m (mappings w h pic s)

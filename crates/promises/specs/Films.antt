@@ -18,7 +18,7 @@ use Rattle.scan.specs.Scan.{within}
 use Rattle.binning.specs.Binning.{binOf}
 use Rattle.tally.specs.declared.Rect.{Rect}
 use Rattle.tally.specs.Tally.{greysOf}
-use Rattle.tile.specs.Tile.{mappedOf, tileCounts}
+use Rattle.tile.specs.Tile.{mappedOf, tileCounts, tileDivides}
 use Rattle.settings.specs.declared.Settings.{Settings}
 use Rattle.settings.specs.declared.Footer.{Footer}
 use Rattle.settings.specs.declared.Window.{Window}
@@ -33,12 +33,19 @@ use Rattle.tiles.specs.Tiles.{tileOf, pixelsIn, none, one}
 
 -- "the clipped counts" of tile k, the raw ones where the clip is off
 abbrev pub clippedCounts : ℕ → ℕ → List ℕ → Settings → ℕ → List ℕ
-clippedCounts w h pic s k = tileCounts (s .min) (s .max) (binsOf s) (s .clip) (greysOf pic w (tileOf w h s k))
+clippedCounts w h pic s k = tileCounts (s .min) (s .max) (binsOf s) (s .edition) (s .clip) (greysOf pic w (tileOf w h s k))
 
--- the mapped value of a grey v by a tile that is the rectangle r of the film: of that tile's own clipped counts, at the grey's bin
+-- what its mapping divides by: N, its pixels; in the edition of 1986 with a factor "the new total T instead of N"
+abbrev pub dividesIn : ℕ → ℕ → List ℕ → Settings → ℕ → ℕ
+dividesIn w h pic s k = tileDivides (s .min) (s .max) (binsOf s) (s .edition) (s .clip) (greysOf pic w (tileOf w h s k))
+
+-- the mapped value of a grey v by a tile that is the rectangle r of the film: of that tile's own clipped counts, over what their mapping divides by, at the grey's bin
 unfoldable pub tileValue : ℕ → List ℕ → Settings → Rect → ℕ → ℕ
 tileValue w pic s r v =
-    mappedOf (s .min) (s .max) (r .width * r .height) (tileCounts (s .min) (s .max) (binsOf s) (s .clip) (greysOf pic w r)) (binOf (s .min) (s .max) (binsOf s) v)
+    mappedOf (s .min) (s .max)
+    (tileDivides (s .min) (s .max) (binsOf s) (s .edition) (s .clip) (greysOf pic w r))
+    (tileCounts (s .min) (s .max) (binsOf s) (s .edition) (s .clip) (greysOf pic w r))
+    (binOf (s .min) (s .max) (binsOf s) v)
 
 -- the grey of a pixel of grey v from the tiles of its two places, `tile k` being the rectangle of tile k, "tiles row by row"
 unfoldable pub greyFrom : ℕ → List ℕ → Settings → (ℕ → Rect) → Place → Place → ℕ → ℕ

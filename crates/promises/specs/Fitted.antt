@@ -75,7 +75,7 @@ fitGrey w h pic s x y =
 -- "the mappings, tiles row by row, bins upward"
 unfoldable pub fitMappings : ℕ → ℕ → List ℕ → Settings → List ℕ
 fitMappings w h pic s =
-    joined (s .across * s .down) (λ k. tileMapping (s .min) (s .max) (binsOf s) (s .clip) (greysOf pic w (fitRect w h s k)))
+    joined (s .across * s .down) (λ k. tileMapping (s .min) (s .max) (binsOf s) (s .edition) (s .clip) (greysOf pic w (fitRect w h s k)))
 
 -- "a footer record with L, the factor asked .. and the factor used", L and N being those of every tile
 unfoldable pub fitFoot : ℕ → ℕ → Settings → Footer

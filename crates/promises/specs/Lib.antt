@@ -1,4 +1,5 @@
 pub mod Worked
 pub mod Films
+pub mod Older
 pub mod Fitted
 pub mod Looks

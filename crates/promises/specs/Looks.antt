@@ -48,6 +48,14 @@ FilmLooks w h pic s f n = TilesLooks w h s f (rawCounts w h pic s) n
 abbrev pub NoLooks : Settings → List ℕ → Type 0
 NoLooks s n = (k : ℕ) → k < s .across * s .down → (excessAt n k ≡ 0) × (looksAt n k ≡ 0)
 
+-- order 8, in the edition of 1986: "In order 7's list E is what stands above C, and the looks are 0 here": of every tile, with its own C for the factor f, of these counts of tile k
+abbrev pub TilesOlderLooks : ℕ → ℕ → Settings → Float → (ℕ → List ℕ) → List ℕ → Type 0
+TilesOlderLooks w h s f counts n = (k : ℕ) → k < s .across * s .down → (excessAt n k ≡ excess (limitIn w h s f k) (counts k)) × (looksAt n k ≡ 0)
+
+-- and of a film's, with each tile's own raw counts
+abbrev pub FilmOlderLooks : ℕ → ℕ → List ℕ → Settings → Float → List ℕ → Type 0
+FilmOlderLooks w h pic s f n = TilesOlderLooks w h s f (rawCounts w h pic s) n
+
 -- 32, "this list is shorter than twice the number of tiles, straight after 12": with so many entries of the map buffer, the scratch and the list
 pub record ListShort (w h : ℕ) (pic : List ℕ) (s : Settings) (room scratch list : ℕ) : Type 0 where
   -- none of 1 to 11 and 31 applies

@@ -10,6 +10,7 @@ use Rattle.lists.specs.Lists.{same}
 use Rattle.limit.specs.Limit.{limitOf}
 use Rattle.clip.specs.Clip.{clipped}
 use Rattle.clip.specs.Looks.{looksOf}
+use Rattle.older.specs.Older as Older
 use Rattle.binning.specs.Binning.{binOf}
 use Rattle.tile.specs.Tile.{mappingOf}
 use Rattle.grid.specs.Grid.{edgeOf, centreOf}
@@ -24,7 +25,11 @@ pub data Worked : Type 0 where
   clip : ℕ → List ℕ → List ℕ → Worked
   -- the same: how many bins the leftover walk looks at
   looks : ℕ → List ℕ → ℕ → Worked
-  -- Min, Max, N and counts: the mapping
+  -- order 8: C and counts: P
+  level : ℕ → List ℕ → ℕ → Worked
+  -- the same: the new counts
+  older : ℕ → List ℕ → List ℕ → Worked
+  -- Min, Max, N (or T) and counts: the mapping
   mapping : ℕ → ℕ → ℕ → List ℕ → List ℕ → Worked
   -- Min, Max, B and a grey: its bin
   bin : ℕ → ℕ → ℕ → ℕ → ℕ → Worked
@@ -56,6 +61,8 @@ unfoldable pub holds : Worked → Bool
 holds (limit f n b l) = eqb (limitOf (ofBits binary32 f) n b) l
 holds (clip l cs ds) = same (clipped l cs) ds
 holds (looks l cs n) = eqb (looksOf l cs) n
+holds (level c cs p) = eqb (Older.levelOf c cs) p
+holds (older c cs ds) = same (Older.older c cs) ds
 holds (mapping lo hi n cs vs) = same (mappingOf lo hi n cs) vs
 holds (bin lo hi b v k) = eqb (binOf lo hi b v) k
 holds (edge side grid i e) = eqb (edgeOf side grid i) e
@@ -106,4 +113,24 @@ worked =
     ∷ looks 6 (11 ∷ 5 ∷ 0 ∷ 0 ∷ []) 4
     ∷ looks 7 (19 ∷ 6 ∷ 0 ∷ 0 ∷ []) 8
     ∷ looks 4 (16 ∷ 0 ∷ 0 ∷ 0 ∷ []) 4
+    -- Order 8, P, the new counts and, by their total T, the mapping. C 6, 16,0,0,0: P 2; 6,4,4,4; T 18, for range 0..15 5,8,11,15.
+    ∷ level 6 (16 ∷ 0 ∷ 0 ∷ 0 ∷ []) 2
+    ∷ older 6 (16 ∷ 0 ∷ 0 ∷ 0 ∷ []) (6 ∷ 4 ∷ 4 ∷ 4 ∷ [])
+    ∷ mapping 0 15 18 (6 ∷ 4 ∷ 4 ∷ 4 ∷ []) (5 ∷ 8 ∷ 11 ∷ 15 ∷ [])
+    -- C 6, 9,5,1,1: P 5; 6,6,2,2. C 6, 11,5,0,0: P 4; 6,6,2,2.
+    ∷ level 6 (9 ∷ 5 ∷ 1 ∷ 1 ∷ []) 5
+    ∷ older 6 (9 ∷ 5 ∷ 1 ∷ 1 ∷ []) (6 ∷ 6 ∷ 2 ∷ 2 ∷ [])
+    ∷ level 6 (11 ∷ 5 ∷ 0 ∷ 0 ∷ []) 4
+    ∷ older 6 (11 ∷ 5 ∷ 0 ∷ 0 ∷ []) (6 ∷ 6 ∷ 2 ∷ 2 ∷ [])
+    -- C 7, 19,6,0,0: P 1; 7,7,6,6; T 26, mapping 4,8,11,15.
+    ∷ level 7 (19 ∷ 6 ∷ 0 ∷ 0 ∷ []) 1
+    ∷ older 7 (19 ∷ 6 ∷ 0 ∷ 0 ∷ []) (7 ∷ 7 ∷ 6 ∷ 6 ∷ [])
+    ∷ mapping 0 15 26 (7 ∷ 7 ∷ 6 ∷ 6 ∷ []) (4 ∷ 8 ∷ 11 ∷ 15 ∷ [])
+    -- C 4, 16,0,0,0: P 0; 4,4,4,4. C 5, 17,0,0,0: P 1; 5,4,4,4. C 6, 4,4,4,4: P 6, and the counts as they were.
+    ∷ level 4 (16 ∷ 0 ∷ 0 ∷ 0 ∷ []) 0
+    ∷ older 4 (16 ∷ 0 ∷ 0 ∷ 0 ∷ []) (4 ∷ 4 ∷ 4 ∷ 4 ∷ [])
+    ∷ level 5 (17 ∷ 0 ∷ 0 ∷ 0 ∷ []) 1
+    ∷ older 5 (17 ∷ 0 ∷ 0 ∷ 0 ∷ []) (5 ∷ 4 ∷ 4 ∷ 4 ∷ [])
+    ∷ level 6 (4 ∷ 4 ∷ 4 ∷ 4 ∷ []) 6
+    ∷ older 6 (4 ∷ 4 ∷ 4 ∷ 4 ∷ []) (4 ∷ 4 ∷ 4 ∷ 4 ∷ [])
     ∷ []

@@ -1,4 +1,5 @@
 pub mod Clips
+pub mod Editions
 pub mod Like
 pub mod Ready
 pub mod Reach

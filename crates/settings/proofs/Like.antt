@@ -12,7 +12,7 @@ use Rattle.settings.specs.Settings.{binsOf, keptOf, sizeRows, gridRows, 
 
 -- these settings with other bins
 abbrev withBins : Settings → ℕ → Settings
-withBins s n = record { across = s .across; down = s .down; bins = n; min = s .min; max = s .max; clip = s .clip }
+withBins s n = record { across = s .across; down = s .down; bins = n; min = s .min; max = s .max; clip = s .clip; edition = s .edition }
 
 -- what is the same with bins 128 as with 0 is the same with the settings as they are kept
 kept-law {ℓ} : {A : Type ℓ} (f : Settings → A) → ((s : Settings) → f (withBins s 128) ≡ f (withBins s 0)) → (s : Settings) → f (keptOf s) ≡ f s
@@ -58,7 +58,7 @@ pub shared-kept : (w h size : ℕ) (s : Settings) (room : ℕ) → sharedRows w 
 unfolding sharedRows
 shared-kept w h size s room = ap₂ (λ a b. a ++ b) (setting-kept w h size s) (room-kept s room)
 
--- settings that agree in grid, Min, Max and clip, and in the bins with 0 read as 128, are kept as the same
-pub kept-same : (s s′ : Settings) → s′ .across ≡ s .across → s′ .down ≡ s .down → binsOf s′ ≡ binsOf s → s′ .min ≡ s .min → s′ .max ≡ s .max → s′ .clip ≡ s .clip
+-- settings that agree in grid, Min, Max, clip and edition, and in the bins with 0 read as 128, are kept as the same
+pub kept-same : (s s′ : Settings) → s′ .across ≡ s .across → s′ .down ≡ s .down → binsOf s′ ≡ binsOf s → s′ .min ≡ s .min → s′ .max ≡ s .max → s′ .clip ≡ s .clip → s′ .edition ≡ s .edition
     → keptOf s′ ≡ keptOf s
-kept-same s s′ across down bins min max clip = rw (bins, across, down, min, max, clip) refl
+kept-same s s′ across down bins min max clip edition = rw (bins, across, down, min, max, clip, edition) refl

@@ -8,6 +8,8 @@ use lib.Dec.{leb, ltb, eqb}
 use lib.Ieee.{eq}
 use Rattle.limit.specs.declared.Clip.{Clip}
 use Rattle.limit.specs.declared.Clip.the-variants.{Off, Factor}
+use Rattle.limit.specs.declared.Edition.{Edition}
+use Rattle.limit.specs.declared.Edition.the-variants.{Ours, Of1986}
 use Rattle.limit.specs.Limit.{allowed, isOne}
 use Rattle.grid.specs.Grid.{axisOf, noAxis}
 use Rattle.refuse.specs.Refuse.{Row, row}
@@ -20,7 +22,7 @@ binsOf s = cond (eqb (s .bins) 0) 128 (s .bins)
 
 -- the settings "with bins 0 kept as 128"
 abbrev pub keptOf : Settings → Settings
-keptOf s = record { across = s .across; down = s .down; bins = binsOf s; min = s .min; max = s .max; clip = s .clip }
+keptOf s = record { across = s .across; down = s .down; bins = binsOf s; min = s .min; max = s .max; clip = s .clip; edition = s .edition }
 
 -- "A map record holds the film's number .., sizes and settings, with bins 0 kept as 128."; order 6: "The map record keeps the edges and centres"
 unfoldable pub recordOf : ℕ → ℕ → ℕ → Settings → MapRecord
@@ -34,7 +36,7 @@ keptRecord r =
 
 -- "A refusal returns its number alone": no settings stand beside it
 unfoldable pub noSettings : Settings
-noSettings = record { across = 0; down = 0; bins = 0; min = 0; max = 0; clip = Off }
+noSettings = record { across = 0; down = 0; bins = 0; min = 0; max = 0; clip = Off; edition = Ours }
 
 -- nor any record
 unfoldable pub noRecord : MapRecord
@@ -60,6 +62,13 @@ sameClip Off Off = true
 sameClip Off (Factor g) = false
 sameClip (Factor f) Off = false
 sameClip (Factor f) (Factor g) = eq f g
+
+-- order 8, "The edition is a setting, so it is part of what 15 compares": two editions are the same
+unfoldable pub sameEdition : Edition → Edition → Bool
+sameEdition Ours Ours = true
+sameEdition Ours Of1986 = false
+sameEdition Of1986 Ours = false
+sameEdition Of1986 Of1986 = true
 
 -- 1: "width or height is 0 or above 4096"
 unfoldable pub sideRows : ℕ → ℕ → List Row

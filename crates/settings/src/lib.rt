@@ -2,12 +2,13 @@
 ghost use mathlib.Core.Path.{_≡_};
 ghost use Prim.Native.Nat.{_≤_};
 ghost use Rattle.refuse.specs.Refuse.{first};
-ghost use Rattle.settings.specs.Settings.{binsOf, keptOf, recordOf, noRecord, Tiled, clipBad, clipOne, sameClip, sideRows, lengthRows, sizeRows, gridRows, rangeRows, clipRows, greyRows, roomRows, settingRows, sharedRows};
+ghost use Rattle.settings.specs.Settings.{binsOf, keptOf, recordOf, noRecord, Tiled, clipBad, clipOne, sameClip, sameEdition, sideRows, lengthRows, sizeRows, gridRows, rangeRows, clipRows, greyRows, roomRows, settingRows, sharedRows};
 use grid::Axis;
 use limit::Clip;
+use limit::Edition;
 use limit::Judged;
 
-// Grid across and down, bins, grey range and clip setting.
+// Grid across and down, bins, grey range, clip setting and edition of the clip rule.
 pub struct Settings {
     pub across: u32,
     pub down: u32,
@@ -15,6 +16,7 @@ pub struct Settings {
     pub min: u32,
     pub max: u32,
     pub clip: Clip,
+    pub edition: Edition,
 }
 
 // What a film's mappings were made for: its number, sizes and settings, with bins 0 kept as 128, and its tiles' edges and centres.
@@ -57,6 +59,7 @@ pub fn kept(s: Settings) -> Settings
     ensures { λ r. ⌜ r ≡ keptOf s ⌝ }
 {
     let clip = s.clip;
+    let edition = s.edition;
     Settings {
         across: s.across,
         down: s.down,
@@ -64,6 +67,7 @@ pub fn kept(s: Settings) -> Settings
         min: s.min,
         max: s.max,
         clip,
+        edition,
     }
 }
 
@@ -96,6 +100,7 @@ pub fn no_record() -> MapRecord
         min: 0,
         max: 0,
         clip: Clip::Off,
+        edition: Edition::Ours,
     };
     let axis = grid::no_axis();
     MapRecord {
@@ -146,6 +151,22 @@ pub fn same_clip(a: Clip, b: Clip) -> bool
         Clip::Factor(f) => match b {
             Clip::Off => false,
             Clip::Factor(g) => f == g,
+        },
+    }
+}
+
+// Whether two editions are the same.
+pub fn same_edition(a: Edition, b: Edition) -> bool
+    ensures { λ r. ⌜ r ≡ sameEdition a b ⌝ }
+{
+    match a {
+        Edition::Ours => match b {
+            Edition::Ours => true,
+            Edition::Of1986 => false,
+        },
+        Edition::Of1986 => match b {
+            Edition::Ours => false,
+            Edition::Of1986 => true,
         },
     }
 }

@@ -1,2 +1,3 @@
 pub mod Mapped
 pub mod Tiles
+pub mod Bounds

@@ -40,11 +40,11 @@ div-add-up a d n p =
 -- ---- a factor in place of the division
 
 -- a part s of n by the factor that stands for r / n
-pub scale-part : (s n r : ℕ) → 0 < n → s ≤ n → n ≤ 4194304 → s * ratio 35184372088832 r n / 35184372088832 ≡ s * r / n
-scale-part s n r p h m = by-ratio 35184372088832 s r n p (omega (arith, mul-le-mul {n₂ = 4194304} {m₂ = 4194304} (le-trans h m) m))
+pub scale-part : (s n r : ℕ) → 0 < n → s ≤ n → n ≤ 4198400 → s * ratio 35184372088832 r n / 35184372088832 ≡ s * r / n
+scale-part s n r p h m = by-ratio 35184372088832 s r n p (omega (arith, mul-le-mul {n₂ = 4198400} {m₂ = 4198400} (le-trans h m) m))
 
 -- and its product stays in 64 bits
-pub scale-room : (s n r : ℕ) → s ≤ n → n ≤ 4194304 → r ≤ 4095 → s * ratio 35184372088832 r n ≤ 144080003707961344
+pub scale-room : (s n r : ℕ) → s ≤ n → n ≤ 4198400 → r ≤ 4095 → s * ratio 35184372088832 r n ≤ 144080003707965440
 scale-room s n r h m k =
     let q : ℕ = r * 35184372088832 / n in
     let e : s * (q + 1) ≡ s * q + s * 1 = mul-add s q 1 in

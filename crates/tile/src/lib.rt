@@ -3,9 +3,10 @@ ghost use mathlib.Core.Path.{_≡_};
 ghost use lib.ListN.{length};
 ghost use Rattle.lists.specs.Lists.{onto};
 ghost use Rattle.tally.specs.Tally.{greysOf};
-ghost use Rattle.tile.specs.Tile.{mappingOf, clippedBy, spentBy, MapAsks, ClipByAsks, FromAsks, FromMapped, TileAsks, TileMapped};
+ghost use Rattle.tile.specs.Tile.{mappingOf, MapAsks, ClipInAsks, InClipped, ClipByAsks, ByClipped, FromAsks, FromMapped, TileAsks, TileMapped};
 use clip::Spent;
 use limit::Clip;
+use limit::Edition;
 use tally::Rect;
 
 // The mapping of counts: each bin's grey by the running sum of the counts up to it. The range over the pixels is one factor for all bins, so that no sum is divided: a product and a division by 2^45, which is a shift.
@@ -25,19 +26,53 @@ pub fn map(counts: &[u32], pixels: u32, min: u32, max: u32, out: &mut [u16])
     }
 }
 
+// What clipping a tile's counts comes to: what their mapping divides by, and what it took.
+pub struct Clipped {
+    pub over: u32,
+    pub spent: Spent,
+}
+
+// The counts clipped at a limit by an edition's rule. The rule of 1986 has no walk, and so no looks.
+fn clip_in(edition: Edition, pixels: u32, most: u32, counts: &mut [u32]) -> Clipped
+    requires { ⌜ ClipInAsks pixels most (now counts) ⌝ }
+    ensures { λ r. ⌜ InClipped edition pixels most (now (counts .entry)) (now (counts .exit)) r ⌝ }
+{
+    match edition {
+        Edition::Ours => {
+            let spent = clip::clip(counts, most);
+            Clipped {
+                over: pixels,
+                spent,
+            }
+        }
+        Edition::Of1986 => {
+            let excess = clip::excess(counts, most);
+            let over = older::raise(counts, most);
+            let looks = 0;
+            Clipped {
+                over,
+                spent: Spent { excess, looks },
+            }
+        }
+    }
+}
+
 // The counts clipped by the clip setting; with clip off the raw counts stay, and nothing is taken.
-fn clip_by(clip: Clip, pixels: u32, counts: &mut [u32]) -> Spent
+fn clip_by(clip: Clip, pixels: u32, counts: &mut [u32], edition: Edition) -> Clipped
     requires { ⌜ ClipByAsks clip pixels (now counts) ⌝ }
-    ensures { λ r. ⌜ (now (counts .exit) ≡ clippedBy clip pixels (now (counts .entry))) × (r ≡ spentBy clip pixels (now (counts .entry))) ⌝ }
+    ensures { λ r. ⌜ ByClipped edition clip pixels (now (counts .entry)) (now (counts .exit)) r ⌝ }
 {
     match clip {
-        Clip::Off => Spent {
-            excess: 0,
-            looks: 0,
+        Clip::Off => Clipped {
+            over: pixels,
+            spent: Spent {
+                excess: 0,
+                looks: 0,
+            },
         },
         Clip::Factor(factor) => {
             let most = limit::limit(factor, pixels, counts.len() as u32);
-            clip::clip(counts, most)
+            clip_in(edition, pixels, most, counts)
         }
     }
 }
@@ -50,13 +85,15 @@ pub fn from_counts(
     max: u32,
     counts: &mut [u32],
     out: &mut [u16],
+    edition: Edition,
 ) -> Spent
     requires { ⌜ FromAsks clip pixels min max (now counts) (length (now out)) ⌝ }
-    ensures { λ r. ⌜ FromMapped clip pixels min max (now (counts .entry)) (now (counts .exit)) (now (out .entry)) (now (out .exit)) r ⌝ }
+    ensures { λ r. ⌜ FromMapped edition clip pixels min max (now (counts .entry)) (now (counts .exit)) (now (out .entry)) (now (out .exit)) r ⌝ }
 {
-    let spent = clip_by(clip, pixels, counts);
-    map(counts, pixels, min, max, out);
-    spent
+    let clipped = clip_by(clip, pixels, counts, edition);
+    let whole = clipped.over;
+    map(counts, whole, min, max, out);
+    clipped.spent
 }
 
 // A tile's mapping from its pixels: counted, clipped, mapped. The counts stay in the front of the scratch. The answer is what clipping took.
@@ -70,12 +107,21 @@ pub fn mapping(
     clip: Clip,
     scratch: &mut [u32],
     out: &mut [u16],
+    edition: Edition,
 ) -> Spent
     requires { ⌜ TileAsks (now picture) stride rect min max bins clip (length (now scratch)) (length (now out)) ⌝ }
-    ensures { λ r. ⌜ TileMapped min max bins clip (greysOf (now (picture .entry)) stride rect) (now (scratch .entry)) (now (scratch .exit)) (now (out .entry)) (now (out .exit)) r ⌝ }
+    ensures { λ r. ⌜ TileMapped min max bins edition clip (greysOf (now (picture .entry)) stride rect) (now (scratch .entry)) (now (scratch .exit)) (now (out .entry)) (now (out .exit)) r ⌝ }
 {
     let pixels = (rect.width * rect.height) as u32;
     let entries = bins as usize;
     tally::count(picture, stride, rect, min, max, bins, scratch);
-    from_counts(clip, pixels, min, max, &mut scratch[..entries], out)
+    from_counts(
+        clip,
+        pixels,
+        min,
+        max,
+        &mut scratch[..entries],
+        out,
+        edition,
+    )
 }

@@ -22,7 +22,7 @@ use Rattle.tally.specs.declared.Rect.{Rect}
 use Rattle.scan.specs.Scan.{within}
 use Rattle.tally.specs.Tally.{greysOf, countsOf}
 use Rattle.clip.specs.declared.Spent.{Spent}
-use Rattle.tile.specs.Tile.{mappedOf, countsMapping, tileCounts, tileMapping, Holds, off, factor, TileMapped}
+use Rattle.tile.specs.Tile.{mappedOf, countsMapping, tileCounts, tileDivides, tileMapping, Holds, off, factor, TileMapped}
 use Rattle.tile.specs.Tile as tile
 use Rattle.tally.proofs.Greys.{greys-all}
 use Rattle.tile.proofs.Tiles.{length-tile-counts, tile-mapping-from, length-tile-mapping, getD-tile-mapping, tile-mapping-within}
@@ -59,24 +59,24 @@ module _ {w h : ℕ} {pic : List ℕ} {s : Settings} {room scratch : ℕ} (asks 
 -- a mapped value for each bin
 pub length-tile-map : (w h : ℕ) (pic : List ℕ) (s : Settings) (k : ℕ) → length (tileMap w h pic s k) ≡ binsOf s
 unfolding tileMap
-length-tile-map w h pic s k = length-tile-mapping (s .min) (s .max) (binsOf s) (s .clip) (greysOf pic w (tileOf w h s k))
+length-tile-map w h pic s k = length-tile-mapping (s .min) (s .max) (binsOf s) (s .edition) (s .clip) (greysOf pic w (tileOf w h s k))
 
--- the mappings are each tile's own raw counts, mapped by the clip setting
+-- the mappings are each tile's own raw counts, mapped by the edition and the clip setting
 pub mappings-from : (w h : ℕ) (pic : List ℕ) (s : Settings)
     → mappings w h pic s
-    ≡ joined (s .across * s .down) (λ k. countsMapping (s .min) (s .max) (s .clip) (pixelsIn w h s k) (countsOf (s .min) (s .max) (binsOf s) (greysOf pic w (tileOf w h s k))))
+    ≡ joined (s .across * s .down) (λ k. countsMapping (s .min) (s .max) (s .edition) (s .clip) (pixelsIn w h s k) (countsOf (s .min) (s .max) (binsOf s) (greysOf pic w (tileOf w h s k))))
 unfolding mappings tileMap
 mappings-from w h pic s =
     joined-cong (s .across * s .down)
     (λ k l.
-    tile-mapping-from (s .min) (s .max) (binsOf s) (s .clip) (greysOf pic w (tileOf w h s k))
-    ∙ ap (λ n. countsMapping (s .min) (s .max) (s .clip) n (countsOf (s .min) (s .max) (binsOf s) (greysOf pic w (tileOf w h s k)))) (length-tile-greys w h pic s k))
+    tile-mapping-from (s .min) (s .max) (binsOf s) (s .edition) (s .clip) (greysOf pic w (tileOf w h s k))
+    ∙ ap (λ n. countsMapping (s .min) (s .max) (s .edition) (s .clip) n (countsOf (s .min) (s .max) (binsOf s) (greysOf pic w (tileOf w h s k)))) (length-tile-greys w h pic s k))
 
 -- and go by where the tiles lie
 pub mappings-by : (w h : ℕ) (pic : List ℕ) (s : Settings) {rect : ℕ → Rect} → ((k : ℕ) → tileOf w h s k ≡ rect k)
-    → mappings w h pic s ≡ joined (s .across * s .down) (λ k. tileMapping (s .min) (s .max) (binsOf s) (s .clip) (greysOf pic w (rect k)))
+    → mappings w h pic s ≡ joined (s .across * s .down) (λ k. tileMapping (s .min) (s .max) (binsOf s) (s .edition) (s .clip) (greysOf pic w (rect k)))
 unfolding mappings tileMap
-mappings-by w h pic s same = joined-cong (s .across * s .down) (λ k l. ap (λ r. tileMapping (s .min) (s .max) (binsOf s) (s .clip) (greysOf pic w r)) (same k))
+mappings-by w h pic s same = joined-cong (s .across * s .down) (λ k l. ap (λ r. tileMapping (s .min) (s .max) (binsOf s) (s .edition) (s .clip) (greysOf pic w r)) (same k))
 
 -- "(grid across) x (grid down) x B entries"
 pub length-mappings : (w h : ℕ) (pic : List ℕ) (s : Settings) → length (mappings w h pic s) ≡ entriesOf s
@@ -89,22 +89,21 @@ pub getD-mappings : (w h : ℕ) (pic : List ℕ) (s : Settings) (k b : ℕ) → 
 unfolding mappings
 getD-mappings w h pic s k b l m = getD-joined (binsOf s) (s .across * s .down) (tileMap w h pic s) (λ j q. length-tile-map w h pic s j) k b 0 l m
 
--- the entry of tile k and bin b is the mapped value of that tile's own clipped counts
+-- the entry of tile k and bin b is the mapped value of that tile's own clipped counts, over what they divide by
 pub mappings-own : (w h : ℕ) (pic : List ℕ) (s : Settings) (k b : ℕ) → k < s .across * s .down → b < binsOf s
     → getD (mappings w h pic s) (k * binsOf s + b) 0
-    ≡ mappedOf (s .min) (s .max) (pixelsIn w h s k) (tileCounts (s .min) (s .max) (binsOf s) (s .clip) (greysOf pic w (tileOf w h s k))) b
+    ≡ mappedOf (s .min) (s .max) (tileDivides (s .min) (s .max) (binsOf s) (s .edition) (s .clip) (greysOf pic w (tileOf w h s k))) (tileCounts (s .min) (s .max) (binsOf s) (s .edition) (s .clip) (greysOf pic w (tileOf w h s k))) b
 unfolding tileMap
 mappings-own w h pic s k b l q =
     getD-mappings w h pic s k b l q
-    ∙ getD-tile-mapping (s .min) (s .max) (binsOf s) (s .clip) (greysOf pic w (tileOf w h s k)) b q
-    ∙ ap (λ n. mappedOf (s .min) (s .max) n (tileCounts (s .min) (s .max) (binsOf s) (s .clip) (greysOf pic w (tileOf w h s k))) b) (length-tile-greys w h pic s k)
+    ∙ getD-tile-mapping (s .min) (s .max) (binsOf s) (s .edition) (s .clip) (greysOf pic w (tileOf w h s k)) b q
 
 module _ {w h : ℕ} {pic : List ℕ} {s : Settings} {room scratch : ℕ} (asks : TilesAsk w h pic s room scratch) where
   -- a tile's mapped values lie in Min to Max
   pub tile-map-within : {k : ℕ} → k < s .across * s .down → all (within (s .min) (s .max)) (tileMap w h pic s k) ≡ true
   unfolding tileMap
   tile-map-within {k} l =
-      tile-mapping-within (s .min) (s .max) (binsOf s) (s .clip) (greysOf pic w (tileOf w h s k)) (tile-greys asks l)
+      tile-mapping-within (s .min) (s .max) (binsOf s) (s .edition) (s .clip) (greysOf pic w (tileOf w h s k)) (tile-greys asks l)
       (omega (arith, asks .work .ready .tiled .bins))
       (omega (arith, asks .work .ready .tiled .min))
       (subst (λ n. Holds (s .clip) n (binsOf s)) (sym (length-tile-greys w h pic s k)) (tile-holds asks k))
@@ -150,19 +149,19 @@ tile-asks m {w} {h} {pic} {s} {k} {scratch} asks {r} {b} p q =
 -- what it leaves
 pub tile-done : {w h : ℕ} {pic : List ℕ} {s : Settings} {k : ℕ} {m t : List ℕ} → TileAsks w h pic s k (length m) (length t)
     → {r : Rect} {b : ℕ} {ys u : List ℕ} {took : Spent} → r ≡ tileOf w h s k → b ≡ binsOf s
-    → TileMapped (s .min) (s .max) b (s .clip) (greysOf pic w r) t u (take (k * b + b - k * b) (drop (k * b) m)) ys took
+    → TileMapped (s .min) (s .max) b (s .edition) (s .clip) (greysOf pic w r) t u (take (k * b + b - k * b) (drop (k * b) m)) ys took
     → TileDone w h pic s k m (putMid (k * b) (k * b + b - k * b) m ys) t u took
 unfolding tileMap spentIn
 tile-done {w} {h} {pic} {s} {k} {m} {t} asks {r} {b} {ys} {u} p q done =
     record {
       placed = record {
-        map = over-part m (tileMapping (s .min) (s .max) b (s .clip) (greysOf pic w r)) (k * b) b (tile-room asks q) (length-tile-mapping _ _ b (s .clip) _) (done .mapping)
+        map = over-part m (tileMapping (s .min) (s .max) b (s .edition) (s .clip) (greysOf pic w r)) (k * b) b (tile-room asks q) (length-tile-mapping _ _ b (s .edition) (s .clip) _) (done .mapping)
             ∙ rw (p, q) refl;
-        behind = ap (drop (binsOf s)) (done .counts) ∙ drop-onto t (tileCounts (s .min) (s .max) b (s .clip) (greysOf pic w r)) (binsOf s) counts;
-        size = ap length (done .counts) ∙ length-onto t (tileCounts (s .min) (s .max) b (s .clip) (greysOf pic w r)) (omega (arith, counts, asks .film .work .bins));
+        behind = ap (drop (binsOf s)) (done .counts) ∙ drop-onto t (tileCounts (s .min) (s .max) b (s .edition) (s .clip) (greysOf pic w r)) (binsOf s) counts;
+        size = ap length (done .counts) ∙ length-onto t (tileCounts (s .min) (s .max) b (s .edition) (s .clip) (greysOf pic w r)) (omega (arith, counts, asks .film .work .bins));
       };
       spent = done .spent ∙ rw (p, q) refl;
     }
   where
-    counts : length (tileCounts (s .min) (s .max) b (s .clip) (greysOf pic w r)) ≡ binsOf s
-    counts = length-tile-counts (s .min) (s .max) b (s .clip) (greysOf pic w r) ∙ q
+    counts : length (tileCounts (s .min) (s .max) b (s .edition) (s .clip) (greysOf pic w r)) ≡ binsOf s
+    counts = length-tile-counts (s .min) (s .max) b (s .edition) (s .clip) (greysOf pic w r) ∙ q

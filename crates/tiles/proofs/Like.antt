@@ -15,13 +15,13 @@ use Rattle.tiles.specs.Tiles.{tileOf, pixelsIn, tileMap, mappings, spent
 pub mappings-kept : (w h : ℕ) (pic : List ℕ) (s : Settings) → mappings w h pic (keptOf s) ≡ mappings w h pic s
 unfolding mappings tileMap
 mappings-kept w h pic s =
-    ap (λ b. joined (s .across * s .down) (λ k. tileMapping (s .min) (s .max) b (s .clip) (greysOf pic w (tileOf w h s k)))) (bins-kept s)
+    ap (λ b. joined (s .across * s .down) (λ k. tileMapping (s .min) (s .max) b (s .edition) (s .clip) (greysOf pic w (tileOf w h s k)))) (bins-kept s)
 
 -- what clipping the tiles takes
 pub spents-kept : (w h : ℕ) (pic : List ℕ) (s : Settings) → spents w h pic (keptOf s) ≡ spents w h pic s
 unfolding spents spentIn
 spents-kept w h pic s =
-    ap (λ b. joined (s .across * s .down) (λ k. spentPair (tileSpent (s .min) (s .max) b (s .clip) (greysOf pic w (tileOf w h s k))))) (bins-kept s)
+    ap (λ b. joined (s .across * s .down) (λ k. spentPair (tileSpent (s .min) (s .max) b (s .edition) (s .clip) (greysOf pic w (tileOf w h s k))))) (bins-kept s)
 
 -- the footer
 pub foot-kept : (w h : ℕ) (s : Settings) → footOf w h (keptOf s) ≡ footOf w h s

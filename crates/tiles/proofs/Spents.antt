@@ -22,11 +22,11 @@ use Rattle.tiles.proofs.Tiles.{length-tile-greys}
 
 -- what clipping tile k took goes by its raw counts and its pixels
 pub spent-in-from : (w h : ℕ) (pic : List ℕ) (s : Settings) (k : ℕ)
-    → spentIn w h pic s k ≡ spentBy (s .clip) (pixelsIn w h s k) (countsOf (s .min) (s .max) (binsOf s) (greysOf pic w (tileOf w h s k)))
+    → spentIn w h pic s k ≡ spentBy (s .edition) (s .clip) (pixelsIn w h s k) (countsOf (s .min) (s .max) (binsOf s) (greysOf pic w (tileOf w h s k)))
 unfolding spentIn
 spent-in-from w h pic s k =
-    tile-spent (s .min) (s .max) (binsOf s) (s .clip) (greysOf pic w (tileOf w h s k))
-    ∙ ap (λ n. spentBy (s .clip) n (countsOf (s .min) (s .max) (binsOf s) (greysOf pic w (tileOf w h s k)))) (length-tile-greys w h pic s k)
+    tile-spent (s .min) (s .max) (binsOf s) (s .edition) (s .clip) (greysOf pic w (tileOf w h s k))
+    ∙ ap (λ n. spentBy (s .edition) (s .clip) n (countsOf (s .min) (s .max) (binsOf s) (greysOf pic w (tileOf w h s k)))) (length-tile-greys w h pic s k)
 
 -- ---- pairs, laid down in the front of a list
 
@@ -67,7 +67,7 @@ module _ (c : ℕ) (f : ℕ → Spent) where
 module _ (w h : ℕ) (pic : List ℕ) (s : Settings) where
   -- each tile's entries go by its raw counts
   pub spents-from : spents w h pic s
-      ≡ joined (s .across * s .down) (λ k. spentPair (spentBy (s .clip) (pixelsIn w h s k) (countsOf (s .min) (s .max) (binsOf s) (greysOf pic w (tileOf w h s k)))))
+      ≡ joined (s .across * s .down) (λ k. spentPair (spentBy (s .edition) (s .clip) (pixelsIn w h s k) (countsOf (s .min) (s .max) (binsOf s) (greysOf pic w (tileOf w h s k)))))
   unfolding spents
   spents-from = joined-cong (s .across * s .down) (λ k l. ap spentPair (spent-in-from w h pic s k))
 

@@ -46,7 +46,7 @@ pixelsIn w h s k = tilePixels w h (s .across) (s .down) k
 
 -- the mapping of tile k, from that tile's own pixels
 unfoldable pub tileMap : ℕ → ℕ → List ℕ → Settings → ℕ → List ℕ
-tileMap w h pic s k = tileMapping (s .min) (s .max) (binsOf s) (s .clip) (greysOf pic w (tileOf w h s k))
+tileMap w h pic s k = tileMapping (s .min) (s .max) (binsOf s) (s .edition) (s .clip) (greysOf pic w (tileOf w h s k))
 
 -- "the mappings, tiles row by row, bins upward"
 unfoldable pub mappings : ℕ → ℕ → List ℕ → Settings → List ℕ
@@ -56,7 +56,7 @@ mappings w h pic s = joined (s .across * s .down) (tileMap w h pic s)
 
 -- "E, and the number of looks" of tile k, from that tile's own pixels
 unfoldable pub spentIn : ℕ → ℕ → List ℕ → Settings → ℕ → Spent
-spentIn w h pic s k = tileSpent (s .min) (s .max) (binsOf s) (s .clip) (greysOf pic w (tileOf w h s k))
+spentIn w h pic s k = tileSpent (s .min) (s .max) (binsOf s) (s .edition) (s .clip) (greysOf pic w (tileOf w h s k))
 
 -- the "two entries" of a tile
 abbrev pub spentPair : Spent → List ℕ

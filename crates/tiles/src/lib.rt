@@ -105,6 +105,7 @@ fn map_tile(
 {
     let rect = tile_rect(width, height, s.across, s.down, k);
     let clip = s.clip;
+    let edition = s.edition;
     let bins = settings::bins(s);
     let each = bins as usize;
     let a = k * each;
@@ -119,6 +120,7 @@ fn map_tile(
         clip,
         scratch,
         &mut map[a..e],
+        edition,
     )
 }
 

@@ -32,13 +32,13 @@ from-counts-requires : tie.Need-from-counts-requires
 from-counts-requires c κs = byte-asks (c .before .before .before .before .before .before .before .before .before .before .pre) _ (c .before .before .before .before .count .ensures) _ refl
 
 array-share-prefix-line : tie.Need-array-share-prefix-line
-array-share-prefix-line c = mapping-front (c .before .before .before .before .before .before .before .before .before .before .before .before .before .before .pre) _ (c .before .before .before .before .before .before .before .before .count .ensures) _ refl (c .before .before .before .from-counts .ensures .mapping)
+array-share-prefix-line c = mapping-front (c .before .before .before .before .before .before .before .before .before .before .before .before .before .before .pre) _ (c .before .before .before .before .before .before .before .before .count .ensures) _ refl _ (c .before .before .before .from-counts .ensures .mapping)
 
 slice-aggregate-narrow : tie.Need-slice-aggregate-narrow
-slice-aggregate-narrow c = mapping-part (c .before .before .before .before .before .before .before .before .before .before .before .before .before .before .before .pre) _ (c .before .before .before .before .before .before .before .before .before .count .ensures) _ refl (c .before .before .before .before .from-counts .ensures .mapping)
+slice-aggregate-narrow c = mapping-part (c .before .before .before .before .before .before .before .before .before .before .before .before .before .before .before .pre) _ (c .before .before .before .before .before .before .before .before .before .count .ensures) _ refl _ (c .before .before .before .before .from-counts .ensures .mapping)
 
 narrow-requires : tie.Need-narrow-requires
-narrow-requires c κs = mapping-narrow (c .before .before .before .before .before .before .before .before .before .before .before .before .before .before .before .before .pre) _ (c .before .before .before .before .before .before .before .before .before .before .count .ensures) _ refl (c .before .before .before .before .before .from-counts .ensures .mapping)
+narrow-requires c κs = mapping-narrow (c .before .before .before .before .before .before .before .before .before .before .before .before .before .before .before .before .pre) _ (c .before .before .before .before .before .before .before .before .before .before .count .ensures) _ refl _ (c .before .before .before .before .before .from-counts .ensures .mapping)
 
 same-length : tie.Need-same-length
 same-length c = search needs
@@ -47,7 +47,7 @@ same-length-2 : tie.Need-same-length-2
 same-length-2 c = search needs
 
 returns : tie.Need-returns
-returns c = mapping-end (c .before .before .before .before .before .before .before .before .before .before .before .before .before .before .before .before .before .before .before .pre) _ (c .before .before .before .before .before .before .before .before .before .before .before .before .before .count .ensures) _ refl (c .before .before .before .before .before .before .before .before .from-counts .ensures .mapping) _ (c .before .before .before .before .before .before .before .before .from-counts .ensures .counts) (c .before .before .narrow .ensures) (c .before .before .before .before .before .before .before .before .from-counts .ensures .spent)
+returns c = mapping-end (c .before .before .before .before .before .before .before .before .before .before .before .before .before .before .before .before .before .before .before .pre) _ (c .before .before .before .before .before .before .before .before .before .before .before .before .before .count .ensures) _ refl _ (c .before .before .before .before .before .before .before .before .from-counts .ensures .mapping) _ (c .before .before .before .before .before .before .before .before .from-counts .ensures .counts) (c .before .before .narrow .ensures) (c .before .before .before .before .before .before .before .before .from-counts .ensures .spent)
 
 pub mapping-spec : {M : Type 1} → statement M
 mapping-spec =

@@ -1,4 +1,4 @@
--- `flat::record_from` meets its contract: nine numbers, a factor and two axes are read as the record.
+-- `flat::record_from` meets its contract: ten numbers, a factor and two axes are read as the record.
 -- Assumes nothing.
 use mathlib.Core.Path.{refl}
 use borrow.Author.Needs.{needs}
@@ -26,17 +26,20 @@ element-copy-out-settings-from-5 c = search needs
 element-copy-out-settings-from-6 : tie.Need-element-copy-out-settings-from-6
 element-copy-out-settings-from-6 c = search needs
 
+element-copy-out-settings-from-7 : tie.Need-element-copy-out-settings-from-7
+element-copy-out-settings-from-7 c = search needs
+
 settings-from-requires : tie.Need-settings-from-requires
 settings-from-requires c κs = search needs
 
 element-copy-out-t8 : tie.Need-element-copy-out-t8
 element-copy-out-t8 c = search needs
 
+element-copy-out-t26 : tie.Need-element-copy-out-t26
+element-copy-out-t26 c = search needs
+
 element-copy-out-t23 : tie.Need-element-copy-out-t23
 element-copy-out-t23 c = search needs
-
-element-copy-out-t20 : tie.Need-element-copy-out-t20
-element-copy-out-t20 c = search needs
 
 returns : tie.Need-returns
 returns c = rw (c .before .before .before .settings-from .ensures) refl
@@ -51,8 +54,9 @@ record-from-spec =
     element-copy-out-settings-from-4
     element-copy-out-settings-from-5
     element-copy-out-settings-from-6
+    element-copy-out-settings-from-7
     settings-from-requires
     element-copy-out-t8
+    element-copy-out-t26
     element-copy-out-t23
-    element-copy-out-t20
     returns)

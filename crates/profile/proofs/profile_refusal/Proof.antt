@@ -57,16 +57,33 @@ returns-5 c =
       ne-eqb _ _ (c .if5 .taken),
     ) refl
 
+same-edition-requires : tie.Need-same-edition-requires
+same-edition-requires c κs = search needs
+
 returns-6 : tie.Need-returns-6
 unfolding first profileRows
 returns-6 c =
     rw (
-      eq-eqb _ _ (c .before .before .before .before .before .before .before .before .before .if1 .left),
-      eq-eqb _ _ (c .before .before .before .before .before .before .before .if2 .left),
-      sym (c .before .before .before .before .before .bins-in .ensures ∙ ap binsIn (c .before .before .before .before .before .before .bins .ensures))
-          ∙ not-false _ (c .before .before .before .before .if3 .left),
-      eq-eqb _ _ (c .before .before .if4 .left),
-      eq-eqb _ _ (c .if5 .left),
+      eq-eqb _ _ (c .before .before .before .before .before .before .before .before .before .before .before .if1 .left),
+      eq-eqb _ _ (c .before .before .before .before .before .before .before .before .before .if2 .left),
+      sym (c .before .before .before .before .before .before .before .bins-in .ensures ∙ ap binsIn (c .before .before .before .before .before .before .before .before .bins .ensures))
+          ∙ not-false _ (c .before .before .before .before .before .before .if3 .left),
+      eq-eqb _ _ (c .before .before .before .before .if4 .left),
+      eq-eqb _ _ (c .before .before .if5 .left),
+      sym (c .before .same-edition .ensures) ∙ not-true _ (c .if6 .taken),
+    ) refl
+
+returns-7 : tie.Need-returns-7
+unfolding first profileRows
+returns-7 c =
+    rw (
+      eq-eqb _ _ (c .before .before .before .before .before .before .before .before .before .before .before .if1 .left),
+      eq-eqb _ _ (c .before .before .before .before .before .before .before .before .before .if2 .left),
+      sym (c .before .before .before .before .before .before .before .bins-in .ensures ∙ ap binsIn (c .before .before .before .before .before .before .before .before .bins .ensures))
+          ∙ not-false _ (c .before .before .before .before .before .before .if3 .left),
+      eq-eqb _ _ (c .before .before .before .before .if4 .left),
+      eq-eqb _ _ (c .before .before .if5 .left),
+      sym (c .before .same-edition .ensures) ∙ not-false _ (c .if6 .left),
     ) refl
 
 pub profile-refusal-spec : {M : Type 1} → statement M
@@ -80,4 +97,6 @@ profile-refusal-spec =
     returns-3
     returns-4
     returns-5
-    returns-6)
+    same-edition-requires
+    returns-6
+    returns-7)

@@ -1,7 +1,7 @@
--- `clip_by` leaves the counts as the clip setting has them, and answers what that took.
+-- `clip_by` leaves the counts as the clip setting has them, and answers what their mapping divides by and what that took.
 -- Assumes nothing.
 use borrow.Author.Needs.{needs}
-use Rattle.tile.proofs.Tiles.{limit-asks, clip-asks, clipped-off, clipped-factor, spent-off, spent-factor}
+use Rattle.tile.proofs.Tiles.{limit-asks, in-asks, by-off, by-factor}
 use Rattle.tile.proofs.clip_by.Statement.{statement}
 use Rattle.tile.proofs.clip_by.Tie as tie
 
@@ -17,20 +17,17 @@ cast-limit c = search needs
 limit-requires : tie.Need-limit-requires
 limit-requires c κs = limit-asks (c .before .before .before .before .pre) (c .before .clip .given .1)
 
-clip-requires : tie.Need-clip-requires
-clip-requires c κs = clip-asks (c .before .before .before .before .before .before .pre) (c .before .before .before .clip .given .1) (c .before .limit .ensures)
+clip-in-requires : tie.Need-clip-in-requires
+clip-in-requires c κs = in-asks (c .before .before .before .before .before .before .pre) (c .before .before .before .clip .given .1) (c .before .limit .ensures)
 
 returns : tie.Need-returns
-returns c = (clipped-off _ _ (c .enum-told .given .1), spent-off _ _ (c .enum-told .given .1))
+returns c = by-off _ _ _ (c .enum-told .given .1)
 
 same-length : tie.Need-same-length
 same-length c = search needs
 
 returns-2 : tie.Need-returns-2
-returns-2 c = (
-  clipped-factor _ _ (c .before .before .before .before .before .before .clip .given .1) (c .before .before .before .before .limit .ensures) (c .before .before .clip2 .ensures .0),
-  spent-factor _ _ (c .before .before .before .before .before .before .clip .given .1) (c .before .before .before .before .limit .ensures) (c .before .before .clip2 .ensures .1),
-)
+returns-2 c = by-factor _ _ _ (c .before .before .before .before .before .before .clip .given .1) (c .before .before .before .before .limit .ensures) (c .before .before .clip-in .ensures)
 
 pub clip-by-spec : {M : Type 1} → statement M
 clip-by-spec =
@@ -40,7 +37,7 @@ clip-by-spec =
     enum-known-clip
     cast-limit
     limit-requires
-    clip-requires
+    clip-in-requires
     returns
     same-length
     returns-2)

@@ -9,7 +9,7 @@ clip-by-requires : tie.Need-clip-by-requires
 clip-by-requires c κs = search needs
 
 map-requires : tie.Need-map-requires
-map-requires c κs = from-map-asks (c .before .before .before .before .before .before .before .before .pre) (c .before .before .before .before .clip-by .ensures .0)
+map-requires c κs = from-map-asks _ (c .before .before .before .before .before .before .before .before .pre) (c .before .before .before .before .clip-by .ensures .counts, c .before .before .before .before .clip-by .ensures .over)
 
 same-length : tie.Need-same-length
 same-length c = search needs
@@ -19,11 +19,11 @@ same-length-2 c = search needs
 
 returns : tie.Need-returns
 returns c =
-    let clipped = c .before .before .before .before .before .before .before .clip-by .ensures in
+    let clipped = c .before .before .before .before .before .before .before .before .clip-by .ensures in
     record {
-      counts = clipped .0;
-      mapping = from-mapped (c .before .before .before .before .before .before .before .before .before .before .before .pre) (clipped .0) _ (c .before .before .map .ensures);
-      spent = clipped .1;
+      counts = clipped .counts;
+      mapping = from-mapped _ (c .before .before .before .before .before .before .before .before .before .before .before .before .pre) (clipped .counts, clipped .over) _ (c .before .before .before .map .ensures);
+      spent = clipped .spent;
     }
 
 pub from-counts-spec : {M : Type 1} → statement M

@@ -55,7 +55,7 @@ fits : (c : tie.After-shared-slice-known Inv-loop μ-loop) → c .before .before
 fits c = omega (arith, sums c, total-take-le (c .before .before .loop .k + 1) (c .before .before .before .args .counts .now), c .before .before .before .pre .sum)
 
 -- S times the factor that stands for R over N fits 64 bits
-product : (c : tie.After-shared-slice-known Inv-loop μ-loop) → (c .before .before .loop .sum + getD (c .before .before .before .args .counts .now) (c .before .before .loop .k) 0) * ratio 35184372088832 (c .before .before .before .args .max - c .before .before .before .args .min) (c .before .before .before .args .pixels) ≤ 144080003707961344
+product : (c : tie.After-shared-slice-known Inv-loop μ-loop) → (c .before .before .loop .sum + getD (c .before .before .before .args .counts .now) (c .before .before .loop .k) 0) * ratio 35184372088832 (c .before .before .before .args .max - c .before .before .before .args .min) (c .before .before .before .args .pixels) ≤ 144080003707965440
 product c = scale-room _ _ _ (fits c) (c .before .before .before .pre .few) (omega (arith, c .before .before .before .pre .most))
 
 -- and gives S x R over N

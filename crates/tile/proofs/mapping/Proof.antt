@@ -30,7 +30,7 @@ same-length-2 : tie.Need-same-length-2
 same-length-2 c = search needs
 
 returns : tie.Need-returns
-returns c = tile-mapped (c .before .before .before .before .before .before .before .before .before .before .before .before .before .before .before .pre) _ (c .before .before .before .before .before .before .before .before .before .count .ensures) _ (c .before .before .before .before .from-counts .ensures .counts) (c .before .before .before .before .from-counts .ensures .mapping) (c .before .before .before .before .from-counts .ensures .spent)
+returns c = tile-mapped (c .before .before .before .before .before .before .before .before .before .before .before .before .before .before .before .pre) _ (c .before .before .before .before .before .before .before .before .before .count .ensures) _ _ (c .before .before .before .before .from-counts .ensures .counts) (c .before .before .before .before .from-counts .ensures .mapping) (c .before .before .before .before .from-counts .ensures .spent)
 
 pub mapping-spec : {M : Type 1} → statement M
 mapping-spec =

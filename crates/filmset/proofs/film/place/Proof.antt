@@ -1,7 +1,7 @@
 -- `filmset::film::place` meets its contract: the first three fields stand before the picture's columns. Assumes nothing.
 use borrow.Author.Needs.{needs}
 use mathlib.Core.Path.{refl}
-use borrow.Author.Tests.{lt-ltb, le-ltb}
+use borrow.Author.Tests.{lt-ltb, le-ltb, eq-eqb, ne-eqb}
 use Rattle.filmset.specs.Filmset.{placeOf}
 use Rattle.filmset.proofs.film.place.Statement.{statement}
 use Rattle.filmset.proofs.film.place.Tie as tie
@@ -13,12 +13,16 @@ returns : tie.Need-returns
 unfolding placeOf
 returns c = rw (lt-ltb _ _ (c .if1 .taken)) refl
 
+returns-2 : tie.Need-returns-2
+unfolding placeOf
+returns-2 c = rw (le-ltb _ _ (c .before .if1 .left), eq-eqb _ _ (c .if2 .taken)) refl
+
 add-result-2 : tie.Need-add-result-2
 add-result-2 c = search needs
 
-returns-2 : tie.Need-returns-2
+returns-3 : tie.Need-returns-3
 unfolding placeOf
-returns-2 c = rw (le-ltb _ _ (c .if1 .left)) refl
+returns-3 c = rw (le-ltb _ _ (c .before .if1 .left), ne-eqb _ _ (c .if2 .left)) refl
 
 pub place-spec : {M : Type 1} → statement M
-place-spec = tie.close (tie.spec add-result returns add-result-2 returns-2)
+place-spec = tie.close (tie.spec add-result returns returns-2 add-result-2 returns-3)

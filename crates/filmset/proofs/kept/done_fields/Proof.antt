@@ -14,8 +14,8 @@ factor-field-requires c κs = search needs
 used-field-requires : tie.Need-used-field-requires
 used-field-requires c κs = search needs
 
-ten-fields-requires : tie.Need-ten-fields-requires
-ten-fields-requires c κs = search needs
+eleven-fields-requires : tie.Need-eleven-fields-requires
+eleven-fields-requires c κs = search needs
 
 fields-requires : tie.Need-fields-requires
 fields-requires c κs = search needs
@@ -35,7 +35,7 @@ done-fields-spec =
     word-requires
     factor-field-requires
     used-field-requires
-    ten-fields-requires
+    eleven-fields-requires
     fields-requires
     returns
     returns-2)

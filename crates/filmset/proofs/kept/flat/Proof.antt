@@ -1,4 +1,4 @@
--- `filmset::kept::flat` meets its contract: the ten numbers of a map record. Assumes nothing.
+-- `filmset::kept::flat` meets its contract: the eleven numbers of a map record. Assumes nothing.
 use borrow.Author.Needs.{needs}
 use Rattle.filmset.specs.Filmset.{flatOf}
 use Rattle.filmset.proofs.kept.flat.Statement.{statement}
@@ -10,9 +10,12 @@ clip-number-requires c κs = search needs
 clip-factor-requires : tie.Need-clip-factor-requires
 clip-factor-requires c κs = search needs
 
+edition-number-requires : tie.Need-edition-number-requires
+edition-number-requires c κs = search needs
+
 returns : tie.Need-returns
 unfolding flatOf
 returns c = cc
 
 pub flat-spec : {M : Type 1} → statement M
-flat-spec = tie.close (tie.spec clip-number-requires clip-factor-requires returns)
+flat-spec = tie.close (tie.spec clip-number-requires clip-factor-requires edition-number-requires returns)

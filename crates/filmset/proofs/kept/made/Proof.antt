@@ -1,6 +1,6 @@
 -- `filmset::kept::made` meets its contract: the made record has the numbers of its columns. Assumes nothing.
 use borrow.Author.Needs.{needs}
-use Rattle.filmset.specs.Filmset.{tenOf}
+use Rattle.filmset.specs.Filmset.{elevenOf}
 use Rattle.filmset.proofs.kept.made.Statement.{statement}
 use Rattle.filmset.proofs.kept.made.Tie as tie
 
@@ -37,8 +37,11 @@ word-requires-10 c κs = search needs
 factor-of-requires : tie.Need-factor-of-requires
 factor-of-requires c κs = search needs
 
+word-requires-11 : tie.Need-word-requires-11
+word-requires-11 c κs = search needs
+
 returns : tie.Need-returns
-unfolding tenOf
+unfolding elevenOf
 returns c = cc
 
 pub made-spec : {M : Type 1} → statement M
@@ -56,4 +59,5 @@ made-spec =
     word-requires-9
     word-requires-10
     factor-of-requires
+    word-requires-11
     returns)

@@ -1,4 +1,4 @@
--- `filmset::kept::nth` meets its contract: behind the ninth number is 0. Assumes nothing.
+-- `filmset::kept::nth` meets its contract: behind the tenth number is 0. Assumes nothing.
 use borrow.Author.Needs.{needs}
 use mathlib.Core.Path.{_≡_, sym}
 use native.Mathlib.Omega.{arith}
@@ -16,7 +16,7 @@ returns : tie.Need-returns
 returns c = search needs
 
 returns-2 : tie.Need-returns-2
-returns-2 c = let h : length (c .before .args .t1) ≡ 9 = c .before .good .0 .1 .0 .1 in sym (List·getD-eq-default (c .before .args .t1) 0 (omega arith))
+returns-2 c = let h : length (c .before .args .t1) ≡ 10 = c .before .good .0 .1 .0 .1 in sym (List·getD-eq-default (c .before .args .t1) 0 (omega arith))
 
 pub nth-spec : {M : Type 1} → statement M
 nth-spec = tie.close (tie.spec mul-result array-read-result returns returns-2)

@@ -3,8 +3,8 @@ use borrow.Author.Needs.{needs}
 use Rattle.filmset.proofs.kept.of_c.Statement.{statement}
 use Rattle.filmset.proofs.kept.of_c.Tie as tie
 
-ten-of-requires : tie.Need-ten-of-requires
-ten-of-requires c κs = search needs
+eleven-of-requires : tie.Need-eleven-of-requires
+eleven-of-requires c κs = search needs
 
 line-requires : tie.Need-line-requires
 line-requires c κs = search needs
@@ -16,4 +16,4 @@ returns : tie.Need-returns
 returns c = cc
 
 pub of-c-spec : {M : Type 1} → statement M
-of-c-spec = tie.close (tie.spec ten-of-requires line-requires print-requires returns)
+of-c-spec = tie.close (tie.spec eleven-of-requires line-requires print-requires returns)

@@ -1,4 +1,4 @@
--- `filmset::kept::record` meets its contract: the map record of the ten, with the axes. Assumes nothing.
+-- `filmset::kept::record` meets its contract: the map record of the eleven, with the axes. Assumes nothing.
 use mathlib.Core.Path.{refl}
 use Rattle.filmset.specs.Filmset.{recordOf}
 use borrow.Author.Needs.{needs}

@@ -1,4 +1,4 @@
--- `filmset::kept::settings` meets its contract: the settings among the ten. Assumes nothing.
+-- `filmset::kept::settings` meets its contract: the settings among the eleven. Assumes nothing.
 use borrow.Author.Needs.{needs}
 use mathlib.Core.Path.{refl}
 use Rattle.filmset.specs.Filmset.{settingsOf}
@@ -8,9 +8,12 @@ use Rattle.filmset.proofs.kept.settings.Tie as tie
 clip-of-requires : tie.Need-clip-of-requires
 clip-of-requires c κs = search needs
 
+edition-of-requires : tie.Need-edition-of-requires
+edition-of-requires c κs = search needs
+
 returns : tie.Need-returns
 unfolding settingsOf
-returns c = rw (c .clip-of .ensures) refl
+returns c = cc
 
 pub settings-spec : {M : Type 1} → statement M
-settings-spec = tie.close (tie.spec clip-of-requires returns)
+settings-spec = tie.close (tie.spec clip-of-requires edition-of-requires returns)

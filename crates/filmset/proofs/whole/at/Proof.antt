@@ -16,7 +16,7 @@ returns : tie.Need-returns
 returns c = search needs
 
 returns-2 : tie.Need-returns-2
-returns-2 c = let h : length (c .before .args .t1) ≡ 36 = c .before .good .0 .1 .0 .1 in sym (List·getD-eq-default (c .before .args .t1) 0 (omega arith))
+returns-2 c = let h : length (c .before .args .t1) ≡ 49 = c .before .good .0 .1 .0 .1 in sym (List·getD-eq-default (c .before .args .t1) 0 (omega arith))
 
 pub at-spec : {M : Type 1} → statement M
 at-spec = tie.close (tie.spec mul-result array-read-result returns returns-2)

@@ -18,7 +18,7 @@ returns c = search needs
 
 returns-2 : tie.Need-returns-2
 returns-2 c =
-    let h : length (c .before .args .row) ≡ 36 = c .before .good .0 .1 .0 .1 in
+    let h : length (c .before .args .row) ≡ 49 = c .before .good .0 .1 .0 .1 in
     sym (set-out (c .before .args .row) (c .before .args .column) (c .before .args .n) (omega arith))
 
 pub with-spec : {M : Type 1} → statement M

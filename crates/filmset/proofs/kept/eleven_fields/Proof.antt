@@ -1,8 +1,8 @@
--- `filmset::kept::ten_fields` meets its contract: nine numbers and the factor. Assumes nothing.
+-- `filmset::kept::eleven_fields` meets its contract: nine numbers, the factor and the edition. Assumes nothing.
 use borrow.Author.Needs.{needs}
-use Rattle.filmset.specs.Filmset.{tenFields}
-use Rattle.filmset.proofs.kept.ten_fields.Statement.{statement}
-use Rattle.filmset.proofs.kept.ten_fields.Tie as tie
+use Rattle.filmset.specs.Filmset.{elevenFields}
+use Rattle.filmset.proofs.kept.eleven_fields.Statement.{statement}
+use Rattle.filmset.proofs.kept.eleven_fields.Tie as tie
 
 nine-requires : tie.Need-nine-requires
 nine-requires c κs = search needs
@@ -16,16 +16,20 @@ word-fields-requires c κs = search needs
 factor-field-requires : tie.Need-factor-field-requires
 factor-field-requires c κs = search needs
 
+word-requires : tie.Need-word-requires
+word-requires c κs = search needs
+
 returns : tie.Need-returns
-unfolding tenFields
+unfolding elevenFields
 returns c = cc
 
-pub ten-fields-spec : {M : Type 1} → statement M
-ten-fields-spec =
+pub eleven-fields-spec : {M : Type 1} → statement M
+eleven-fields-spec =
     tie.close
     (tie.spec
     nine-requires
     slice-aggregate-word-fields
     word-fields-requires
     factor-field-requires
+    word-requires
     returns)

@@ -1,8 +1,8 @@
--- `filmset::kept::ten_of` meets its contract: the nine numbers in their order, and the factor. Assumes nothing.
+-- `filmset::kept::eleven_of` meets its contract: the ten numbers in their order, and the factor. Assumes nothing.
 use borrow.Author.Needs.{needs}
-use Rattle.filmset.specs.Filmset.{tenFrom}
-use Rattle.filmset.proofs.kept.ten_of.Statement.{statement}
-use Rattle.filmset.proofs.kept.ten_of.Tie as tie
+use Rattle.filmset.specs.Filmset.{elevenFrom}
+use Rattle.filmset.proofs.kept.eleven_of.Statement.{statement}
+use Rattle.filmset.proofs.kept.eleven_of.Tie as tie
 
 nth-requires : tie.Need-nth-requires
 nth-requires c κs = search needs
@@ -31,12 +31,15 @@ nth-requires-8 c κs = search needs
 nth-requires-9 : tie.Need-nth-requires-9
 nth-requires-9 c κs = search needs
 
+nth-requires-10 : tie.Need-nth-requires-10
+nth-requires-10 c κs = search needs
+
 returns : tie.Need-returns
-unfolding tenFrom
+unfolding elevenFrom
 returns c = cc
 
-pub ten-of-spec : {M : Type 1} → statement M
-ten-of-spec =
+pub eleven-of-spec : {M : Type 1} → statement M
+eleven-of-spec =
     tie.close
     (tie.spec
     nth-requires
@@ -48,4 +51,5 @@ ten-of-spec =
     nth-requires-7
     nth-requires-8
     nth-requires-9
+    nth-requires-10
     returns)
