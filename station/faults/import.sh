@@ -27,11 +27,12 @@ clear() { rm -rf imported; mkdir imported; }
 
 # ---- films that come out as they are
 kept='kept.pgm deep.pgm left.pgm text.pgm any.pam plain.tif high.tif deflate.tif tiles.tif large.tif twelve.tif lzw.tif white.tif
-    lzwwhite.tif sixteen.png scaled.png diconde.dcm implicit.dcm bigend.dcm mono1.dcm rle.dcm marks.dcm no-mark.dcm'
+    lzwwhite.tif sixteen.png scaled.png diconde.dcm older.dcm older-implicit.dcm implicit.dcm bigend.dcm mono1.dcm rle.dcm marks.dcm
+    no-mark.dcm'
 kept_films() {
     clear
     # shellcheck disable=SC2086
-    imports '23 scans of one film' 0 '23 films of 23 files are in imported' $(printf 'scans/%s ' $kept) --into imported
+    imports '25 scans of one film' 0 '25 films of 25 files are in imported' $(printf 'scans/%s ' $kept) --into imported
     told_of
     for name in $kept; do
         ok=yes
@@ -57,6 +58,9 @@ assert abs(of("sixteen")["pixel_spacing"]["columns_mm"] - 0.1) < 1e-4
 assert conde["rescale"] == {"slope": "2", "intercept": "-7", "type": "US", "table": False}
 assert conde["component"] == {"ComponentName": "GIRTH^WELD 7", "ComponentIDNumber": "W-0007",
     "ComponentManufacturer": "Pipeworks", "MaterialThickness": "12.5", "ComponentWelderIDs": ["K1", "K2"]}
+older = {"ComponentIDNumber": "W-0008", "MaterialName": "X52", "BodyPartExamined": "ROOT", "ComponentManufacturer": "Pipeworks",
+    "MaterialThickness": ["12.5", "14"], "MaterialPropertiesFileID": "steel.xml"}
+assert of("older")["component"] == of("older-implicit")["component"] == older
 assert plain["component"] is None and plain["rescale"] is None and plain["part"] is None
 assert of("mono1")["greys"]["inverted"] == "MONOCHROME1" and of("mono1")["greys"]["top"] == 4095
 assert of("white")["greys"]["inverted"] == "MinIsWhite"

@@ -61,11 +61,21 @@ def save(name, data):
     data.save_as(name, write_like_original=False)
 
 
+def older(data):
+    """With DICONDE's own fields as they were until 2011: private ones."""
+    block = data.private_block(0x0011, "astm.org/diconde/iod/Component", create=True)
+    for number, kind, value in ((0x28, "ST", "Pipeworks"), (0x30, "DS", ["12.5", "14"]), (0x44, "ST", "steel.xml")):
+        block.add_new(number, kind, value)
+    return data
+
+
 def dicoms(film):
     save("diconde.dcm", dicom(film, PatientName="GIRTH^WELD 7", PatientID="W-0007", ComponentManufacturer="Pipeworks",
                               MaterialThickness="12.5", ImagerPixelSpacing=[0.05, 0.1], RescaleSlope="2", RescaleIntercept="-7",
                               RescaleType="US", ComponentWelderIDs=["K1", "K2"]))
     save("implicit.dcm", dicom(film, syntax=ImplicitVRLittleEndian))
+    for name, syntax in (("older.dcm", ExplicitVRLittleEndian), ("older-implicit.dcm", ImplicitVRLittleEndian)):
+        save(name, older(dicom(film, syntax=syntax, PatientID="W-0008", EthnicGroup="X52", BodyPartExamined="ROOT")))
     save("bigend.dcm", dicom(film, syntax=ExplicitVRBigEndian))
     save("mono1.dcm", dicom(4095 - film, kind="MONOCHROME1"))
     save("negative.dcm", dicom(film.astype(numpy.int16) - 2000, 16))

@@ -12,11 +12,16 @@ MAYBE_LOSSY = {"1.2.840.10008.1.2.4.91", "1.2.840.10008.1.2.4.93"}  # JPEG 2000,
 FILMS = "1.2.840.10008.1.2.4.1"  # this and what begins with it: MPEG and its like
 UNPACK = "Unpack it by: gdcmconv --raw FILE NEW.dcm (Debian: libgdcm-tools), or dcmdjpeg FILE NEW.dcm (dcmtk)"
 
-# What DICONDE (ASTM E2339) calls the fields that DICOM has for patients.
+# What DICONDE (ASTM E2339) calls fields that it shares with DICOM, by DCMTK's dictionary of it, diconde.dic. The last one is
+# in no dictionary of DICONDE that is at hand, and keeps DICOM's name.
 COMPONENT = {"PatientName": "ComponentName", "PatientID": "ComponentIDNumber",
              "PatientBirthDate": "ComponentManufacturingDate", "OtherPatientIDs": "OtherComponentIDs",
-             "PatientComments": "ComponentNotes", "BodyPartExamined": "PartExamined"}
-PARTS = 0x0014  # the group of DICONDE's own fields
+             "OtherPatientNames": "OtherComponentNames", "EthnicGroup": "MaterialName", "PatientComments": "ComponentNotes",
+             "ReferringPhysicianName": "ComponentOwnerName", "BodyPartExamined": "BodyPartExamined"}
+PARTS = 0x0014  # the group of DICONDE's own fields, which pydicom's dictionary names
+# Until 2011 they were private ones of this group and creator: 28 there is what became 0014,0028. Two had other names.
+OLDER, CREATOR = 0x0011, "astm.org/diconde/iod/Component"
+OLDER_NAMES = {0x44: "MaterialPropertiesFileID", 0x45: "MaterialPropertiesFileFormat"}
 SPACINGS = ("PixelSpacing", "ImagerPixelSpacing", "NominalScannedPixelSpacing")
 BINARY = {"SQ", "OB", "OW", "OF", "OD", "OL", "OV", "UN"}
 
@@ -36,12 +41,32 @@ def number_of(data, name, usual=None):
         raise Ended("its field %s is no number" % name, AGAIN) from None
 
 
+def older_text(value):
+    """The text of a private field. Where the file does not say of what kind it is, its bytes come as they are."""
+    if not isinstance(value, bytes):
+        return text_of(value)
+    words = [word.strip(" \0") for word in value.decode("ascii", "replace").split("\\")]
+    return words if len(words) > 1 else words[0]
+
+
+def name_of(element):
+    """What DICONDE calls a field of its own; nothing for any other."""
+    by_number = package("pydicom").datadict.keyword_for_tag
+    if element.tag.group == PARTS and element.VR not in BINARY:
+        return element.keyword or str(element.tag)
+    if element.tag.group == OLDER and element.private_creator == CREATOR:
+        last = element.tag.element & 0xff
+        return OLDER_NAMES.get(last) or by_number((PARTS, last)) or str(element.tag)
+    return ""
+
+
 def component(data):
     """DICONDE's fields of the component and its parts."""
     found = {ours: text_of(data.get(theirs)) for theirs, ours in COMPONENT.items() if data.get(theirs, "") not in ("", None)}
     for element in data:
-        if element.tag.group == PARTS and element.VR not in BINARY and element.value not in ("", None):
-            found[element.keyword or str(element.tag)] = text_of(element.value)
+        name = name_of(element)
+        if name and element.value not in ("", b"", None):
+            found.setdefault(name, older_text(element.value))
     return found or None
 
 
