@@ -366,6 +366,7 @@ fi
 
 # ---- scans from elsewhere
 . "$top/station/faults/import.sh"
+. "$top/station/faults/mixed.sh"
 
 # ---- flushing that fails
 . "$top/station/faults/flush.sh"

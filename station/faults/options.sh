@@ -80,6 +80,10 @@ assert info == {"file": "film.pgm", "width": 512, "height": 384, "maxval": 4095,
     png 'OUT a PNG: 16 greys' 8 faint.pgm
     { printf 'P5\n255 256\n255\n'; raster | head -c 65280; } >block.pgm # with its rows' first bytes one more than a block
     png 'OUT a PNG: one byte more than a block' 8 block.pgm --clip off
+    # the largest film, of the sample's greys
+    { printf 'P5\n4096 4096\n4095\n'; for i in $(seq 86); do raster; done | head -c 33554432; } >large.pgm
+    png 'OUT a PNG: the largest film, 16 bits' 16 large.pgm
+    rm -f large.pgm plain.pgm
     "$tz" window film.pgm out/film.png --at 5,6 --size 7x9 2>said
     saw=$?
     if [ "$saw" -eq 0 ] && [ "$(od -An -tu1 -j16 -N10 out/film.png | tr -s ' ')" = ' 0 0 0 7 0 0 0 9 16 0' ]; then ok=yes; else ok=no; fi

@@ -26,10 +26,15 @@ def main(png, pgm, bits):
     maxval, raster = int(film[2]), film[3]
     rows, step = zlib.decompress(parts[1][1]), 1 + width * bits // 8
     assert len(rows) == height * step and not any(rows[::step]), "rows"
-    raw = b"".join(rows[y * step + 1:(y + 1) * step] for y in range(height))
-    form = ">%d" + ("B" if bits == 8 else "H")
-    greys = struct.unpack((">%dB" if maxval < 256 else ">%dH") % (width * height), raster)
-    assert struct.unpack(form % (width * height), raw) == tuple(g * (2**bits - 1) // maxval for g in greys), "greys"
+    entry = 1 if maxval < 256 else 2
+    wide = entry * width
+    assert len(raster) == height * wide
+    # each sample of the film, and what it has to be in the PNG; row by row, since the largest film has 16,777,216
+    scaled = {grey.to_bytes(entry, "big"): (grey * (2**bits - 1) // maxval).to_bytes(bits // 8, "big") for grey in range(maxval + 1)}
+    for y in range(height):
+        row = raster[y * wide:(y + 1) * wide]
+        due = b"".join(scaled[row[x:x + entry]] for x in range(0, wide, entry))
+        assert rows[y * step + 1:(y + 1) * step] == due, "greys of row %d" % y
     print(width, "by", height)
 
 
