@@ -108,7 +108,7 @@ int run_films(const struct job *job)
     if (code == 0)
         tasks = tasks_of(job, &films);
     if (code == 0)
-        code = tasks == NULL ? no_memory() : guard(tasks, films.count, (job->given & FORCE) != 0);
+        code = tasks == NULL ? no_memory() : guard(tasks, films.count, job->given);
     if (code == 0)
         code = make_folder(job->into);
     if (code == 0)

@@ -50,12 +50,22 @@ static int is_input(const struct inputs *inputs, const char *name)
 
 /* ---- the outputs ---- */
 
-static int check_scans(const struct task *task, const struct inputs *inputs)
+/* What is to be given in place of an output's: with --into each has the name of its film. */
+static const char *another(unsigned given) { return (given & INTO) != 0 ? "folder" : "name"; }
+
+static int over_scan(const char *what, const char *name, unsigned given)
+{
+    say("the %s would take a scan's place, which --force does not permit either: %s", what, name);
+    say_more("Give another %s.%s", another(given), (given & INTO) != 0 ? "" : " Several films want --into FOLDER.");
+    return BAD_WORDS;
+}
+
+static int check_scans(const struct task *task, const struct inputs *inputs, unsigned given)
 {
     if (is_input(inputs, task->out))
-        return bad_words("the rendering would take a scan's place, which --force does not permit either", task->out);
+        return over_scan("rendering", task->out, given);
     if (task->record != NULL && is_input(inputs, task->record))
-        return bad_words("the record would take a scan's place, which --force does not permit either", task->record);
+        return over_scan("record", task->record, given);
     if (task->record != NULL && same_place(task->record, task->out))
         return bad_words("the record would take the rendering's place", task->record);
     return 0;
@@ -81,7 +91,8 @@ static int name_taken(const char *name, int before)
     return 1;
 }
 
-static int check_taken(const struct task *tasks, int count)
+/* What is there may be a scan, as where a glob that was meant for one film found two: that is told before --force is. */
+static int check_taken(const struct task *tasks, int count, unsigned given)
 {
     int taken = 0;
     for (int i = 0; i < count; i++) {
@@ -92,20 +103,21 @@ static int check_taken(const struct task *tasks, int count)
         return 0;
     if (taken > MOST_NAMED)
         say_more("and %d more", taken - MOST_NAMED);
-    say_more("Give another %s, or say --force to have %s replaced.%s", count > 1 ? "folder" : "name",
-             taken == 1 ? "it" : "them", count > 1 ? "" : " Several films want --into FOLDER.");
+    say_more("%sGive another %s, or, where %s, say --force to have %s replaced.",
+             (given & INTO) != 0 ? "" : "Several films want --into FOLDER. ", another(given),
+             taken == 1 ? "this is no scan" : "none of them is a scan", taken == 1 ? "it" : "them");
     return BAD_WORDS;
 }
 
-int guard(const struct task *tasks, int count, int force)
+int guard(const struct task *tasks, int count, unsigned given)
 {
     struct inputs inputs;
     int code = know_inputs(tasks, count, &inputs);
     for (int i = 0; i < count && code == 0; i++)
-        code = tasks[i].out == NULL ? 0 : check_scans(&tasks[i], &inputs);
+        code = tasks[i].out == NULL ? 0 : check_scans(&tasks[i], &inputs, given);
     free(inputs.at);
-    if (code == 0 && !force)
-        code = check_taken(tasks, count);
+    if (code == 0 && (given & FORCE) == 0)
+        code = check_taken(tasks, count, given);
     return code;
 }
 

@@ -19,7 +19,7 @@
 static int there_already(const struct output *out)
 {
     say("%s is there already, and is left as it was", out->name);
-    say_more("Give another name, or say --force to have it replaced.");
+    say_more("Give another name, or, where this is no scan, say --force to have it replaced.");
     return BAD_WORDS;
 }
 

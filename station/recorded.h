@@ -21,10 +21,12 @@ struct recorded {
     int has_window;
     tz_window window;
     tz_footer footer;
+    int is_sealed;                              /* it is a report of the reading page, with the digest of its own text */
+    char seal[SHA256_TEXT], sealed[SHA256_TEXT]; /* that digest, and the one that the text has */
 };
 
-/* 0, or the status of a message. A report of the reading page that has a record's members is read as one; members that a
-   record has not are passed over. */
+/* 0, or the status of a message. A report of the reading page has a record's members and is read as one; other members that
+   a record has not are passed over. */
 int read_record(const char *name, struct recorded *out);
 
 #endif

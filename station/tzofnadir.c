@@ -53,7 +53,7 @@ int main(int argc, char **argv)
         return run_films(&job);
     struct task task = {.in = job.names[0], .out = (job.given & OUTPUT) != 0 ? job.out : job.count > 1 ? job.names[1] : NULL,
                         .record = job.record, .which = 1, .of = 1};
-    code = guard(&task, 1, (job.given & FORCE) != 0);
+    code = guard(&task, 1, job.given);
     if (code != 0)
         return code;
     clear_beside(&task);

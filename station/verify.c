@@ -19,7 +19,7 @@ enum found { UNSEEN, SAME, OTHER, MISSING };
 
 struct verdict {
     const struct recorded *record;
-    enum found scan, settings, rendering, file;
+    enum found scan, settings, rendering, file, report;
     char scan_name[MOST_NAME * 2], file_name[MOST_NAME * 2];
 };
 
@@ -138,6 +138,16 @@ static void say_differences(const char *name, const struct verdict *v)
         say("%s: %s is not the rendering of the record: its SHA-256 is another", name, v->file_name);
         say_more("It was altered, or replaced by another rendering: render the scan again.");
     }
+    if (v->report == OTHER) {
+        say("%s: the report was changed since it was saved: the SHA-256 that it names is not its own", name);
+        say_more("Its measurements, marks and pictures may be others: have it sent again, or made again with its film.");
+    }
+}
+
+/* A report has a seal, and a record has none. */
+static enum found seal_of(const struct recorded *r)
+{
+    return !r->is_sealed ? UNSEEN : strcmp(r->seal, r->sealed) == 0 && r->seal[0] != '\0' ? SAME : OTHER;
 }
 
 static int print_verdict(const struct verdict *v)
@@ -148,6 +158,8 @@ static int print_verdict(const struct verdict *v)
     escape(v->file_name, file, sizeof file);
     int count = snprintf(text, sizeof text, "scan\t%s\t%s\nsettings\t%s\nrendering\t%s\nfile\t%s\t%s\n", words[v->scan],
                          scan, words[v->settings], words[v->rendering], words[v->file], file);
+    if (v->report != UNSEEN)
+        count += snprintf(text + count, sizeof text - (size_t)count, "report\t%s\n", words[v->report]);
     return put_straight(STDOUT_FILENO, output_name("-"), (const uint8_t *)text, (size_t)count);
 }
 
@@ -168,7 +180,7 @@ int verify(const struct job *job)
     int code = read_record(job->names[0], &record);
     if (code != 0)
         return code;
-    v = (struct verdict){.record = &record};
+    v = (struct verdict){.record = &record, .report = seal_of(&record)};
     code = find_scan(job, &v);
     if (code == 0 && v.scan == MISSING)
         return scan_is_gone(job->names[0], &record);
@@ -181,5 +193,6 @@ int verify(const struct job *job)
     if (code != 0)
         return code;
     say_differences(job->names[0], &v);
-    return v.scan == SAME && v.settings == SAME && v.rendering == SAME && v.file != OTHER ? 0 : NOT_AS_RECORDED;
+    int as_recorded = v.scan == SAME && v.settings == SAME && v.rendering == SAME && v.file != OTHER && v.report != OTHER;
+    return as_recorded ? 0 : NOT_AS_RECORDED;
 }

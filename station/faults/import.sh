@@ -260,6 +260,10 @@ import_words() {
     told_of
     imports 'an unknown option' 64 'there is no such option: --colour' scans/kept.pgm --into imported --colour
     told_of
+    imports 'a name that begins with a dash: told about --' 64 "stands behind '--', or as ./-film=1.dcm" -film=1.dcm --into imported
+    told_of
+    imports '--force with a value' 64 'this option takes no value: --force=yes' scans/kept.pgm --into imported --force=yes
+    told_of
     imports '--overlap 9999' 64 '--overlap takes a number' scans/kept.pgm --into imported --overlap 9999
     told_of
     imports 'standard input' 64 'standard input has no name' - --into imported

@@ -24,8 +24,9 @@ untouched() { # WHAT WANTED TOLD WORDS..: the scans are as they were, and TOLD i
 }
 of_scan="would take a scan's place, which --force does not permit"
 lay_scans
-untouched 'a glob that two films match: the second is left' 64 'Several films want --into FOLDER.' enhance a.pgm b.pgm
+untouched 'a glob that two films match: the second is left' 64 'Several films want --into FOLDER. Give another name, or, where this is no scan' enhance a.pgm b.pgm
 untouched 'OUT is IN' 64 "$of_scan" enhance a.pgm a.pgm
+untouched 'OUT is IN: the way out' 64 'Give another name.' enhance a.pgm a.pgm
 untouched 'OUT is IN, --force' 64 "$of_scan" enhance --force a.pgm a.pgm
 untouched 'OUT is IN by another name, --force' 64 "$of_scan" enhance --force a.pgm ../scans/./a.pgm
 untouched 'OUT is IN, a window, --force' 64 "$of_scan" window --force a.pgm a.pgm --at 0,0 --size 8x8
@@ -86,6 +87,7 @@ lay_scans
 mkdir "$scans/out"
 ln -s ../b.pgm "$scans/out/a.pgm"
 untouched '--into: OUT is a link to another scan of the call, --force' 64 "$of_scan" enhance --force --into out a.pgm b.pgm
+untouched '--into: the same, and the way out' 64 'Give another folder.' enhance --force --into out a.pgm b.pgm
 untouched '--into: OUT is a link to a scan that is not read' 64 'say --force to have it replaced' enhance --into out a.pgm
 ln -s ../b.pgm "$scans/out/a.pgm.json"
 untouched '--into: a record is a link to a scan of the call, --force' 64 "$of_scan" enhance --force --records --into out b.pgm a.pgm

@@ -62,6 +62,25 @@ END
     held "verify: a report with a record's members, in one line" 0 '' "$all" page/report.json
 fi
 
+# a report as the page makes it, by its own functions, and reports that were changed since
+if command -v node >/dev/null; then
+    sealed="${all}report=same "
+    if node "$top/station/faults/report.mjs" "$place/page/weld.pgm" "$place/page/weld-rendered.json" "$place/page/reading.json" 2>said; then ok=yes; else ok=no; fi
+    report "$ok" "a report by the page's own functions" "$(wc -c <"$place/page/reading.json") bytes $(tail -n 1 said)"
+    held "verify: the page's report" 0 '' "$sealed" page/reading.json
+    changed() { # WHAT SED PRINTED
+        sed "$2" "$place/page/reading.json" >"$place/page/changed.json"
+        held "verify: the page's report, $1" 76 'the report was changed since it was saved' "$3" page/changed.json
+    }
+    changed "a mark's sentence changed" 's/a \\"pore/no \\"pore/' "${all}report=other "
+    changed 'a measured number changed' 's/"least": [0-9]*/"least": 1/' "${all}report=other "
+    changed 'its digest changed' 's/"report_sha256": "./"report_sha256": "z/' "${all}report=other "
+    changed 'something behind its digest' 's/^}$/, "more": 1}/' "${all}report=other "
+    changed 'a setting changed' 's/"across": 8/"across": 7/' 'scan=same settings=same rendering=other file=same report=other '
+else
+    skip "verify of a report that the page's own functions make: there is no node here"
+fi
+
 # ---- what is not as recorded
 alter other.json '"factor": 2.29999995' '"factor": 9'
 held 'verify: another factor' 76 'rendered again, the film is not the one of the record' 'scan=same settings=other rendering=other file=same ' rendered/other.json

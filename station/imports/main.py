@@ -22,6 +22,10 @@ ENDINGS = re.compile(r"(?i)(?<=.)\.(dcm|dicom|dic|diconde|tiff?|png|pgm|pnm|pbm|
 DICOM_ENDINGS = re.compile(r"(?i)\.(dcm|dicom|dic|diconde)\Z")
 
 
+WITH_VALUE = ("--into", "--overlap")
+OPTIONS = WITH_VALUE + ("--cut", "--force", "--quiet")
+
+
 @dataclass
 class Asked:
     files: list = field(default_factory=list)
@@ -39,6 +43,12 @@ def bad(sentence, word=""):
     return Ended(sentence + (": " + shown(word) if word else ""), way, BAD_WORDS)
 
 
+def no_option(word):
+    """It may be meant as a file's name."""
+    return Ended("there is no such option: %s" % shown(word),
+                 "A file whose name begins with a dash stands behind '--', or as ./%s" % shown(word), BAD_WORDS)
+
+
 def option(asked, name, value):
     """Takes an option; `value` gets its value."""
     if name == "--into":
@@ -48,10 +58,8 @@ def option(asked, name, value):
         if not text.isascii() or not text.isdigit() or len(text) > 4 or int(text) > 2048:
             raise bad("--overlap takes a number of pixels up to 2048", text)
         asked.overlap = int(text)
-    elif name in ("--cut", "--force", "--quiet"):
-        setattr(asked, name[2:], True)
     else:
-        raise bad("there is no such option", name)
+        setattr(asked, name[2:], True)
 
 
 def words(given):
@@ -66,12 +74,14 @@ def words(given):
             asked.files.append(word)
             continue
         name, mark, text = word.partition("=")
+        if name not in OPTIONS:
+            raise no_option(word)
         if name in seen:
             raise bad("this option is given twice", name)
         seen.add(name)
-        if mark and name not in ("--into", "--overlap"):
-            raise bad("there is no such option, or it takes no value", word)
-        if not mark and name in ("--into", "--overlap") and not rest:
+        if mark and name not in WITH_VALUE:
+            raise bad("this option takes no value", word)
+        if not mark and name in WITH_VALUE and not rest:
             raise bad("a value is missing behind", name)
         option(asked, name, lambda: text if mark else rest.pop(0))
     check(asked)
