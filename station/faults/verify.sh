@@ -76,7 +76,7 @@ if command -v node >/dev/null; then
     changed 'a measured number changed' 's/"least": [0-9]*/"least": 1/' "${all}report=other "
     changed 'its digest changed' 's/"report_sha256": "./"report_sha256": "z/' "${all}report=other "
     changed 'something behind its digest' 's/^}$/, "more": 1}/' "${all}report=other "
-    changed 'a setting changed' 's/"across": 8/"across": 7/' 'scan=same settings=same rendering=other file=same report=other '
+    changed 'a setting changed' 's/"across": 8/"across": 7/' 'scan=same settings=other rendering=other file=same report=other '
 else
     skip "verify of a report that the page's own functions make: there is no node here"
 fi
