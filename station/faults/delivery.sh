@@ -46,6 +46,35 @@ saw=$?
 if [ "$saw" -eq 0 ] && cmp -s wanted wrote; then ok=yes; else ok=no; fi
 report "$ok" 'the shared library loaded by its name: the listing of the rules' "status $saw: $(tail -n 1 said)"
 
+# ---- for aarch64, made here, and run under an emulator where there is one
+machine_of() { od -An -tu1 -j18 -N1 "$1" | tr -d ' '; } # PROGRAM: ELF's number of its machine
+arm() { qemu-aarch64 -L /usr/aarch64-linux-gnu -E LD_LIBRARY_PATH="$room/arm/lib" "$@"; }
+for_aarch64() {
+    installed 'station/install --aarch64' 0 "tzofnadir $version is in $room/arm" "$top/station/install" --aarch64 "$room/arm"
+    saw="$(machine_of arm/bin/tzofnadir) $(machine_of "arm/lib/libtzofnadir.so.$version")"
+    if [ "$saw" = '183 183' ]; then ok=yes; else ok=no; fi
+    report "$ok" 'station/install --aarch64: program and library are of that machine' "$saw"
+    command -v qemu-aarch64 >/dev/null || { skip 'the program for aarch64: there is no qemu-aarch64 here'; return; }
+    rm -f from_arm.pgm from_arm.json alone.json
+    over enhance film.pgm alone.pgm --record alone.json 2>said
+    arm arm/bin/tzofnadir enhance film.pgm from_arm.pgm --record from_arm.json 2>said
+    saw=$?
+    sed 's/alone\.pgm/from_arm.pgm/' alone.json | cmp -s - from_arm.json || saw="$saw, another record"
+    if [ "$saw" = 0 ] && cmp -s alone.pgm from_arm.pgm; then ok=yes; else ok=no; fi
+    report "$ok" 'the program for aarch64: the same film and record' "status $saw: $(tail -n 1 said)"
+    # shellcheck disable=SC2016
+    sed -n '/^```c$/,/^```$/p' "$top/README.md" | sed '/^```/d' >render.c
+    aarch64-linux-gnu-gcc render.c -o render_arm -Iarm/include -Larm/lib -ltzofnadir >wrote 2>said && arm ./render_arm <film.pgm >from_arm.pgm 2>>said
+    saw=$?
+    if [ "$saw" -eq 0 ] && cmp -s alone.pgm from_arm.pgm; then ok=yes; else ok=no; fi
+    report "$ok" "README's program in C for aarch64, with the shared library" "status $saw: $(tail -n 1 said)"
+}
+if command -v aarch64-linux-gnu-gcc >/dev/null; then
+    for_aarch64
+else
+    skip 'station/install --aarch64: there is no aarch64-linux-gnu-gcc here (Debian: gcc-aarch64-linux-gnu, libc6-dev-arm64-cross)'
+fi
+
 # ---- use on this machine: elsewhere than on x86-64 with the library made for it, if that is made already and not stale
 made_for_us() { (cd "$top" && ! toolchain/stale target/native/libtzofnadir.a crates crates.txt); }
 if [ "$(uname -m)" != x86_64 ]; then

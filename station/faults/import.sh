@@ -28,11 +28,11 @@ clear() { rm -rf imported; mkdir imported; }
 # ---- films that come out as they are
 kept='kept.pgm deep.pgm left.pgm text.pgm any.pam plain.tif high.tif deflate.tif tiles.tif large.tif twelve.tif lzw.tif white.tif
     lzwwhite.tif sixteen.png scaled.png diconde.dcm older.dcm older-implicit.dcm implicit.dcm bigend.dcm mono1.dcm rle.dcm marks.dcm
-    no-mark.dcm'
+    no-mark.dcm j2k.dcm j2k-said.dcm'
 kept_films() {
     clear
     # shellcheck disable=SC2086
-    imports '25 scans of one film' 0 '25 films of 25 files are in imported' $(printf 'scans/%s ' $kept) --into imported
+    imports '27 scans of one film' 0 '27 films of 27 files are in imported' $(printf 'scans/%s ' $kept) --into imported
     told_of
     for name in $kept; do
         ok=yes
@@ -143,6 +143,7 @@ refused_files() {
     refused_file bad-rgb.dcm 'it is not grey: 3 samples a pixel, RGB'
     refused_file bad-lossy.dcm 'its greys were altered by packing'
     refused_file bad-jpeg.dcm 'its greys were altered by packing (1.2.840.10008.1.2.4.50)'
+    refused_file bad-unsaid.dcm 'its greys may have been altered by packing (1.2.840.10008.1.2.4.91)'
     refused_file bad-packed.dcm 'which cannot be unpacked here'
     refused_file bad-report.dcm 'has no picture of whole numbers'
     refused_file bad-deep.dcm '32 of 32 bits a sample'
@@ -247,6 +248,17 @@ places() {
     imports '--into a folder that is not there' 0 '1 films' scans/kept.pgm --into imported/new/deep
     same film.pgm imported/new/deep/kept.pgm
     told_of
+    if [ "$(id -u)" -eq 0 ] && $drop true 2>/dev/null && $drop test -r "$import"; then
+        rm -rf letters
+        mkdir -m 733 letters
+        $drop "$import" scans/kept.pgm scans/deep.pgm --into letters >wrote 2>said
+        saw=$? what='a folder that may be written to and not read: told once' ok=yes
+        [ "$saw" -eq 0 ] && [ "$(grep -c 'cannot flush the folder letters' said)" -eq 1 ] || ok=no
+        same film.pgm letters/kept.pgm
+        told_of
+    else
+        skip 'an import into a folder that may not be read: only root can try it, where others may read the clone'
+    fi
     odd=$(printf 'odd \t"name"\377')
     cp film.pgm "$odd.pgm"
     imports 'a name of odd bytes' 0 'odd \t"name"\udcff.pgm: PGM of 512 by 384' --into imported -- "$odd.pgm"
@@ -320,6 +332,25 @@ full_disk() {
     else
         skip 'an import onto a full disk: no file system can be mounted here'
     fi
+}
+# A flush that fails is told: of the film, which then is not there, and of its folder, where the film is whole.
+flush_of_import() {
+    if ! command -v strace >/dev/null || ! strace -f -o trace -e trace=fsync true 2>/dev/null; then
+        skip 'an import whose flush fails: there is no strace here, or it may not be used'
+        return
+    fi
+    for which in 1 3; do
+        clear
+        strace -f -o trace -e trace=fsync -e "inject=fsync:error=EIO:when=$which" "$import" scans/kept.pgm --into imported >wrote 2>said
+        saw=$? ok=yes what="an import whose flush fails, number $which"
+        [ "$saw" -eq 74 ] && grep -q 'cannot be written into imported: Input/output error' said && no_parts imported || ok=no
+        [ "$(ls imported)" = '' ] || same film.pgm imported/kept.pgm
+        [ "$which" -ne 3 ] || [ -s imported/kept.json ] || ok=no
+        told_of
+        imports "$what: the same words again" 0 '1 films of 1 files' scans/kept.pgm --into imported
+        same film.pgm imported/kept.pgm
+        told_of
+    done
 }
 # Forty scans of five kinds; the run is killed when some files are there, and run again with the same words. A shell has what
 # it starts in the background ignore INT; env undoes it.
@@ -401,6 +432,7 @@ if [ -n "$scan_python" ]; then
     import_words
     cut_film
     full_disk
+    flush_of_import
     kills_of_import
     no_packages
     as_clear

@@ -1,6 +1,7 @@
 """scans.py FILM.pgm FOLDER: writes the sample film as scanners and archives would, and files that have to be refused, for
 station/faults/import.sh. Needs python3-numpy, python3-pydicom, python3-tifffile and python3-pil from Debian.
 """
+import io
 import os
 import struct
 import sys
@@ -12,8 +13,8 @@ import tifffile
 from PIL import Image
 from pydicom.dataset import FileDataset, FileMetaDataset
 from pydicom.encaps import encapsulate
-from pydicom.uid import (ExplicitVRBigEndian, ExplicitVRLittleEndian, ImplicitVRLittleEndian, JPEGBaseline8Bit, JPEGLosslessSV1,
-                         RLELossless)
+from pydicom.uid import (ExplicitVRBigEndian, ExplicitVRLittleEndian, ImplicitVRLittleEndian, JPEG2000, JPEG2000Lossless,
+                         JPEGBaseline8Bit, JPEGLosslessSV1, RLELossless)
 
 warnings.simplefilter("ignore")
 
@@ -69,6 +70,16 @@ def older(data):
     return data
 
 
+def jpeg2000(film, syntax, **fields):
+    """Packed by JPEG 2000, which nothing is lost by here."""
+    data, packed = dicom(film, 16, **fields), io.BytesIO()
+    Image.fromarray(film).save(packed, "JPEG2000", no_jp2=True)
+    data.file_meta.TransferSyntaxUID = syntax
+    data.PixelData = encapsulate([packed.getvalue()])
+    data["PixelData"].is_undefined_length = True
+    return data
+
+
 def dicoms(film):
     save("diconde.dcm", dicom(film, PatientName="GIRTH^WELD 7", PatientID="W-0007", ComponentManufacturer="Pipeworks",
                               MaterialThickness="12.5", ImagerPixelSpacing=[0.05, 0.1], RescaleSlope="2", RescaleIntercept="-7",
@@ -82,6 +93,8 @@ def dicoms(film):
     save("signed12.dcm", dicom((film.astype(numpy.int16) - 2048), 12))
     save("marks.dcm", dicom(film | (film % 2) * 0x8000))
     save("frames.dcm", dicom(numpy.stack([film[:96], film[96:192], film[192:288]])))
+    save("j2k.dcm", jpeg2000(film, JPEG2000Lossless))
+    save("j2k-said.dcm", jpeg2000(film, JPEG2000, LossyImageCompression="00"))
     packed = dicom(film)
     packed.compress(RLELossless)
     save("rle.dcm", packed)
@@ -99,6 +112,7 @@ def bad_dicoms(film):
     rgb.PixelData = bytes(3 * film.size)
     save("bad-rgb.dcm", rgb)
     save("bad-lossy.dcm", dicom(film, LossyImageCompression="01"))
+    save("bad-unsaid.dcm", jpeg2000(film, JPEG2000))
     for name, syntax in (("bad-jpeg.dcm", JPEGBaseline8Bit), ("bad-packed.dcm", JPEGLosslessSV1)):
         data = dicom(film)
         data.file_meta.TransferSyntaxUID = syntax

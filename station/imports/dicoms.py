@@ -10,7 +10,7 @@ AGAIN = "Have it sent or written again."
 LOSSY = {"1.2.840.10008.1.2.4.50", "1.2.840.10008.1.2.4.51", "1.2.840.10008.1.2.4.81"}
 MAYBE_LOSSY = {"1.2.840.10008.1.2.4.91", "1.2.840.10008.1.2.4.93"}  # JPEG 2000, which packs either way
 FILMS = "1.2.840.10008.1.2.4.1"  # this and what begins with it: MPEG and its like
-UNPACK = "Unpack it by: gdcmconv --raw FILE NEW.dcm (Debian: libgdcm-tools), or dcmdjpeg FILE NEW.dcm (dcmtk)"
+UNPACK = "Unpack it by: gdcmconv --raw FILE NEW.dcm (Debian: libgdcm-tools)"
 
 # What DICONDE (ASTM E2339) calls fields that it shares with DICOM, by DCMTK's dictionary of it, diconde.dic. The last one is
 # in no dictionary of DICONDE that is at hand, and keeps DICOM's name.
@@ -90,8 +90,9 @@ def check_packing(data):
     """Refuses what altered greys on its way. A JPEG 2000 says itself whether it did."""
     syntax = str(getattr(getattr(data, "file_meta", None), "TransferSyntaxUID", ""))
     lossy = str(data.get("LossyImageCompression", ""))
-    if lossy == "01" or syntax in LOSSY or syntax.startswith(FILMS) or (syntax in MAYBE_LOSSY and lossy != "00"):
-        raise Ended("its greys were altered by packing (%s)" % (syntax or "by its own word"),
+    unsaid = syntax in MAYBE_LOSSY and lossy not in ("00", "01")
+    if lossy == "01" or syntax in LOSSY or syntax.startswith(FILMS) or unsaid:
+        raise Ended("its greys %s altered by packing (%s)" % ("may have been" if unsaid else "were", syntax or "by its own word"),
                     "Have the scan given again, packed without loss or not at all.")
 
 

@@ -7,11 +7,12 @@ import os
 import signal
 import stat
 
-from said import CANNOT_CREATE, IO_FAULT, Ended, shown
+from said import CANNOT_CREATE, IO_FAULT, Ended, say, shown
 
 SIGNALS = {signal.SIGHUP, signal.SIGINT, signal.SIGTERM, signal.SIGQUIT}
 FULL = (errno.ENOSPC, errno.EDQUOT)
 parts = []  # names of new files that have no place yet
+unflushed = set()  # folders that could not be, and that was told
 
 
 def stop(number, _):
@@ -124,10 +125,14 @@ def place(part, path, over):
 
 
 def flush(folder):
-    """A folder that may not be read, or a file system that flushes none, has to do without."""
+    """A folder that may not be read has to do without, which is told once, and so has a file system that flushes none."""
     try:
         of = os.open(folder, os.O_RDONLY | os.O_DIRECTORY)
-    except PermissionError:
+    except PermissionError as fault:
+        if folder not in unflushed:
+            say("the films are whole, and a power cut may undo them: cannot flush the folder %s: %s"
+                % (shown(folder), fault.strerror))
+        unflushed.add(folder)
         return
     try:
         os.fsync(of)
