@@ -1,6 +1,7 @@
 /*
- * bench films FOLDER          writes the films as raw PGM, for what else is to be measured on them
- * bench run [OPENCV.txt]      measures, and prints tables; the file has OpenCV's times, "SIDE BITS FILM NS" a line
+ * bench films FOLDER                  writes the films as PGM, for what else is to be measured on them: raw, .pgm, and some as
+ *                                     text, .txt
+ * bench run [OPENCV.txt NETPBM.txt]   measures, and prints tables; the files have others' times, "SIDE BITS FILM CALL NS" a line
  *
  * The calls take turns, in several rounds, so that a slow spell of the machine meets all of them. In each turn a call is
  * run twice and the second run is measured: its memory is there, and the caches are as warm as they get. Nothing is
@@ -36,13 +37,14 @@ static const struct reel {
 /* In the order in which they take turns: draw comes behind prepare, with whose mappings it draws. */
 enum call {
     ENHANCE, ENHANCE_BYTES, BY_1994, COPY, SCAN, UNCLIPPED, NEAR_ONE, OF_1986, PREPARE, DRAW, PREPARE_BYTES, DRAW_BYTES,
-    COUNT, MAP, WRITE, READ, CALLS
+    COUNT, MAP, TO_RAW, TO_PLAIN, WRITE, READ, CALLS
 };
 
 #define ONE(call) (1u << (call))
 #define BYTES (ONE(ENHANCE_BYTES) | ONE(PREPARE_BYTES) | ONE(DRAW_BYTES)) /* for films of 8 bits alone */
 #define COUNTS (ONE(COUNT) | ONE(MAP)) /* in this order: mapping wants the counts */
-#define ALL ((ONE(CALLS) - 1) & ~BYTES & ~COUNTS & ~ONE(NEAR_ONE) & ~ONE(OF_1986))
+#define TEXT (ONE(TO_RAW) | ONE(TO_PLAIN)) /* for films that were laid down as text */
+#define ALL ((ONE(CALLS) - 1) & ~BYTES & ~COUNTS & ~TEXT & ~ONE(NEAR_ONE) & ~ONE(OF_1986))
 
 static const struct {
     void (*before)(struct bench *);
@@ -55,6 +57,7 @@ static const struct {
     [OF_1986] = {NULL, call_of_1986},    [ENHANCE_BYTES] = {lay_out_bytes, call_enhance_bytes},
     [PREPARE_BYTES] = {NULL, call_prepare_bytes},
     [DRAW_BYTES] = {NULL, call_draw_bytes},
+    [TO_RAW] = {NULL, call_to_raw},      [TO_PLAIN] = {NULL, call_to_plain},
 };
 
 /* What was measured of a film: the best turn of each call, in nanoseconds. */
@@ -110,6 +113,10 @@ static struct result measure(const struct subject *of, unsigned which)
         check_of_1986(&b);
     if ((which & COUNTS) != 0)
         check_counts(&b);
+    if ((which & TEXT) != 0) {
+        open_plain(&b);
+        check_plain(&b);
+    }
     struct result r = {.pixels = (double)b.pixels, .area = (double)b.area, .share = share_of(&b)};
     for (int i = rounds(of->height); i > 0; i--)
         for (int c = 0; c < CALLS; c++)
@@ -151,18 +158,18 @@ static void films_table(void)
 
 /* ---- the calls ---- */
 
-/* OpenCV's time for a film, in nanoseconds a pixel; 0 where there is none. */
-static double opencv_time(const char *path, const struct subject *of)
+/* Another's time for a call on a film, in nanoseconds a pixel; 0 where there is none. */
+static double time_of(const char *path, const struct subject *of, const char *call)
 {
-    char line[128], name[16];
+    char line[128], name[16], of_call[16];
     unsigned side, bits;
     double ns, found = 0;
     FILE *from = path == NULL ? NULL : fopen(path, "r");
     if (from == NULL)
         return 0;
     while (fgets(line, sizeof line, from) != NULL)
-        if (sscanf(line, "%u %u %15s %lf", &side, &bits, name, &ns) == 4 && side == of->width && bits == of->bits &&
-            strcmp(name, film_name(of->kind)) == 0)
+        if (sscanf(line, "%u %u %15s %15s %lf", &side, &bits, name, of_call, &ns) == 5 && side == of->width &&
+            bits == of->bits && strcmp(name, film_name(of->kind)) == 0 && strcmp(of_call, call) == 0)
             found = ns;
     fclose(from);
     return found;
@@ -195,7 +202,7 @@ static void call_rows(const struct subject *of, const char *opencv)
 {
     struct result r = measure(of, ALL);
     const double *best = r.best;
-    struct against a = {best[BY_1994] / r.pixels, opencv_time(opencv, of), best[COPY] / r.pixels};
+    struct against a = {best[BY_1994] / r.pixels, time_of(opencv, of, "enhance"), best[COPY] / r.pixels};
     call_row(of, "enhance", best[ENHANCE] / r.pixels, &a);
     call_row(of, "prepare", best[PREPARE] / r.pixels, &a);
     call_row(of, "scan", best[SCAN] / r.pixels, &a);
@@ -410,6 +417,41 @@ static void counts_table(void)
     counts_row(CALM);
 }
 
+/* ---- plain files ---- */
+
+static void text_row(const struct subject *of, const char *move, double ns, double netpbm)
+{
+    printf("| %4u | %2u | %-5s | %-12s | %8.3f |", (unsigned)of->width, (unsigned)of->bits, film_name(of->kind), move, ns);
+    if (netpbm > 0)
+        printf(" %8.3f |", netpbm);
+    else
+        printf("        - |");
+    ratio(ns, netpbm);
+    printf("\n");
+}
+
+static void text_rows(const struct reel *reel, uint32_t side, const char *netpbm)
+{
+    struct subject of = usual(reel->kind, side, reel->bits);
+    struct result r = measure(&of, TEXT);
+    text_row(&of, "plain to raw", r.best[TO_RAW] / r.pixels, time_of(netpbm, &of, "raw"));
+    text_row(&of, "raw to plain", r.best[TO_PLAIN] / r.pixels, time_of(netpbm, &of, "plain"));
+    fflush(stdout);
+}
+
+static const uint32_t text_sides[] = {2048, 4096};
+
+static void text_table(const char *netpbm)
+{
+    printf("\n### Plain files\n\n"
+           "A film read in one form and written in the other, in memory, nanoseconds a sample; beside it the user time of\n"
+           "Netpbm's pamtopnm and pnmtoplainpnm on the same files, their start taken off.\n\n");
+    printf("| side | bits | film | move | ours | Netpbm | of Netpbm |\n|---|---|---|---|---|---|---|\n");
+    for (size_t i = 0; i < MANY(text_sides); i++)
+        for (size_t j = 0; j < MANY(reels); j++)
+            text_rows(&reels[j], text_sides[i], netpbm);
+}
+
 /* ---- odd sides ---- */
 
 /* Prints a film's times, and gives the time of enhance. */
@@ -467,16 +509,25 @@ static void growth_table(void)
 
 /* ---- what is asked ---- */
 
+static void write_file(const char *folder, const struct subject *of, const char *form, const uint8_t *file, size_t len)
+{
+    char path[4096];
+    snprintf(path, sizeof path, "%s/%u-%u-%s.%s", folder, (unsigned)of->width, (unsigned)of->bits, film_name(of->kind),
+             form);
+    FILE *to = fopen(path, "wb");
+    if (to == NULL || fwrite(file, 1, len, to) != len || fclose(to) != 0)
+        end("a film cannot be written", of->width);
+}
+
 static void write_film(const char *folder, const struct subject *of)
 {
     struct bench b;
-    char path[4096];
     open_bench(&b, of);
-    snprintf(path, sizeof path, "%s/%u-%u-%s.pgm", folder, (unsigned)of->width, (unsigned)of->bits,
-             film_name(of->kind));
-    FILE *to = fopen(path, "wb");
-    if (call_write(&b) != 0 || to == NULL || fwrite(b.file, 1, b.file_len, to) != b.file_len || fclose(to) != 0)
-        end("a film cannot be written", of->width);
+    open_plain(&b);
+    write_file(folder, of, "pgm", b.file, b.file_len);
+    for (size_t i = 0; i < MANY(text_sides); i++)
+        if (of->width == text_sides[i])
+            write_file(folder, of, "txt", b.text, b.text_len);
     close_bench(&b);
 }
 
@@ -489,7 +540,7 @@ static void films(const char *folder)
         }
 }
 
-static void run(const char *opencv)
+static void run(const char *opencv, const char *netpbm)
 {
     films_table();
     calls_table(opencv);
@@ -499,6 +550,7 @@ static void run(const char *opencv)
     edition_table();
     near_one_table();
     counts_table();
+    text_table(netpbm);
     sides_table();
     growth_table();
 }
@@ -507,9 +559,9 @@ int main(int argc, char **argv)
 {
     if (argc == 3 && strcmp(argv[1], "films") == 0)
         films(argv[2]);
-    else if ((argc == 2 || argc == 3) && strcmp(argv[1], "run") == 0)
-        run(argv[2]);
+    else if ((argc == 2 || argc == 4) && strcmp(argv[1], "run") == 0)
+        run(argv[2], argc == 4 ? argv[3] : NULL);
     else
-        end("usage: bench films FOLDER, or bench run [OPENCV.txt]", 0);
+        end("usage: bench films FOLDER, or bench run [OPENCV.txt NETPBM.txt]", 0);
     return 0;
 }

@@ -59,6 +59,13 @@ void open_bench(struct bench *b, const struct subject *of)
         open_bytes(b);
 }
 
+void open_plain(struct bench *b)
+{
+    b->text = room(tz_plain_bytes(b->of.width, b->of.height));
+    if (call_write(b) != 0 || call_to_plain(b) != 0)
+        end("a film cannot be laid down as text", b->of.width);
+}
+
 void close_bench(struct bench *b)
 {
     free(b->film);
@@ -70,6 +77,7 @@ void close_bench(struct bench *b)
     free(b->counts);
     free(b->mapped);
     free(b->file);
+    free(b->text);
     free(b->bytes);
     free(b->byte_picture);
     free(b->byte_drawn);
@@ -161,6 +169,25 @@ long call_read(struct bench *b)
         refusal = tzofnadir_read_raster(b->file, b->file_len, &part);
     if (refusal == TZ_DONE)
         refusal = tzofnadir_read_greys(b->file, b->file_len, part.start, &sizes, b->picture, b->pixels);
+    return refusal;
+}
+
+long call_to_raw(struct bench *b)
+{
+    tz_sizes sizes;
+    uint32_t refusal = tzofnadir_read_plain(b->text, b->text_len, &sizes, b->picture, b->pixels);
+    if (refusal == TZ_DONE)
+        refusal = tzofnadir_write(b->picture, b->pixels, &sizes, b->file, tz_write_bytes(b->of.width, b->of.height),
+                                  &b->file_len);
+    return refusal;
+}
+
+long call_to_plain(struct bench *b)
+{
+    long refusal = call_read(b);
+    if (refusal == TZ_DONE)
+        refusal = tzofnadir_write_plain(b->picture, b->pixels, &b->sizes, b->text,
+                                        tz_plain_bytes(b->of.width, b->of.height), &b->text_len);
     return refusal;
 }
 
@@ -316,6 +343,23 @@ void check_of_1986(struct bench *b)
                 end("a mapping by the edition of 1986 is another, tile", tile);
         }
     }
+}
+
+void check_plain(struct bench *b)
+{
+    must("write", call_write(b));
+    must("raw to plain", call_to_plain(b));
+    memset(b->picture, 0, 2 * b->pixels);
+    memset(b->file, 0, b->file_len);
+    must("plain to raw", call_to_raw(b));
+    if (memcmp(b->picture, b->film, 2 * b->pixels) != 0)
+        end("a film moved to text and back is another", b->of.width);
+    uint8_t *before = room(b->file_len);
+    memcpy(before, b->file, b->file_len);
+    must("write", call_write(b));
+    if (memcmp(b->file, before, b->file_len) != 0)
+        end("a raw file moved to text and back is another", b->of.width);
+    free(before);
 }
 
 void check_near_one(struct bench *b)

@@ -37,6 +37,8 @@ struct bench {
     uint8_t *byte_map;
     uint8_t *file; /* the film as raw PGM */
     size_t file_len;
+    uint8_t *text; /* and as plain PGM, where open_plain made room for it */
+    size_t text_len;
     tz_record record;
     tz_footer footer;
 };
@@ -46,6 +48,9 @@ __attribute__((noreturn)) void end(const char *why, long number);
 
 void open_bench(struct bench *b, const struct subject *of);
 void close_bench(struct bench *b);
+
+/* Makes room for the film as plain PGM and lays both files down. */
+void open_plain(struct bench *b);
 
 /* Lays the film out anew, where it is rendered in place. */
 void lay_out(struct bench *b);
@@ -60,6 +65,7 @@ void lay_out_bytes(struct bench *b);
  * near one:  prepare at the factor 1.0001, and so is its record not that of the settings.
  * of 1986:   prepare by the clip rule of 1986, and so is its record not that of the settings.
  * map:       mapping from the counts. It wants counting before it; the mappings go to `mapped`.
+ * to raw:    the plain file read, and written as raw; to plain the other way round. They want open_plain before them.
  */
 long call_enhance(struct bench *b);
 long call_prepare(struct bench *b);
@@ -72,6 +78,8 @@ long call_map(struct bench *b);
 long call_draw(struct bench *b);
 long call_write(struct bench *b);
 long call_read(struct bench *b);
+long call_to_raw(struct bench *b);
+long call_to_plain(struct bench *b);
 long call_1994(struct bench *b);
 long call_copy(struct bench *b);
 long call_enhance_bytes(struct bench *b);
@@ -83,6 +91,9 @@ long call_draw_bytes(struct bench *b);
  * drawn window is not enhance's, or a call on bytes leaves other greys or mappings. Leaves enhance's picture in `picture`.
  */
 void check(struct bench *b);
+
+/* Ends the program where a film moved from raw to plain and back, or from plain to raw, is not the same bytes. */
+void check_plain(struct bench *b);
 
 /*
  * Near one, where the bins hold a tile's pixels and no more, every bin ends full and every mapping rises evenly.

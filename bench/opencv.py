@@ -1,7 +1,7 @@
 #!/usr/bin/env python3
 """opencv.py FOLDER: times OpenCV's CLAHE on the films that `bench films FOLDER` wrote, on one thread, at 16 bits.
 
-Prints "SIDE BITS FILM NS" a line, NS being nanoseconds a pixel of processor time: as in bench.c, the best of the second
+Prints "SIDE BITS FILM enhance NS" a line, NS being nanoseconds a pixel of processor time: as in bench.c, the best of the second
 runs of several turns.
 The grid is 8 by 8 and the clip limit 3.0, as for all others; OpenCV uses 65536 bins at 16 bits.
 """
@@ -36,7 +36,7 @@ def main():
     for side, rounds in ((512, 100), (2048, 30), (4096, 15)):
         for bits, film in ((8, "noisy"), (12, "noisy"), (12, "calm")):
             took = best(picture(sys.argv[1], side, bits, film), rounds)
-            print(side, bits, film, took / side / side, flush=True)
+            print(side, bits, film, "enhance", took / side / side, flush=True)
 
 
 if __name__ == "__main__":

@@ -1,5 +1,5 @@
 #!/usr/bin/env bash
-# Holds raw PGM as we read and write it to Netpbm's own tools, where they are installed (docs/NETPBM.md).
+# Holds raw and plain PGM as we read and write them to Netpbm's own tools, where they are installed (docs/NETPBM.md).
 # Builds the command line first, whose writer is the proved one. Last line: 'netpbm: N files agree, ..', or what does not agree and exit status 1.
 set -euo pipefail
 cd "$(dirname "$0")/.."
@@ -44,9 +44,10 @@ for command, data in stored.items():
         print("netpbm: these tools make other bytes by: %s" % command)
     behind = printed.split(command + "\n", 1)[1]
     if not behind.startswith("refused"):
-        text, last = behind.split("written again: ", 1)
+        text, last = behind.split("written ", 1)
         agree("outside's text of: " + command, text, tool("pamtopnm -plain", data).decode())
-        agree("outside's bytes of: " + command, last.split("\n", 1)[0], "the same bytes")
+        raw = " ".join(str(n) for n in tool("pamtopnm", data))
+        agree("outside's bytes of: " + command, last.split("\n", 1)[0], "raw: " + raw if data[:2] == b"P2" else "again: the same bytes")
         agreed -= 1
 
 # 2. Files that the second program's writer makes: Netpbm reads the same film, and writes the same bytes. `pamtopnm` would turn maxval 1 into
@@ -92,5 +93,38 @@ for width, height in [(2, 2), (64, 48), (34, 18), (4096, 2), (2, 4096), (300, 20
         agreed -= 1
         proved += 1
 
-print("netpbm: %d files agree, %d of them by the proved writer" % (agreed, proved))
+# 5. Plain files: what the second program's writer makes, Netpbm makes the raw file of, to the byte; and of the plain text that Netpbm makes of
+# that raw file the second program's reader finds the film.
+for width, height in sizes:
+    for maxval in (1, 15, 254, 255, 256, 1000, 4094, 4095):
+        picture = []
+        for _ in range(width * height):
+            seed = (seed * 1103515245 + 12345) % 2147483648
+            picture.append(seed // 65536 % (maxval + 1))
+        out = bytearray(18 + 5 * width * height)
+        _, count = pgm.write_plain(picture, width, height, maxval, out)
+        plain = bytes(out[:count])
+        _, count = pgm.write(picture, width, height, maxval, out)
+        raw = bytes(out[:count])
+        name = "the second program's plain file %d by %d, maxval %d" % (width, height, maxval)
+        agree(name, raw, tool("pgmtopgm", plain))
+        target = [0] * (width * height)
+        found = pgm.read_plain(tool("pgmtopgm -plain", raw), target)
+        agree(name + ", read", (("ok", width, height, maxval), picture), (found, target))
+        agreed -= 1
+
+# 6. The same of the proved writer and reader, by the command line: `plain` makes what Netpbm makes the raw file of, to the byte, and `raw` makes the
+# raw file of what Netpbm makes plain of it, to the byte.
+for width, height in [(1, 1), (64, 48), (34, 18), (4096, 2), (2, 4096), (300, 200)]:
+    for maxval in (1, 15, 254, 255, 256, 1000, 4094, 4095):
+        film = tool("pgmnoise -randomseed=%d -maxval=%d %d %d" % (width + maxval, maxval, width, height))
+        name = "the proved plain file %d by %d, maxval %d" % (width, height, maxval)
+        plain = tool("target/station/tzofnadir plain - -", film)
+        agree(name, tool("pgmtopgm", plain), film)
+        agree(name + ", and back", tool("target/station/tzofnadir raw - -", plain), film)
+        agree(name + ", of Netpbm's", tool("target/station/tzofnadir raw - -", tool("pgmtopgm -plain", film)), film)
+        agreed -= 2
+        proved += 1
+
+print("netpbm: %d files agree, %d of them by the proved writers" % (agreed, proved))
 END

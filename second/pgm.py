@@ -1,7 +1,9 @@
-"""Read and write of raw PGM: a second reading of document 01.
+"""Read and write of raw and plain PGM: a second reading of document 01, and
+of order 9 in document 02.
 
-A quoted sentence in a comment is document 01's own.  An answer is a whole
-number (the refusal), or what each function states.
+A quoted sentence in a comment is document 01's own, and order 9's where the
+function is one of plain files.  An answer is a whole number (the refusal), or
+what each function states.
 """
 
 # "White space is space, tab, CR, LF."
@@ -10,16 +12,19 @@ HASH = 35
 DIGITS = range(48, 58)
 
 
-def header(data):
+def header(data, kind=b"5"):
     """20: "header not "P5", then three numbers of 1 to 5 digits, each after
     one or more white space bytes, and exactly one white space byte at the
     end".  "Read: header bytes from the front, where, behind `P5`, a `#`
     instead of white space or a digit is 21 and any other misfit, or the end
     of input, is 20".  "Leading zeros count as digits."
 
+    Order 9: "the second reader gives 20 (with P2) to 23 as 01 does": kind is
+    the second byte.
+
     Hands back ('ok', width, height, maxval, start of the raster), or 20 or
     21."""
-    if data[0:1] != b"P" or data[1:2] != b"5":
+    if data[0:1] != b"P" or data[1:2] != kind:
         return 20
     at = 2
 
@@ -133,11 +138,10 @@ def greys(data, start, width, height, maxval, target):
     return 0
 
 
-def write(picture, width, height, maxval, out):
-    """"The writer lays down `P5`, LF, width, space, height, LF, maxval, LF, no
-    leading zeros, and the raster is written straight behind the header bytes
-    already laid down."  "Write: 22, 23, 2, 26, 27."  "Write: returns the byte
-    count; bytes behind it keep their contents."
+def laid_down(picture, width, height, maxval, out, file_bytes):
+    """"Write: 22, 23, 2, 26, 27."  "Write: returns the byte count; bytes
+    behind it keep their contents."  file_bytes gives the file's bytes of a
+    picture that is in order.
 
     Answers ('ok', byte count), or the refusal."""
     refusal = refusal_22_23(width, height, maxval)
@@ -150,14 +154,100 @@ def write(picture, width, height, maxval, out):
     for grey in picture:
         if grey > maxval:
             return 26
-    laid = list(b"P5\n%d %d\n%d\n" % (width, height, maxval))
-    for grey in picture:
-        if sample_bytes(maxval) == 2:
-            laid.append(grey // 256)
-        laid.append(grey % 256)
+    laid = file_bytes()
     # 27: "the caller's target too short"
     if len(out) < len(laid):
         return 27
     for i, byte in enumerate(laid):
         out[i] = byte
     return "ok", len(laid)
+
+
+def write(picture, width, height, maxval, out):
+    """"The writer lays down `P5`, LF, width, space, height, LF, maxval, LF, no
+    leading zeros, and the raster is written straight behind the header bytes
+    already laid down."  Answers as laid_down."""
+    def file_bytes():
+        laid = list(b"P5\n%d %d\n%d\n" % (width, height, maxval))
+        for grey in picture:
+            if sample_bytes(maxval) == 2:
+                laid.append(grey // 256)
+            laid.append(grey % 256)
+        return laid
+    return laid_down(picture, width, height, maxval, out, file_bytes)
+
+
+def plain_sizes(data):
+    """"20 (with P2) to 23 as 01 does": ('ok', width, height, maxval), or the
+    refusal.  No sample is looked at."""
+    found = header(data, b"2")
+    if isinstance(found, int):
+        return found
+    _, width, height, maxval, _ = found
+    return refusal_22_23(width, height, maxval) or found[:4]
+
+
+def sample(data, at, maxval):
+    """The sample from a place on, behind white space: ('ok', its value, the
+    place behind it), or 24 or 26."""
+    # "numbers parted by white space"
+    while at < len(data) and data[at] in WHITE:
+        at += 1
+    # a sample is "all bytes up to white space or the end"
+    value = 0
+    count = 0
+    digits = True
+    while at < len(data) and data[at] not in WHITE:
+        digits = digits and data[at] in DIGITS
+        value = value * 10 + (data[at] - 48)
+        count += 1
+        at += 1
+    # "missing or not 1 to 5 digits (24)"
+    if count == 0 or count > 5 or not digits:
+        return 24
+    # "or above maxval (26)"
+    if value > maxval:
+        return 26
+    return "ok", value, at
+
+
+def read_plain(data, target):
+    """"the second reader gives 20 (with P2) to 23 as 01 does, then 27, then 24
+    or 26 at the first sample [...], then 25".  Answers ('ok', width, height,
+    maxval) with the greys at the target's front, or the refusal."""
+    found = header(data, b"2")
+    if isinstance(found, int):
+        return found
+    _, width, height, maxval, at = found
+    refusal = refusal_22_23(width, height, maxval)
+    if refusal:
+        return refusal
+    # 27: "the caller's target too short"
+    if len(target) < width * height:
+        return 27
+    greys_read = []
+    for _ in range(width * height):
+        answer = sample(data, at, maxval)
+        if isinstance(answer, int):
+            return answer
+        _, value, at = answer
+        greys_read.append(value)
+    # "nothing but white space behind the last sample", else 25
+    while at < len(data):
+        if data[at] not in WHITE:
+            return 25
+        at += 1
+    for i, grey in enumerate(greys_read):
+        target[i] = grey
+    return found[:4]
+
+
+def write_plain(picture, width, height, maxval, out):
+    """"Write P2 with our three header lines and then one sample and LF per
+    line; refusals as for write."  Answers as laid_down."""
+    def file_bytes():
+        laid = list(b"P2\n%d %d\n%d\n" % (width, height, maxval))
+        for grey in picture:
+            laid.extend(b"%d\n" % grey)
+        return laid
+    return laid_down(picture, width, height, maxval, out, file_bytes)

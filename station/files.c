@@ -10,12 +10,16 @@
 
 /* ---- bytes in ---- */
 
+int is_plain(const struct input *in) { return in->bytes != NULL && in->len >= 2 && in->bytes[0] == 'P' && in->bytes[1] == '2'; }
+
+size_t bound_of(const struct input *in) { return is_plain(in) ? MOST_PLAIN_BYTES : MOST_BYTES; }
+
 /* Doubles the room, up to one byte above the bound: that byte tells that there is more. */
 static int grow(struct input *in, size_t *room)
 {
     size_t wanted = *room == 0 ? 65536 : *room * 2;
-    if (wanted > MOST_BYTES + 1)
-        wanted = MOST_BYTES + 1;
+    if (wanted > bound_of(in) + 1)
+        wanted = bound_of(in) + 1;
     uint8_t *bigger = realloc(in->bytes, wanted);
     if (bigger == NULL)
         return 0;
@@ -27,7 +31,7 @@ static int grow(struct input *in, size_t *room)
 static int read_to_end(int from, const char *name, struct input *in)
 {
     size_t room = 0;
-    while (in->len <= MOST_BYTES) {
+    while (in->len <= bound_of(in)) {
         if (in->len == room && !grow(in, &room))
             return no_memory();
         ssize_t got = read(from, in->bytes + in->len, room - in->len);

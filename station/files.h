@@ -9,14 +9,20 @@
 #include "tzofnadir.h"
 
 /* The largest film at two bytes a sample, and 64 KiB of header. White space in a header may be of any length, so
-   some bound has to be drawn; an input above it is not read further. */
+   some bound has to be drawn; an input above it is not read further. In text a sample has up to six bytes, four digits,
+   CR and LF. */
 #define MOST_BYTES ((size_t)2 * TZ_MOST_SIDE * TZ_MOST_SIDE + 65536)
+#define MOST_PLAIN_BYTES ((size_t)6 * TZ_MOST_SIDE * TZ_MOST_SIDE + 65536)
 
 struct input {
     uint8_t *bytes; /* to be freed */
     size_t len;
-    int cut; /* it goes on behind MOST_BYTES */
+    int cut; /* it goes on behind its bound */
 };
+
+/* By its first two bytes: a plain PGM, "P2"; and how much of it is read at the most. */
+int is_plain(const struct input *in);
+size_t bound_of(const struct input *in);
 
 /* The functions below that return a status return 0, or that of a message. */
 

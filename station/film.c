@@ -32,14 +32,31 @@ static int settled(uint32_t refusal)
     return refusal == TZ_COMMENT || refusal == TZ_FILE_SIZE || refusal == TZ_MAXVAL || refusal == TZ_RASTER_LONG;
 }
 
+/* The greys: of a raw file from its raster on, of a plain one from its text. */
 static int read_greys(struct run *run, size_t start)
 {
     run->pixels = (size_t)run->sizes.width * run->sizes.height;
     run->picture = calloc(run->pixels, sizeof *run->picture);
     if (run->picture == NULL)
         return no_memory();
-    uint32_t refusal = tzofnadir_read_greys(run->input.bytes, run->input.len, start, &run->sizes, run->picture, run->pixels);
+    uint32_t refusal = is_plain(&run->input)
+                           ? tzofnadir_read_plain(run->input.bytes, run->input.len, &run->sizes, run->picture, run->pixels)
+                           : tzofnadir_read_greys(run->input.bytes, run->input.len, start, &run->sizes, run->picture, run->pixels);
     return refusal == TZ_DONE ? 0 : refuse(refusal, run);
+}
+
+/* The film as bytes: its raster as it lies in the file, or its greys, none of which is above 255. */
+static int as_bytes(struct run *run, size_t start)
+{
+    run->film = run->input.bytes + start;
+    if (!is_plain(&run->input))
+        return 0;
+    run->film = run->narrow = malloc(run->pixels);
+    if (run->narrow == NULL)
+        return no_memory();
+    for (size_t i = 0; i < run->pixels; i++)
+        run->narrow[i] = (uint8_t)run->picture[i];
+    return 0;
 }
 
 static int fetch(struct run *run)
@@ -51,6 +68,7 @@ static int fetch(struct run *run)
     return code;
 }
 
+/* Raw or plain, by the file's second byte. Of a plain one this looks at the header alone. */
 static int read_film(struct run *run)
 {
     tz_part part = {0, 0};
@@ -58,25 +76,25 @@ static int read_film(struct run *run)
     int code = fetch(run);
     if (code != 0)
         return code;
-    uint32_t refusal = tzofnadir_read_sizes(run->input.bytes, run->input.len, &run->sizes);
+    int plain = is_plain(&run->input);
+    uint32_t refusal = plain ? tzofnadir_plain_sizes(run->input.bytes, run->input.len, &run->sizes)
+                             : tzofnadir_read_sizes(run->input.bytes, run->input.len, &run->sizes);
     if (run->input.cut && !settled(refusal))
         return too_long(run);
     if (refusal == TZ_DONE && bytes && run->sizes.maxval > 255)
         return bad_words("--bytes takes a film of one byte a sample, of maxval 255 at most, and no other", input_name(run->task.in));
-    if (refusal == TZ_DONE)
+    if (refusal == TZ_DONE && !plain)
         refusal = tzofnadir_read_raster(run->input.bytes, run->input.len, &part);
     if (refusal != TZ_DONE)
         return refuse(refusal, run);
     code = read_greys(run, part.start);
-    if (bytes)
-        run->film = run->input.bytes + part.start;
-    return code;
+    return code == 0 && bytes ? as_bytes(run, part.start) : code;
 }
 
 /* The greys are all that is needed of the input from here on, unless its bytes are the film. */
 static void drop_input(struct run *run)
 {
-    if (run->film != NULL)
+    if (run->film != NULL && run->narrow == NULL)
         return;
     free(run->input.bytes);
     run->input.bytes = NULL;
@@ -309,6 +327,46 @@ static int window(struct run *run)
     return refusal == TZ_DONE ? write_film(run, run->drawn, &sizes) : refuse(refusal, run);
 }
 
+/* ---- the other form ---- */
+
+static const char *form(int plain) { return plain ? "plain" : "raw"; }
+
+/* Of several films behind each one's name. */
+static void tell_move(const struct run *run, int was_plain, int plain)
+{
+    int named = (run->job->given & INTO) != 0;
+    tell("%s%s%u by %u pixels, maxval %u, %s to %s", named ? run->task.in : "", named ? ": " : "",
+         (unsigned)run->sizes.width, (unsigned)run->sizes.height, (unsigned)run->sizes.maxval, form(was_plain), form(plain));
+}
+
+/* The film as it is, in the form that the command names. */
+static int move(struct run *run)
+{
+    int plain = run->job->command == PLAIN;
+    size_t count = 0;
+    if (ends_in(run->task.out, ".png"))
+        return bad_words("what is written is a PGM, and this name is a PNG's", run->task.out);
+    int code = read_film(run);
+    if (code != 0)
+        return code;
+    int was_plain = is_plain(&run->input);
+    drop_input(run);
+    doing(run, "writing");
+    size_t room = plain ? tz_plain_bytes(run->sizes.width, run->sizes.height)
+                        : tz_write_bytes(run->sizes.width, run->sizes.height);
+    run->file = malloc(room);
+    if (run->file == NULL)
+        return no_memory();
+    uint32_t refusal = plain ? tzofnadir_write_plain(run->picture, run->pixels, &run->sizes, run->file, room, &count)
+                             : tzofnadir_write(run->picture, run->pixels, &run->sizes, run->file, room, &count);
+    if (refusal != TZ_DONE)
+        return refuse(refusal, run);
+    code = put_film(run, &run->sizes, count);
+    if (code == 0)
+        tell_move(run, was_plain, plain);
+    return code;
+}
+
 /* ---- what is printed of a film ---- */
 
 /* The number of a listing that says `refused`, tab, number; else 0. */
@@ -398,6 +456,7 @@ static void let_go(struct run *run)
     free(run->byte_map);
     free(run->scratch);
     free(run->looks);
+    free(run->narrow);
     free(run->drawn);
     free(run->byte_drawn);
     free(run->file);
@@ -407,7 +466,7 @@ static void let_go(struct run *run)
 int run_film(const struct job *job, const struct task *task)
 {
     static int (*const commands[])(struct run *) = {
-        [ENHANCE] = enhance, [WINDOW] = window, [LISTING] = listing, [INFO] = info};
+        [ENHANCE] = enhance, [WINDOW] = window, [LISTING] = listing, [INFO] = info, [RAW] = move, [PLAIN] = move};
     struct run run = {.job = job, .task = *task, .settings = job->settings};
     int code = commands[job->command](&run);
     end_progress();

@@ -78,10 +78,11 @@ static int say_failed(const struct job *job, const struct task *tasks, int count
         failed += codes[i] != 0;
         worst = codes[i] > worst ? codes[i] : worst;
     }
+    const char *done = is_move(job) ? "written" : "rendered";
     if (failed == 0)
-        tell("%d %s rendered into %s", count, count == 1 ? "film" : "films", job->into);
+        tell("%d %s %s into %s", count, count == 1 ? "film" : "films", done, job->into);
     else
-        say("%d of %d films were not rendered:", failed, count);
+        say("%d of %d films were not %s:", failed, count, done);
     for (int i = 0; i < count; i++)
         if (codes[i] != 0)
             say_more("%s (status %d)", tasks[i].in, codes[i]);
@@ -108,7 +109,7 @@ int run_films(const struct job *job)
     if (code == 0)
         tasks = tasks_of(job, &films);
     if (code == 0)
-        code = tasks == NULL ? no_memory() : guard(tasks, films.count, job->given);
+        code = tasks == NULL ? no_memory() : guard(tasks, films.count, job);
     if (code == 0)
         code = make_folder(job->into);
     if (code == 0)

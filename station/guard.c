@@ -60,12 +60,12 @@ static int over_scan(const char *what, const char *name, unsigned given)
     return BAD_WORDS;
 }
 
-static int check_scans(const struct task *task, const struct inputs *inputs, unsigned given)
+static int check_scans(const struct task *task, const struct inputs *inputs, const struct job *job)
 {
     if (is_input(inputs, task->out))
-        return over_scan("rendering", task->out, given);
+        return over_scan(is_move(job) ? "new film" : "rendering", task->out, job->given);
     if (task->record != NULL && is_input(inputs, task->record))
-        return over_scan("record", task->record, given);
+        return over_scan("record", task->record, job->given);
     if (task->record != NULL && same_place(task->record, task->out))
         return bad_words("the record would take the rendering's place", task->record);
     return 0;
@@ -80,44 +80,44 @@ static int is_taken(const char *name)
     return stat(name, &behind) != 0 || S_ISREG(behind.st_mode);
 }
 
-static int name_taken(const char *name, int before)
+static int name_taken(const char *name, int before, const struct job *job)
 {
     if (!is_taken(name))
         return 0;
     if (before == 0)
-        say("nothing was rendered, as what is there already is not replaced:");
+        say("nothing was %s, as what is there already is not replaced:", is_move(job) ? "written" : "rendered");
     if (before < MOST_NAMED)
         say_more("%s", name);
     return 1;
 }
 
 /* What is there may be a scan, as where a glob that was meant for one film found two: that is told before --force is. */
-static int check_taken(const struct task *tasks, int count, unsigned given)
+static int check_taken(const struct task *tasks, int count, const struct job *job)
 {
     int taken = 0;
     for (int i = 0; i < count; i++) {
-        taken += name_taken(tasks[i].out, taken);
-        taken += name_taken(tasks[i].record, taken);
+        taken += name_taken(tasks[i].out, taken, job);
+        taken += name_taken(tasks[i].record, taken, job);
     }
     if (taken == 0)
         return 0;
     if (taken > MOST_NAMED)
         say_more("and %d more", taken - MOST_NAMED);
     say_more("%sGive another %s, or, where %s, say --force to have %s replaced.",
-             (given & INTO) != 0 ? "" : "Several films want --into FOLDER. ", another(given),
+             (job->given & INTO) != 0 ? "" : "Several films want --into FOLDER. ", another(job->given),
              taken == 1 ? "this is no scan" : "none of them is a scan", taken == 1 ? "it" : "them");
     return BAD_WORDS;
 }
 
-int guard(const struct task *tasks, int count, unsigned given)
+int guard(const struct task *tasks, int count, const struct job *job)
 {
     struct inputs inputs;
     int code = know_inputs(tasks, count, &inputs);
     for (int i = 0; i < count && code == 0; i++)
-        code = tasks[i].out == NULL ? 0 : check_scans(&tasks[i], &inputs, given);
+        code = tasks[i].out == NULL ? 0 : check_scans(&tasks[i], &inputs, job);
     free(inputs.at);
-    if (code == 0 && (given & FORCE) == 0)
-        code = check_taken(tasks, count, given);
+    if (code == 0 && (job->given & FORCE) == 0)
+        code = check_taken(tasks, count, job);
     return code;
 }
 

@@ -133,7 +133,7 @@ static int take_list(const char *name, struct films *films, struct reading *read
         return code;
     code = read_input(name, &list);
     if (code == 0 && list.cut) {
-        say("the list %s is longer than %zu bytes: not read further", name, MOST_BYTES);
+        say("the list %s is longer than %zu bytes: not read further", name, bound_of(&list));
         code = TOO_LONG;
     }
     char *text = code != 0 ? NULL : realloc(list.bytes, list.len + 1);
@@ -176,7 +176,7 @@ static int by_last_part(const void *a, const void *b)
 static int check_film(const struct job *job, const char *name)
 {
     if (is_dash(name))
-        return bad_words("standard input has no name that --into could give its rendering", "");
+        return bad_words("standard input has no name that --into could give its film", "");
     if ((job->given & RECORDS) != 0 && ends_in(name, ".json"))
         return bad_words("with --records a film's name must not end in .json", name);
     return 0;

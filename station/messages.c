@@ -103,7 +103,7 @@ int fault(int status, const char *doing, const char *name)
     int full = errno == ENOSPC || errno == EDQUOT;
     say("%s %s: %s", doing, name, strerror(errno));
     if (full)
-        say_more("Make room there, and render the film again.");
+        say_more("Make room there, and give the same words again.");
     return status;
 }
 

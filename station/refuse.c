@@ -3,94 +3,8 @@
 #include <stdio.h>
 #include <string.h>
 
+#include "front.h"
 #include "messages.h"
-
-/* ---- the file's front, read once more for a person ---- */
-
-/* What a header says, as far as it can be read, comments passed over. Messages alone hang on it. */
-struct front {
-    uint32_t width, height, maxval;
-    int numbers;   /* how many of the three are there */
-    size_t raster; /* where the raster starts */
-    size_t bytes;  /* and how many bytes it should have */
-};
-
-static int is_white(uint8_t byte) { return byte == ' ' || byte == '\t' || byte == '\r' || byte == '\n'; }
-
-static int is_digit(uint8_t byte) { return byte >= '0' && byte <= '9'; }
-
-/* Behind white space and comments. */
-static size_t behind_gap(const struct input *in, size_t at)
-{
-    while (at < in->len && (is_white(in->bytes[at]) || in->bytes[at] == '#')) {
-        if (in->bytes[at] == '#')
-            while (at + 1 < in->len && in->bytes[at + 1] != '\n')
-                at++;
-        at++;
-    }
-    return at;
-}
-
-/* A number of up to nine digits at a place, and the place behind it; the same place where there is none. */
-static size_t number_at(const struct input *in, size_t at, uint32_t *out)
-{
-    uint32_t sum = 0;
-    size_t first = at;
-    for (; at < in->len && at < first + 9 && is_digit(in->bytes[at]); at++)
-        sum = sum * 10 + (uint32_t)(in->bytes[at] - '0');
-    *out = sum;
-    return at;
-}
-
-static struct front front_of(const struct input *in)
-{
-    struct front f = {0, 0, 0, 0, 2, 0};
-    uint32_t *const places[3] = {&f.width, &f.height, &f.maxval};
-    while (f.numbers < 3) {
-        size_t from = behind_gap(in, f.raster);
-        size_t to = number_at(in, from, places[f.numbers]);
-        f.raster = to;
-        if (to == from)
-            return f;
-        f.numbers++;
-    }
-    f.raster = f.raster < in->len ? f.raster + 1 : in->len;
-    f.bytes = (size_t)f.width * f.height * (f.maxval < 256 ? 1 : 2);
-    return f;
-}
-
-static uint32_t sample(const struct input *in, const struct front *f, size_t i)
-{
-    const uint8_t *at = in->bytes + f->raster;
-    return f->maxval < 256 ? at[i] : (uint32_t)at[2 * i] * 256 + at[2 * i + 1];
-}
-
-/* The samples that are there, of those that should be. */
-static size_t samples(const struct input *in, const struct front *f)
-{
-    size_t there = in->len - f->raster;
-    return (there < f->bytes ? there : f->bytes) / (f->maxval < 256 ? 1 : 2);
-}
-
-static uint32_t greatest_sample(const struct input *in, const struct front *f)
-{
-    uint32_t greatest = 0;
-    size_t count = samples(in, f);
-    for (size_t i = 0; i < count; i++)
-        if (sample(in, f, i) > greatest)
-            greatest = sample(in, f, i);
-    return greatest;
-}
-
-static uint32_t least_sample(const struct input *in, const struct front *f)
-{
-    uint32_t least = 65535;
-    size_t count = samples(in, f);
-    for (size_t i = 0; i < count; i++)
-        if (sample(in, f, i) < least)
-            least = sample(in, f, i);
-    return least;
-}
 
 /* ---- ways out ---- */
 
@@ -101,11 +15,18 @@ static const char *shell_name(const char *name)
     return name[0] != '-' && name[0] != '\0' && name[strspn(name, plain)] == '\0' ? name : "IN.pgm";
 }
 
-/* The same raster behind another header. */
+/* The same samples behind another header: of a raw file its last bytes, of a plain one all that stands behind maxval. */
 static void way_by_header(const struct run *run, const struct front *f, uint32_t maxval)
 {
-    say_more("A new header alone does it: { printf 'P5\\n%u %u\\n%u\\n'; tail -c %zu %s; } >NEW.pgm", (unsigned)f->width,
-             (unsigned)f->height, (unsigned)maxval, f->bytes, shell_name(run->task.in));
+    say_more("A new header alone does it: { printf 'P%c\\n%u %u\\n%u\\n'; tail -c %s%zu %s; } >NEW.pgm", f->plain ? '2' : '5',
+             (unsigned)f->width, (unsigned)f->height, (unsigned)maxval, f->plain ? "+" : "",
+             f->plain ? f->raster + 1 : f->bytes, shell_name(run->task.in));
+}
+
+/* A comment in text goes up to its line's end. */
+static void way_without_comments(const struct run *run)
+{
+    say_more("Comments are taken out by: sed 's/#.*//' %s >NEW.pgm", shell_name(run->task.in));
 }
 
 /* What takes films as they come: other formats and other depths. */
@@ -216,7 +137,7 @@ static const struct kind {
     size_t length;
     const char *what, *by, *and_then;
 } kinds[] = {
-    {"P2", 2, "a plain PGM (P2), its numbers in text", BY_IMPORT},
+    {"P2", 2, "a plain PGM (P2), its numbers in text", "tzofnadir raw ", " NEW.pgm"}, /* all but the listing read it */
     {"P1", 2, "a plain bitmap (P1), black and white alone", BY_IMPORT},
     {"P4", 2, "a bitmap (P4), black and white alone", BY_IMPORT},
     {"P3", 2, "a plain PPM (P3), in colour", "ppmtopgm ", " >NEW.pgm"},
@@ -252,22 +173,23 @@ static void say_other(const struct run *run)
 static void say_broken(const struct input *in)
 {
     struct front f = front_of(in);
-    say_more("It begins with P5, and behind %d of its three numbers the header %s, at byte %zu.", f.numbers,
-             f.raster >= in->len ? "ends" : "breaks off", f.raster);
+    say_more("It begins with P%c, and behind %d of its three numbers the header %s, at byte %zu.", f.plain ? '2' : '5',
+             f.numbers, f.raster >= in->len ? "ends" : "breaks off", f.raster);
     say_more("Due are width, height and maxval, of up to five digits, each behind white space, and one white space byte.");
 }
 
 static void more_header(const struct run *run)
 {
     const struct input *in = &run->input;
-    for (unsigned i = 0; i < sizeof kinds / sizeof kinds[0]; i++)
+    int broken = is_plain(in) && run->job->command != LISTING;
+    for (unsigned i = 0; i < sizeof kinds / sizeof kinds[0] && !broken; i++)
         if (in->len >= kinds[i].length && memcmp(in->bytes, kinds[i].begins, kinds[i].length) == 0) {
             say_kind(run, &kinds[i]);
             return;
         }
     if (in->len == 0)
         say_more("It is empty.");
-    else if (in->len >= 2 && memcmp(in->bytes, "P5", 2) == 0)
+    else if (broken || (in->len >= 2 && memcmp(in->bytes, "P5", 2) == 0))
         say_broken(in);
     else
         say_other(run);
@@ -278,7 +200,9 @@ static void more_comment(const struct run *run)
     struct front f = front_of(&run->input);
     uint32_t maxval = f.maxval < TZ_MOST_GREY ? f.maxval : TZ_MOST_GREY;
     way_by_import(run, "makes the same film without one.");
-    if (f.numbers == 3 && maxval > 0 && run->input.len - f.raster == f.bytes && greatest_sample(&run->input, &f) <= maxval)
+    if (f.plain)
+        way_without_comments(run);
+    else if (f.numbers == 3 && maxval > 0 && run->input.len - f.raster == f.bytes && greatest_sample(&run->input, &f) <= maxval)
         way_by_header(run, &f, maxval);
 }
 
@@ -303,7 +227,7 @@ static void more_maxval(const struct run *run)
     uint32_t greatest = greatest_sample(&run->input, &f);
     say_more("The file's maxval is %u, and its greatest sample %u; maxvals of 1 to %u are taken.", (unsigned)f.maxval,
              (unsigned)greatest, TZ_MOST_GREY);
-    if (f.maxval > TZ_MOST_GREY && greatest <= TZ_MOST_GREY)
+    if (f.maxval > TZ_MOST_GREY && greatest <= TZ_MOST_GREY && in_order(&run->input, &f))
         way_by_header(run, &f, TZ_MOST_GREY);
     else if (f.maxval > TZ_MOST_GREY && greatest - least_sample(&run->input, &f) <= TZ_MOST_GREY)
         way_by_import(run, "keeps every grey, less the least of them.");
@@ -311,30 +235,86 @@ static void more_maxval(const struct run *run)
         way_by_import(run, "takes an even step of greys for one, and says how many became one.");
 }
 
+/* Up to 20 bytes of a sample in text, and two dots where there are more; a 0 as messages show what steers a terminal. */
+static void show_sample(const struct walk *w, char text[96])
+{
+    size_t used = 0, at = w->from;
+    for (; at < w->to && at < w->from + 20; at++)
+        used += (size_t)snprintf(text + used, 96 - used, w->in->bytes[at] == 0 ? "\\000" : "%c", w->in->bytes[at]);
+    snprintf(text + used, 96 - used, "%s", at < w->to ? ".." : "");
+}
+
+/* In text the file ends too early, or a sample is no number; the first one decides. */
+static void more_plain(const struct run *run, const struct front *f)
+{
+    char text[96];
+    struct walk w = walk_over(&run->input, f);
+    while (next_sample(&w) && w.good)
+        ;
+    if (w.good) {
+        say_more("The header says %u by %u pixels; behind it stand %zu samples.", (unsigned)f->width, (unsigned)f->height,
+                 w.which);
+        return;
+    }
+    show_sample(&w, text);
+    say_more("At column %u, row %u, which is byte %zu, stands no number of 1 to 5 digits: %s", (unsigned)(w.which % f->width),
+             (unsigned)(w.which / f->width), w.from, text);
+    if (memchr(run->input.bytes + w.from, '#', w.to - w.from) != NULL)
+        way_without_comments(run);
+}
+
+/* In text, behind the last sample. */
+static void more_behind(const struct run *run, const struct front *f)
+{
+    struct walk w = walk_over(&run->input, f);
+    while (next_sample(&w))
+        ;
+    say_more("The header says %u by %u pixels; the last of these %zu samples ends at byte %zu, and more than white space follows.",
+             (unsigned)f->width, (unsigned)f->height, f->count, w.to);
+}
+
 static void more_raster(const struct run *run)
 {
     struct front f = front_of(&run->input);
-    if (f.numbers == 3 && run->input.cut)
-        say_more("The header says %u by %u pixels of %s, %zu bytes; behind it stand more than %zu.", (unsigned)f.width,
-                 (unsigned)f.height, f.maxval < 256 ? "one byte" : "two bytes", f.bytes, run->input.len - f.raster);
-    else if (f.numbers == 3)
-        say_more("The header says %u by %u pixels of %s, %zu bytes; behind it stand %zu.", (unsigned)f.width,
-                 (unsigned)f.height, f.maxval < 256 ? "one byte" : "two bytes", f.bytes, run->input.len - f.raster);
+    if (f.numbers < 3)
+        return;
+    size_t there = run->input.len - f.raster;
+    say_more("The header says %u by %u pixels of %s, %zu bytes; behind it stand %s%zu.", (unsigned)f.width, (unsigned)f.height,
+             f.maxval < 256 ? "one byte" : "two bytes", f.bytes, run->input.cut ? "more than " : "", there);
+}
+
+static void more_short(const struct run *run)
+{
+    struct front f = front_of(&run->input);
+    if (f.plain)
+        more_plain(run, &f);
+    else
+        more_raster(run);
+}
+
+static void more_long(const struct run *run)
+{
+    struct front f = front_of(&run->input);
+    if (f.plain)
+        more_behind(run, &f);
+    else
+        more_raster(run);
 }
 
 static void more_sample(const struct run *run)
 {
     struct front f = front_of(&run->input);
-    size_t count = samples(&run->input, &f), at = 0;
-    while (at < count && sample(&run->input, &f, at) <= f.maxval)
-        at++;
-    if (f.numbers < 3 || at == count)
+    struct walk w = walk_over(&run->input, &f);
+    int found = 0;
+    while (!found && next_sample(&w))
+        found = w.good && w.grey > f.maxval;
+    if (!found)
         return;
     uint32_t greatest = greatest_sample(&run->input, &f);
     say_more("The file's maxval is %u. The first above it is at column %u, row %u: %u; the greatest is %u.",
-             (unsigned)f.maxval, (unsigned)(at % f.width), (unsigned)(at / f.width),
-             (unsigned)sample(&run->input, &f, at), (unsigned)greatest);
-    if (greatest <= TZ_MOST_GREY)
+             (unsigned)f.maxval, (unsigned)(w.which % f.width), (unsigned)(w.which / f.width), (unsigned)w.grey,
+             (unsigned)greatest);
+    if (greatest <= TZ_MOST_GREY && in_order(&run->input, &f))
         way_by_header(run, &f, greatest);
 }
 
@@ -350,7 +330,7 @@ static more_function more_of(uint32_t refusal)
         [TZ_HEIGHT_SHORT] = more_sides,  [TZ_RANGE_MAX] = more_range,    [TZ_RANGE_MIN] = more_range,
         [TZ_PIXEL_OUTSIDE] = more_pixel, [TZ_WINDOW] = more_window,      [TZ_HEADER] = more_header,
         [TZ_COMMENT] = more_comment,     [TZ_FILE_SIZE] = more_size,     [TZ_MAXVAL] = more_maxval,
-        [TZ_RASTER_SHORT] = more_raster, [TZ_RASTER_LONG] = more_raster, [TZ_SAMPLE] = more_sample,
+        [TZ_RASTER_SHORT] = more_short,  [TZ_RASTER_LONG] = more_long,   [TZ_SAMPLE] = more_sample,
         [TZ_BINS_UNREACHED] = more_bins, [TZ_PROFILE] = more_profile,
     };
     more_function found = refusal < sizeof more / sizeof more[0] ? more[refusal] : NULL;
@@ -389,7 +369,7 @@ int refuse_rendering(const struct run *run)
 
 int too_long(const struct run *run)
 {
-    say("%s is longer than %zu bytes, the largest film and 64 KiB of header: not read further", input_name(run->task.in),
-        MOST_BYTES);
+    say("%s is longer than %zu bytes, the largest %sfilm and 64 KiB of header: not read further", input_name(run->task.in),
+        bound_of(&run->input), is_plain(&run->input) ? "plain " : "");
     return TOO_LONG;
 }

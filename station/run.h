@@ -30,7 +30,8 @@ struct run {
     uint16_t *picture; /* the film's greys, and then the rendering */
     size_t pixels;
     struct greys seen; /* of the film, before it is rendered */
-    uint8_t *film; /* with --bytes, the film as bytes: its raster, inside the input */
+    uint8_t *film; /* with --bytes, the film as bytes: its raster, inside the input, or */
+    uint8_t *narrow; /* those of a plain file, whose raster is text */
     uint16_t *map;
     uint8_t *byte_map;
     uint32_t *scratch;

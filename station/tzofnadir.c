@@ -8,7 +8,7 @@
  *   film.c                      one film through the calls
  *   guard.c                     no scan is overwritten
  *   refuse.c, record.c, png.c   what is said of a film, written down of it, and made of it
- *   run.c                       what a film's run holds
+ *   run.c, front.c              what a film's run holds; a file's header and samples, read for a message
  *   outputs.c, parts.c          files put away whole
  *   files.c, places.c           bytes and names
  *   words.c, recorded.c         the command line and a record, read
@@ -53,7 +53,7 @@ int main(int argc, char **argv)
         return run_films(&job);
     struct task task = {.in = job.names[0], .out = (job.given & OUTPUT) != 0 ? job.out : job.count > 1 ? job.names[1] : NULL,
                         .record = job.record, .which = 1, .of = 1};
-    code = guard(&task, 1, job.given);
+    code = guard(&task, 1, &job);
     if (code != 0)
         return code;
     clear_beside(&task);

@@ -33,7 +33,7 @@ extern "C" {
 #endif
 
 /* The edition of this header and of the library, as in the file VERSION. */
-#define TZ_VERSION "4.8.0"
+#define TZ_VERSION "4.9.0"
 
 /* The functions with bodies are compiled into what includes this header. station/structs.c, which is a part of the library,
    says otherwise, and so they have names in it as well. */
@@ -54,6 +54,7 @@ const char *tz_version(void);
 #define TZ_MOST_BINS 4096u
 #define TZ_USUAL_BINS 128u    /* what bins 0 means */
 #define TZ_WRITE_HEADER 18u   /* the longest header that tz_write lays down: "P5\n4096 4096\n4095\n" */
+#define TZ_PLAIN_SAMPLE 5u    /* the longest sample that tz_write_plain lays down: "4095\n" */
 #define TZ_LISTING_BYTES 512u /* what tz_listing wants lent */
 
 /* ---- refusals ---- */
@@ -77,12 +78,12 @@ enum tz_refusal {
     TZ_WINDOW = 16,          /* window empty or not inside the film */
     TZ_OUTPUT_LENGTH = 17,   /* output length is not the window's area */
     TZ_MAP_OUTSIDE = 18,     /* a map entry outside Min to Max */
-    TZ_HEADER = 20,          /* not the header of a raw PGM */
+    TZ_HEADER = 20,          /* not the header of a PGM of this form, raw (P5) or plain (P2) */
     TZ_COMMENT = 21,         /* # in the header */
     TZ_FILE_SIZE = 22,       /* size as in 1, of a file */
     TZ_MAXVAL = 23,          /* maxval 0 or above 4095 */
-    TZ_RASTER_SHORT = 24,    /* raster too short */
-    TZ_RASTER_LONG = 25,     /* bytes behind the raster */
+    TZ_RASTER_SHORT = 24,    /* raster too short; of a plain PGM a sample that is missing or not 1 to 5 digits */
+    TZ_RASTER_LONG = 25,     /* bytes behind the raster; of a plain PGM others than white space */
     TZ_SAMPLE = 26,          /* a sample above maxval */
     TZ_TARGET_SHORT = 27,    /* the caller's target too short */
     TZ_PROFILE = 30,         /* a film of bytes: not grid 8 by 8, range 0 to 255, bins 64, 128 or 256, edition ours */
@@ -116,11 +117,11 @@ TZ_FUNCTION const char *tz_refusal_text(uint32_t refusal)
         "The output's length is not the window's area.",
         "An entry of the mappings lies outside the grey range.",
         "There is no refusal of this number.",
-        "The file does not begin with the header of a raw PGM.",
+        "The file does not begin with the header of a PGM of this form.",
         "The file's header holds a comment, and none is taken.",
         "The size that the file gives is 0 or above what is taken.",
         "The file's maxval is 0 or above 4095.",
-        "The file ends before its last pixel.",
+        "The file ends before its last pixel, or a sample of a plain PGM is not a number of 1 to 5 digits.",
         "The file has bytes behind its last pixel.",
         "A sample is above the file's maxval.",
         "The buffer for the result is too short.",
@@ -273,6 +274,14 @@ uint32_t tz_write(const uint16_t *picture, size_t picture_len,
                   uint32_t width, uint32_t height, uint32_t maxval,
                   uint8_t *out, size_t out_len, size_t *count);
 
+uint32_t tz_plain_sizes(const uint8_t *bytes, size_t len, uint32_t *sizes);
+
+uint32_t tz_read_plain(const uint8_t *bytes, size_t len, uint32_t *sizes, uint16_t *target, size_t target_len);
+
+uint32_t tz_write_plain(const uint16_t *picture, size_t picture_len,
+                        uint32_t width, uint32_t height, uint32_t maxval,
+                        uint8_t *out, size_t out_len, size_t *count);
+
 uint32_t tz_listing(const uint8_t *bytes, size_t len, uint8_t *out, size_t out_len, size_t *count);
 
 /* ---- how much to lend ---- */
@@ -318,6 +327,14 @@ TZ_FUNCTION size_t tz_write_bytes(uint32_t width, uint32_t height)
     size_t across = width < TZ_MOST_SIDE ? width : TZ_MOST_SIDE;
     size_t down = height < TZ_MOST_SIDE ? height : TZ_MOST_SIDE;
     return TZ_WRITE_HEADER + 2 * across * down;
+}
+
+/* Bytes that hold the film written as plain PGM, likewise: never above 18 + 5 x 4096 x 4096. */
+TZ_FUNCTION size_t tz_plain_bytes(uint32_t width, uint32_t height)
+{
+    size_t across = width < TZ_MOST_SIDE ? width : TZ_MOST_SIDE;
+    size_t down = height < TZ_MOST_SIDE ? height : TZ_MOST_SIDE;
+    return TZ_WRITE_HEADER + TZ_PLAIN_SAMPLE * across * down;
 }
 
 /* ---- the calls, with structs ---- */
@@ -600,6 +617,64 @@ TZ_FUNCTION uint32_t tzofnadir_write(const uint16_t *picture, size_t picture_len
                                      uint8_t *out, size_t out_len, size_t *count)
 {
     return tz_write(picture, picture_len, sizes->width, sizes->height, sizes->maxval, out, out_len, count);
+}
+
+/*
+ * Plain PGM, "P2": the same header, and then width x height samples as numbers in text, parted by white space. White space is
+ * space, tab, CR and LF; a sample is all bytes up to white space or the end. Whether a file is raw or plain its second byte
+ * tells: '5' or '2'. Each reader gives 20 to the other's files.
+ *
+ * First question: the width, height and maxval of a plain PGM file that is held in `bytes`, whole. Nothing of the samples
+ * is looked at.
+ *
+ * Refusals, the first that applies: 20 or 21 as for a raw file, with "P2", then 22, 23.
+ */
+TZ_FUNCTION uint32_t tzofnadir_plain_sizes(const uint8_t *bytes, size_t len, tz_sizes *sizes)
+{
+    uint32_t n[3] = {0};
+    uint32_t refusal = tz_plain_sizes(bytes, len, n);
+    if (refusal == TZ_DONE) {
+        sizes->width = n[0];
+        sizes->height = n[1];
+        sizes->maxval = n[2];
+    }
+    return refusal;
+}
+
+/*
+ * Reads a plain PGM file: its width x height greys go to `target`, and `sizes` says its three numbers. Entries behind the
+ * last grey keep their contents. No sample is written before all of them are known to be in order.
+ *
+ * Sizes: target_len at least width x height. Refusals, the first that applies: 20 or 21, 22, 23, 27; then, at the first
+ * sample that is not in order, 24 where it is missing or not 1 to 5 digits (a sign, a '#', six digits) and 26 where it is
+ * above maxval; then 25 where more than white space stands behind the last one.
+ */
+TZ_FUNCTION uint32_t tzofnadir_read_plain(const uint8_t *bytes, size_t len, tz_sizes *sizes,
+                                          uint16_t *target, size_t target_len)
+{
+    uint32_t n[3] = {0};
+    uint32_t refusal = tz_read_plain(bytes, len, n, target, target_len);
+    if (refusal == TZ_DONE) {
+        sizes->width = n[0];
+        sizes->height = n[1];
+        sizes->maxval = n[2];
+    }
+    return refusal;
+}
+
+/*
+ * Writes the film to `out` as plain PGM: "P2", width and height, maxval, a line each as write has them, and then a line for
+ * each sample. `count` is how many bytes; those behind them keep their contents. What write and this one made of a film is
+ * read back as the same film, so a raw file that write made comes back to the byte by way of a plain one, and the other way
+ * round.
+ *
+ * Sizes: picture_len is width x height; out_len at least the count, and tz_plain_bytes is always enough.
+ * Refusals as for write: 22, 23, 2, 26, 27.
+ */
+TZ_FUNCTION uint32_t tzofnadir_write_plain(const uint16_t *picture, size_t picture_len, const tz_sizes *sizes,
+                                           uint8_t *out, size_t out_len, size_t *count)
+{
+    return tz_write_plain(picture, picture_len, sizes->width, sizes->height, sizes->maxval, out, out_len, count);
 }
 
 /*

@@ -130,13 +130,23 @@ static const struct option *option_of(const char *word)
 /* Which options a command takes. */
 static unsigned taken(enum command command)
 {
-    unsigned settings = GRID | BINS | RANGE | CLIP | EDITION | BYTES | RECORD | FORCE | OUTPUT | VERBOSE;
-    unsigned of_command = command == ENHANCE  ? settings | INTO | RECORDS | JOBS
-                          : command == WINDOW ? settings | AT | SIZE
-                          : command == INFO   ? AS_JSON
-                          : command == VERIFY ? SCAN
-                                              : 0;
-    return of_command | QUIET;
+    unsigned film = FORCE | OUTPUT | QUIET, several = INTO | JOBS;
+    unsigned settings = film | GRID | BINS | RANGE | CLIP | EDITION | BYTES | RECORD | VERBOSE;
+    switch (command) {
+    case ENHANCE:
+        return settings | several | RECORDS;
+    case WINDOW:
+        return settings | AT | SIZE;
+    case RAW:
+    case PLAIN:
+        return film | several;
+    case INFO:
+        return AS_JSON | QUIET;
+    case VERIFY:
+        return SCAN | QUIET;
+    default:
+        return QUIET;
+    }
 }
 
 /* It may be meant as a file's name. */
@@ -187,24 +197,30 @@ int ends_in(const char *word, const char *end)
     return length >= tail && strcmp(word + length - tail, end) == 0;
 }
 
+/* The commands that write a film, and those of them that write several into a folder. */
+static int writes(enum command c) { return c == ENHANCE || c == WINDOW || c == RAW || c == PLAIN; }
+static int writes_many(enum command c) { return c != WINDOW && writes(c); }
+
+int is_move(const struct job *job) { return job->command == RAW || job->command == PLAIN; }
+
 static int check_names(const struct job *job)
 {
-    int wanted = (job->command == ENHANCE || job->command == WINDOW) && !has(job, OUTPUT) ? 2 : 1;
+    int wanted = writes(job->command) && !has(job, OUTPUT) ? 2 : 1;
     if (has(job, QUIET) && has(job, VERBOSE))
         return bad_words("--quiet and --verbose do not go together", "");
     if (has(job, INTO) && has(job, OUTPUT))
-        return bad_words("--into gives each rendering its name, so -o does not go with it", "");
+        return bad_words("--into gives each film its name there, so -o does not go with it", "");
     if (has(job, INTO) && has(job, RECORD))
         return bad_words("with --into it is --records, which writes a record beside each rendering", "");
     if (has(job, INTO))
         return job->count > 0 ? 0 : bad_words("a film is missing", "");
     if (has(job, JOBS))
-        return bad_words("--jobs goes with --into: it says how many films are rendered at once", "");
+        return bad_words("--jobs goes with --into: it says how many films are done at once", "");
     if (has(job, RECORDS))
         return bad_words("--records goes with --into; one film's record is written by --record FILE", "");
     if (job->count < wanted)
         return bad_words("a file name is missing", "");
-    if (job->count > wanted && job->command == ENHANCE)
+    if (job->count > wanted && writes_many(job->command))
         return bad_words("one word too many (several films want --into FOLDER)", job->names[wanted]);
     return job->count > wanted ? bad_words("one word too many", job->names[wanted]) : 0;
 }
@@ -226,7 +242,7 @@ static int asks(int argc, char **argv, enum command *command)
 
 static int command_of(const char *word, enum command *command)
 {
-    static const char *const names[] = {"enhance", "window", "listing", "info", "verify"};
+    static const char *const names[] = {"enhance", "window", "listing", "info", "verify", "raw", "plain"};
     for (unsigned i = 0; i < sizeof names / sizeof names[0]; i++)
         if (strcmp(word, names[i]) == 0) {
             *command = (enum command)i;

@@ -4,7 +4,7 @@
 
 #include "tzofnadir.h"
 
-enum command { ENHANCE, WINDOW, LISTING, INFO, VERIFY, HELP, VERSION };
+enum command { ENHANCE, WINDOW, LISTING, INFO, VERIFY, RAW, PLAIN, HELP, VERSION };
 
 /* The options, each a bit; OWN_RANGE is a value of --range. */
 enum given {
@@ -29,6 +29,9 @@ struct job {
 const char *last_part(const char *path);
 
 int ends_in(const char *word, const char *end);
+
+/* Whether it is one of the commands that write a film as it is, raw and plain. */
+int is_move(const struct job *job);
 
 /* 0, or the status of a message. */
 int words(int argc, char **argv, struct job *job);

@@ -117,6 +117,14 @@ function fileCalls(exports, room, cells) {
       const [width, height, maxval] = room.u32(cells + CELL.sizes, 3);
       return {refusal, width, height, maxval};
     },
+    plainSizes(at, count) {
+      const refusal = exports.tz_plain_sizes(at, BigInt(count), cells + CELL.sizes) >>> 0;
+      const [width, height, maxval] = room.u32(cells + CELL.sizes, 3);
+      return {refusal, width, height, maxval};
+    },
+    readPlain(at, count, film) {
+      return exports.tz_read_plain(at, BigInt(count), cells + CELL.sizes, ...pictureOf(film)) >>> 0;
+    },
     readRaster(at, count) {
       const refusal = exports.tz_read_raster(at, BigInt(count), cells + CELL.part) >>> 0;
       return {refusal, start: room.view(cells + CELL.part, 8).getBigUint64(0, true)};

@@ -4,10 +4,14 @@ import {MOST_BINS, MOST_ENTRIES, MOST_SIDE, USUAL_BINS, makeLibrary, settingsOf,
 import {cellsOf, meanOf} from './cells.js';
 import {renderingName} from './names.js';
 import {recordText} from './record.js';
-import {moreOfFile, moreOfRendering, moreOfSettings} from './refuse.js';
+import {isPlain, moreOfFile, moreOfRendering, moreOfSettings} from './refuse.js';
 
-// The largest film and 64 KiB for its header, as the command line reads it.
-export const MOST_BYTES = 2 * MOST_SIDE * MOST_SIDE + 65536;
+// The largest film and 64 KiB for its header, as the command line reads it; of a plain film five digits and white space a sample.
+const MOST_RAW = 2 * MOST_SIDE * MOST_SIDE + 65536;
+const MOST_PLAIN = 6 * MOST_SIDE * MOST_SIDE + 65536;
+
+// How much of a file that begins with these bytes is read.
+export function mostBytes(bytes) { return isPlain(bytes) ? MOST_PLAIN : MOST_RAW; }
 
 // The counts buffer is too short: what mapping says last of settings that are in order.
 const NO_COUNTS = 33;
@@ -17,10 +21,10 @@ const SETTLED = [21, 22, 23, 25];
 
 // 20 is settled where the header breaks off before the end of what was read. Where it only ends there, one # more behind it
 // stands in the place of white space or a digit, and the answer is 21.
-function isSettled(film, count, refusal) {
+function isSettled(film, count, refusal, sizesOf) {
   if (refusal !== 20) return SETTLED.includes(refusal);
   film.library.room.u8(film.file + count, 1)[0] = 35;
-  return film.library.readSizes(film.file, count + 1).refusal === 20;
+  return sizesOf(film.file, count + 1).refusal === 20;
 }
 
 function refused(film, refusal, more) {
@@ -33,7 +37,8 @@ function lendRoom(film, bytes) {
   film.counts = room.lend(4 * MOST_ENTRIES);
   film.map = room.lend(2 * MOST_ENTRIES);
   film.scratch = room.lend(4 * MOST_BINS);
-  // the written film is at most 18 bytes of header and the samples, which the file has too
+  // the written film is at most 18 bytes of header and the samples, which the file has too: a plain file has two bytes for each
+  // but the last, and a header
   film.fileRoom = bytes.length + 18;
   film.file = room.lend(film.fileRoom);
   room.u8(film.file, bytes.length).set(bytes);
@@ -50,20 +55,39 @@ function tallyGreys(film) {
   while (histogram[film.greatest] === 0) film.greatest--;
 }
 
-function readFilm(film, input) {
-  const library = film.library;
-  const count = input.bytes.length;
-  const sizes = library.readSizes(film.file, count);
-  if (input.cut && !isSettled(film, count, sizes.refusal)) {
-    return {fault: `The file is longer than ${MOST_BYTES} bytes, the largest film and 64 KiB of header: not read further.`};
-  }
-  const raster = sizes.refusal ? sizes : library.readRaster(film.file, count);
-  if (raster.refusal) return refused(film, raster.refusal, moreOfFile(raster.refusal, input));
+// Room for the greys of a film of these sizes.
+function lendPicture(film, sizes) {
   film.width = sizes.width;
   film.height = sizes.height;
   film.maxval = sizes.maxval;
-  film.picture = library.room.lend(2 * film.width * film.height);
-  const refusal = library.readGreys(film.file, count, raster.start, film);
+  film.picture = film.library.room.lend(2 * film.width * film.height);
+}
+
+// The greys of a raw file, or its refusal; and those of a plain one.
+function readRaw(film, count, sizes) {
+  const raster = sizes.refusal ? sizes : film.library.readRaster(film.file, count);
+  if (raster.refusal) return raster.refusal;
+  lendPicture(film, sizes);
+  return film.library.readGreys(film.file, count, raster.start, film);
+}
+
+function readPlain(film, count, sizes) {
+  if (sizes.refusal) return sizes.refusal;
+  lendPicture(film, sizes);
+  return film.library.readPlain(film.file, count, film);
+}
+
+// The file's second byte says which reader it is for, as on the command line.
+function readFilm(film, input) {
+  const plain = isPlain(input.bytes);
+  const sizesOf = plain ? film.library.plainSizes : film.library.readSizes;
+  const count = input.bytes.length;
+  const sizes = sizesOf(film.file, count);
+  if (input.cut && !isSettled(film, count, sizes.refusal, sizesOf)) {
+    return {fault: `The file is longer than ${mostBytes(input.bytes)} bytes, the largest ${plain ? 'plain ' : ''}film and ` +
+      '64 KiB of header: not read further.'};
+  }
+  const refusal = (plain ? readPlain : readRaw)(film, count, sizes);
   if (refusal) return refused(film, refusal, moreOfFile(refusal, input));
   tallyGreys(film);
   return {};

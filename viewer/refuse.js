@@ -23,9 +23,12 @@ function numberAt(bytes, from) {
   return {value, to};
 }
 
+// A plain file, its numbers in text, by its first two bytes.
+export function isPlain(bytes) { return bytes.length >= 2 && bytes[0] === 80 && bytes[1] === 50; }
+
 // What a header says, as far as it can be read.
 function frontOf(bytes) {
-  const front = {numbers: [], raster: 2, bytes: 0};
+  const front = {numbers: [], raster: 2, bytes: 0, plain: isPlain(bytes)};
   while (front.numbers.length < 3) {
     const from = behindGap(bytes, front.raster);
     const {value, to} = numberAt(bytes, from);
@@ -42,13 +45,48 @@ function frontOf(bytes) {
   return front;
 }
 
+// The sample at a place of a raw file: one or two bytes, the high one first; null where it is not there.
+function rawAt(bytes, front, at) {
+  const to = at + front.wide;
+  if (to > bytes.length) return null;
+  return {from: at, to, good: true, grey: front.wide === 1 ? bytes[at] : bytes[at] * 256 + bytes[at + 1]};
+}
+
+// The next sample of a plain file, all bytes up to white space or the end; good where it is a number of 1 to 5 digits.
+function plainAt(bytes, front, at) {
+  let from = at;
+  while (from < bytes.length && isWhite(bytes[from])) from++;
+  const sample = {from, to: from, good: true, grey: 0};
+  for (; sample.to < bytes.length && !isWhite(bytes[sample.to]); sample.to++) {
+    sample.good = sample.good && sample.to < from + 5 && isDigit(bytes[sample.to]);
+    if (sample.good) sample.grey = sample.grey * 10 + bytes[sample.to] - 48;
+  }
+  return from < bytes.length ? sample : null;
+}
+
+// Where the samples that are in order end, how many they are, and the first that is not: null where the file ends there.
+function orderOf(bytes, front) {
+  const next = front.plain ? plainAt : rawAt;
+  const order = {count: 0, end: front.raster, bad: null};
+  while (order.count < front.width * front.height) {
+    const sample = next(bytes, front, order.end);
+    if (!sample || !sample.good) return {...order, bad: sample};
+    order.count++;
+    order.end = sample.to;
+  }
+  return order;
+}
+
 // The samples that are there, of those that should be: the least, the greatest, and the first above maxval.
 function samplesOf(bytes, front) {
-  const count = Math.floor(Math.min(bytes.length - front.raster, front.bytes) / front.wide);
+  const next = front.plain ? plainAt : rawAt;
   const found = {least: 65535, greatest: 0, above: -1, value: 0};
-  for (let i = 0; i < count; i++) {
-    const at = front.raster + i * front.wide;
-    const sample = front.wide === 1 ? bytes[at] : bytes[at] * 256 + bytes[at + 1];
+  let at = front.raster;
+  for (let i = 0; i < front.width * front.height; i++) {
+    const read = next(bytes, front, at);
+    if (!read || !read.good) break;
+    at = read.to;
+    const sample = read.grey;
     if (sample < found.least) found.least = sample;
     if (sample > found.greatest) found.greatest = sample;
     if (sample > front.maxval && found.above < 0) {
@@ -65,7 +103,6 @@ function samplesOf(bytes, front) {
 // greys could be lost on the way, else by Netpbm's.
 const BY_IMPORT = 'station/import FILE --into FOLDER';
 const KINDS = [
-  ['P2', 'a plain PGM (P2), its numbers in text', BY_IMPORT],
   ['P1', 'a plain bitmap (P1), black and white alone', BY_IMPORT],
   ['P4', 'a bitmap (P4), black and white alone', BY_IMPORT],
   ['P3', 'a plain PPM (P3), in colour', 'ppmtopgm FILE >NEW.pgm'],
@@ -86,10 +123,13 @@ function begins(bytes, text, at = 0) {
   return bytes.length >= at + text.length && [...text].every((c, i) => bytes[at + i] === c.charCodeAt(0));
 }
 
+// The same samples behind another header: of a raw file its last bytes, of a plain one all that stands behind maxval.
 function wayByHeader(input, front, maxval) {
-  return `A new header alone does it: { printf 'P5\\n${front.width} ${front.height}\\n${maxval}\\n'; ` +
-    `tail -c ${front.bytes} ${shellName(input.name)}; } >NEW.pgm`;
+  return `A new header alone does it: { printf 'P${front.plain ? 2 : 5}\\n${front.width} ${front.height}\\n${maxval}\\n'; ` +
+    `tail -c ${front.plain ? `+${front.raster + 1}` : front.bytes} ${shellName(input.name)}; } >NEW.pgm`;
 }
+
+function wayWithoutComments(input) { return `Comments are taken out by: sed 's/#.*//' ${shellName(input.name)} >NEW.pgm`; }
 
 // What takes films as they come: other formats and other depths.
 function wayByImport(input, end) { return `${BY_IMPORT.replace('FILE', shellName(input.name))} ${end}`; }
@@ -107,17 +147,19 @@ function moreOfHeader(input) {
   if (begins(bytes, '\xff\xd8\xff')) {
     return ['It is a JPEG, whose packing alters greys: have the scan given as PNG, TIFF or DICONDE, for station/import.'];
   }
-  if (!begins(bytes, 'P5')) return [`It begins with byte ${bytes[0]} where P, 80, stands in a PGM.`];
   const front = frontOf(bytes);
+  if (!front.plain && !begins(bytes, 'P5')) return [`It begins with byte ${bytes[0]} where P, 80, stands in a PGM.`];
   const end = front.raster >= bytes.length ? 'ends' : 'breaks off';
   return [
-    `It begins with P5, and behind ${front.numbers.length} of its three numbers the header ${end}, at byte ${front.raster}.`,
+    `It begins with P${front.plain ? 2 : 5}, and behind ${front.numbers.length} of its three numbers the header ${end}, ` +
+      `at byte ${front.raster}.`,
     'Due are width, height and maxval, of up to five digits, each behind white space, and one white space byte.',
   ];
 }
 
 function moreOfComment(input, front) {
   const lines = [wayByImport(input, 'makes the same film without one.')];
+  if (front.plain) return [...lines, wayWithoutComments(input)];
   const maxval = Math.min(front.maxval, MOST_GREY);
   if (front.whole && maxval > 0 && input.bytes.length - front.raster === front.bytes &&
       samplesOf(input.bytes, front).greatest <= maxval) {
@@ -141,7 +183,8 @@ function moreOfMaxval(input, front) {
   const {least, greatest} = samplesOf(input.bytes, front);
   const lines = [`The file's maxval is ${front.maxval}, and its greatest sample ${greatest}; ` +
     `maxvals of 1 to ${MOST_GREY} are taken.`];
-  if (front.maxval > MOST_GREY && greatest <= MOST_GREY) lines.push(wayByHeader(input, front, MOST_GREY));
+  const known = !front.plain || orderOf(input.bytes, front).count === front.width * front.height;
+  if (front.maxval > MOST_GREY && greatest <= MOST_GREY && known) lines.push(wayByHeader(input, front, MOST_GREY));
   else if (front.maxval > MOST_GREY) {
     lines.push(wayByImport(input, greatest - least <= MOST_GREY ? 'keeps every grey, less the least of them.'
       : 'takes an even step of greys for one, and says how many became one.'));
@@ -149,8 +192,34 @@ function moreOfMaxval(input, front) {
   return lines;
 }
 
+// Up to 20 bytes of a sample, those that are no signs of a text as a dot.
+function shownSample(bytes, {from, to}) {
+  const signs = [...bytes.subarray(from, Math.min(to, from + 20))];
+  const text = signs.map(b => (b > 32 && b < 127 ? String.fromCharCode(b) : '.')).join('');
+  return to > from + 20 ? `${text}..` : text;
+}
+
+// Of a plain file: the samples that are missing, or the first that is none.
+function moreOfPlain(input, front) {
+  const {bytes} = input;
+  const {count, bad} = orderOf(bytes, front);
+  if (!bad) return [`The header says ${front.width} by ${front.height} pixels; behind it stand ${count} samples.`];
+  const lines = [`At column ${count % front.width}, row ${Math.floor(count / front.width)}, which is byte ${bad.from}, ` +
+    `stands no number of 1 to 5 digits: ${shownSample(bytes, bad)}`];
+  if (bytes.subarray(bad.from, bad.to).includes(35)) lines.push(wayWithoutComments(input));
+  return lines;
+}
+
+function moreBehind(input, front) {
+  if (!front.plain) return moreOfRaster(input, front);
+  const {count, end} = orderOf(input.bytes, front);
+  return [`The header says ${front.width} by ${front.height} pixels; the last of these ${count} samples ends at byte ${end}, ` +
+    'and more than white space follows.'];
+}
+
 function moreOfRaster(input, front) {
   if (!front.whole) return [];
+  if (front.plain) return moreOfPlain(input, front);
   const there = input.bytes.length - front.raster;
   return [`The header says ${front.width} by ${front.height} pixels of ${front.wide === 1 ? 'one byte' : 'two bytes'}, ` +
     `${front.bytes} bytes; behind it stand ${input.cut ? 'more than ' : ''}${there}.`];
@@ -162,12 +231,13 @@ function moreOfSample(input, front) {
   if (above < 0) return [];
   const lines = [`The file's maxval is ${front.maxval}. The first above it is at column ${above % front.width}, ` +
     `row ${Math.floor(above / front.width)}: ${value}; the greatest is ${greatest}.`];
-  if (greatest <= MOST_GREY) lines.push(wayByHeader(input, front, greatest));
+  const known = !front.plain || orderOf(input.bytes, front).count === front.width * front.height;
+  if (greatest <= MOST_GREY && known) lines.push(wayByHeader(input, front, greatest));
   return lines;
 }
 
 export function moreOfFile(refusal, input) {
-  const ways = {20: moreOfHeader, 21: moreOfComment, 22: moreOfSize, 23: moreOfMaxval, 24: moreOfRaster, 25: moreOfRaster,
+  const ways = {20: moreOfHeader, 21: moreOfComment, 22: moreOfSize, 23: moreOfMaxval, 24: moreOfRaster, 25: moreBehind,
     26: moreOfSample};
   return ways[refusal] ? ways[refusal](input, frontOf(input.bytes)) : [];
 }

@@ -1,6 +1,6 @@
 // The worker's messages. It holds all films; the page asks for one thing at a time and is answered once for each.
 import {NoMemory, makeLedger} from './calls.js';
-import {MOST_BYTES, closeFilm, digestOf, greysOfWindow, openFilm, picture, probe, saveFilm, saveRecord, saveView,
+import {closeFilm, digestOf, greysOfWindow, mostBytes, openFilm, picture, probe, saveFilm, saveRecord, saveView,
   scanCells, settle} from './film.js';
 import {gridsThatFit} from './refuse.js';
 import {makeReport, measured, readReport} from './reporter.js';
@@ -17,9 +17,10 @@ async function toStart(message) {
 // The bytes of a file up to what the largest film needs: a longer one is told by its front.
 async function inputOf(message) {
   const file = message.file;
-  const cut = file.size > MOST_BYTES;
   try {
-    return {name: message.name, cut, bytes: new Uint8Array(await (cut ? file.slice(0, MOST_BYTES) : file).arrayBuffer())};
+    const most = mostBytes(new Uint8Array(await file.slice(0, 2).arrayBuffer()));
+    const cut = file.size > most;
+    return {name: message.name, cut, bytes: new Uint8Array(await (cut ? file.slice(0, most) : file).arrayBuffer())};
   } catch (fault) {
     if (fault instanceof RangeError) throw new NoMemory();
     throw new Error(`The file could not be read: ${fault.message}`);

@@ -158,7 +158,7 @@ if [ "$(id -u)" -eq 0 ] && mount -t tmpfs -o size=1m tmpfs "$room/disk" 2>/dev/n
     saw=$?
     whole_ones=0
     for f in disk/out/*.pgm; do ! cmp -s alone.pgm "$f" || whole_ones=$((whole_ones + 1)); done
-    told_ones=$(grep -c '^  Make room there, and render the film again.' said)
+    told_ones=$(grep -c '^  Make room there, and give the same words again.' said)
     if [ "$saw" -eq 74 ] && [ "$whole_ones" -gt 0 ] && [ $((whole_ones + told_ones)) -eq 6 ] &&
         [ "$(ls disk/out | wc -l)" -eq "$whole_ones" ] && no_leftover disk/out; then ok=yes; else ok=no; fi
     report "$ok" 'a full disk in the middle of six films' "status $saw: $whole_ones whole, $told_ones told of the disk"

@@ -133,7 +133,7 @@ if [ -n "$prefix" ] && command -v python3 >/dev/null; then
     report "$ok" 'examples/render.py: the film of the command line' "status $saw: $(cat wrote)"
     python3 -B "$top/examples/render.py" "$prefix/lib/libtzofnadir.so" short.pgm from_python.pgm >wrote 2>said
     saw=$?
-    if [ "$saw" -eq 1 ] && grep -qF 'refused, 24: The file ends before its last pixel.' said; then ok=yes; else ok=no; fi
+    if [ "$saw" -eq 1 ] && grep -qF 'refused, 24: The file ends before its last pixel' said; then ok=yes; else ok=no; fi
     report "$ok" 'examples/render.py: a cut file' "status $saw: $(cat said)"
     saw=$(PYTHONPATH=$top/examples python3 -B -c 'import render, sys
 library = render.load(sys.argv[1])
@@ -148,6 +148,10 @@ print(*(library.tz_write_bytes(*sides) for sides in ((512, 384), (0, 9), (4096, 
     saw=$?
     if [ "$saw" -eq 0 ]; then ok=yes; else ok=no; fi
     report "$ok" "the editions: 15 to the other's record, 30 on bytes, and the second program's numbers" "status $saw: $(cat wrote)$(tail -n 1 said)"
+    python3 -B "$top/station/faults/plains.py" "$top/examples" "$prefix/lib/libtzofnadir.so" >wrote 2>said
+    saw=$?
+    if [ "$saw" -eq 0 ]; then ok=yes; else ok=no; fi
+    report "$ok" "plain files over the library: the second program's answers, and refusals that keep all" "status $saw: $(cat wrote)$(tail -n 1 said)"
     python3 -B "$top/station/faults/threads.py" "$top/examples" "$prefix/lib/libtzofnadir.so" film.pgm >wrote 2>said
     saw=$?
     if [ "$saw" -eq 0 ]; then ok=yes; else ok=no; fi

@@ -42,7 +42,7 @@ kind() { # WHAT BYTES TOLD
     told=$3
     try "$1" 20 enhance kind.pgm "$out"
 }
-kind 'a plain PGM' 'P2\n2 2\n15\n1 2 3 4\n' 'It is a plain PGM (P2)'
+kind 'a plain bitmap' 'P1\n2 2\n1 0 1 0\n' 'It is a plain bitmap (P1)'
 kind 'a PPM' 'P6\n2 2\n255\nabcdefghijkl' 'It is a PPM (P6), in colour. A raw PGM is made of it by: ppmtopgm kind.pgm >NEW.pgm'
 kind 'a PNG' '\211PNG\r\n\032\nIHDR' 'It is a PNG. A raw PGM is made of it by: station/import kind.pgm --into FOLDER'
 kind 'a TIFF, low byte first' 'II*\0\010\0\0\0' 'It is a TIFF'

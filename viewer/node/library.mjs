@@ -48,6 +48,23 @@ export class Library {
     return { width, height, maxval, picture };
   }
 
+  /** A plain file's film, its sizes asked first. */
+  readPlain(file) {
+    const lent = this.put(file), answers = this.answers.at, view = this.view(this.answers);
+    done(this.x.tz_plain_sizes(...slice(lent), answers));
+    const [width, height, maxval] = [0, 4, 8].map(at => view.getUint32(at, true)), picture = this.lend(width * height, 2);
+    done(this.x.tz_read_plain(...slice(lent), answers, ...slice(picture)));
+    return { width, height, maxval, picture };
+  }
+
+  greys(film) { return new Uint16Array(this.x.memory.buffer, film.picture.at, film.width * film.height).slice(); }
+
+  writtenPlain(film) {
+    const out = this.lend(18 + 5 * film.width * film.height, 1);
+    done(this.x.tz_write_plain(...slice(film.picture), film.width, film.height, film.maxval, ...slice(out), this.answers.at + 24));
+    return Buffer.from(this.bytes(out).subarray(0, Number(this.view(this.answers).getBigUint64(24, true))));
+  }
+
   write(film, picture) {
     const out = this.lend(18 + 2 * film.width * film.height, 1);
     // apart from where a footer lies

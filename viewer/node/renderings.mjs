@@ -200,6 +200,16 @@ function part(file, width, height, bits) {
   return Buffer.concat([Buffer.from(`P5\n${width} ${height}\n${bits === 8 ? 255 : 4095}\n`), greys]);
 }
 
+/** A raw file as plain text, and back: what the module reads of both is the same, and so is the raw file that it writes. */
+function plainToo(library, file) {
+  const film = library.read(file), greys = library.greys(film), lines = [...greys].join('\n');
+  const text = Buffer.from(`P2\n${film.width} ${film.height}\n${film.maxval}\n${lines}\n`);
+  const back = library.readPlain(text);
+  if ([...library.greys(back)].some((grey, i) => grey !== greys[i])) throw new Error('other greys');
+  if (Buffer.compare(library.writtenPlain(back), text) !== 0) throw new Error('another text');
+  return `${greys.length} samples in ${text.length} bytes`;
+}
+
 /** A film by all ways, with each of the settings. */
 function allWays(wasm, room, path, settings, trial, name) {
   for (const { words, s } of settings) {
@@ -229,6 +239,7 @@ export function renderings(wasm, room, trial) {
   trial('both editions in turn', () => inTurn(library, library.read(sample), usual));
   trial('the edition of 1986 by bytes', () => bytesOfOurs(library, library.read(readFileSync(small)), { ...BYTES, min: 0, max: 255 }));
   trial('a record with one other edge or centre', () => otherEntries(library, library.read(readFileSync(odd)), usual));
+  trial('a plain film', () => plainToo(library, readFileSync(odd)));
   bytesToo(wasm, room, small, trial, '8 bits');
   bytesToo(wasm, room, oddSmall, trial, '8 bits, 101 by 67');
 }

@@ -7,8 +7,9 @@ import expected
 from person import hold, same
 
 FILES = {  # what is refused, with which number
-    "empty": 20, "text": 20, "png": 20, "plain": 20, "cut_header": 20, "comment": 21, "size_0": 22, "size_4097": 22,
+    "empty": 20, "text": 20, "png": 20, "plain_header": 20, "cut_header": 20, "comment": 21, "size_0": 22, "size_4097": 22,
     "maxval_0": 22 + 1, "maxval_65535": 23, "short": 24, "long": 25, "above": 26,
+    "plain_comment": 21, "plain_size": 22, "plain_short": 24, "plain_six": 24, "plain_remark": 24, "plain_long": 25, "plain_above": 26,
 }
 
 
@@ -20,11 +21,15 @@ def bad_files(film):
     with open(os.path.join(expected.TOP, "docs/weld-before.png"), "rb") as png:
         picture = png.read()
     return {
-        "empty": b"", "text": b"hello\n", "png": picture, "plain": b"P2\n2 2\n15\n0 1 2 3\n", "cut_header": b"P5\n512 38",
+        "empty": b"", "text": b"hello\n", "png": picture, "plain_header": b"P2\n2 x", "cut_header": b"P5\n512 38",
         "comment": b"P5\n# scan\n" + sides + b"4095\n" + raster, "size_0": b"P5\n0 9\n4095\n",
         "size_4097": b"P5\n4097 2\n255\n" + bytes(2 * 4097), "maxval_0": b"P5\n" + sides + b"0\n" + raster,
         "maxval_65535": b"P5\n" + sides + b"65535\n" + raster, "short": good[:-1], "long": good + b"x",
         "above": b"P5\n" + sides + b"1000\n" + raster,
+        "plain_comment": b"P2\n# scan\n2 2\n15\n0 1 2 3\n", "plain_size": b"P2\n4097 2\n15\n0\n",
+        "plain_short": b"P2\n2 2\n15\n0 1 2\n", "plain_six": b"P2\n2 2\n15\n0 1 000002 3\n",
+        "plain_remark": b"P2\n2 2\n15\n0 1 #2 3\n", "plain_long": b"P2\n2 2\n15\n0 1 2 3\n4",
+        "plain_above": b"P2\n2 2\n15\n0 1 16 3\n",
     }
 
 

@@ -21,7 +21,7 @@ use Rattle.abi_files.proofs.Runs.{TzSizesCall, TzReadsSizes, tz-sizes-g
 
 -- ---- what a returned number tells
 
-sizes-keeps : (x : Says (ℕ × ℕ × ℕ)) (old : List ℕ) → Keeps (λ (z : Answer). z .number) (λ n. answered n old) (flatSizes x old)
+pub sizes-keeps : (x : Says (ℕ × ℕ × ℕ)) (old : List ℕ) → Keeps (λ (z : Answer). z .number) (λ n. answered n old) (flatSizes x old)
 unfolding flatSizes
 sizes-keeps (accepted v) old = inl refl
 sizes-keeps (refused k) old = inr refl

@@ -1,5 +1,6 @@
-// Reads files that Netpbm's own tools made, and prints each as Netpbm's plain text, so that it can be held to what
-// `pamtopnm -plain` prints of the same file; then whether write lays the same bytes down again.
+// Reads files that Netpbm's own tools made, raw and plain ones, and prints each as Netpbm's plain text, so that it can be held to
+// what `pamtopnm -plain` prints of the same file; then whether write lays a raw file's bytes down again, and what it lays down of
+// a plain one's film.
 mod given;
 mod text;
 
@@ -40,12 +41,50 @@ fn film(file: &[u8], width: u32, height: u32, maxval: u32) {
     }
 }
 
-// One file, behind the command that made it.
-fn show(file: &[u8]) {
+// Writes the greys of a plain file as a raw one, and prints that.
+fn as_raw(greys: &[u16], width: u32, height: u32, maxval: u32) {
+    let mut out = [0u8; 64];
+    match pgm_write::write(greys, width, height, maxval, &mut out) {
+        Written::Bytes(n) => text::raw(text::first_bytes(&out, n)),
+        Written::Refused(n) => text::refused(n),
+    }
+}
+
+// The product of two sides, of which neither is above 64 where the target holds the film.
+fn times(width: usize, height: usize) -> usize {
+    (width % 65) * (height % 65)
+}
+
+// A plain file.
+fn show_plain(file: &[u8]) {
+    let mut target = [0u16; 64];
+    match plain_read::read_plain(file, &mut target) {
+        Sizes::Found(width, height, maxval) => {
+            let greys = text::first_greys(&target, times(width as usize, height as usize));
+            text::plain(greys, width, height, maxval);
+            as_raw(greys, width, height, maxval);
+        }
+        Sizes::Refused(n) => text::refused(n),
+    }
+}
+
+// A raw file.
+fn show_raw(file: &[u8]) {
     match pgm::read_sizes(file) {
         Sizes::Found(width, height, maxval) => film(file, width, height, maxval),
         Sizes::Refused(n) => text::refused(n),
     }
+}
+
+// One file, behind the command that made it: the second byte says which reader takes it.
+fn show(file: &[u8]) {
+    if 1 < file.len() {
+        if file[1] == b'2' {
+            show_plain(file);
+            return;
+        }
+    }
+    show_raw(file);
 }
 
 // Takes one byte in: one of a command's line is printed, and the end of a line of numbers shows the file.

@@ -88,3 +88,20 @@ pub fn written(bytes: &[u8], file: &[u8]) {
     }
     line(b"written again: other bytes");
 }
+
+// The bytes as numbers, each behind one blank.
+fn numbers(bytes: &[u8]) {
+    let mut i = 0;
+    while i < bytes.len() {
+        io::write_all(STDOUT_FILENO, b" ");
+        io::print_decimal(STDOUT_FILENO, bytes[i] as u64);
+        i += 1;
+    }
+}
+
+// The raw file of a plain one.
+pub fn raw(bytes: &[u8]) {
+    io::write_all(STDOUT_FILENO, b"written raw:");
+    numbers(bytes);
+    io::write_all(STDOUT_FILENO, b"\n");
+}

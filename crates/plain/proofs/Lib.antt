@@ -1,5 +1,4 @@
 pub mod Samples
-pub mod Lines
 pub mod Heads
 pub mod Grammar
 pub mod Trips

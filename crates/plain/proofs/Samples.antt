@@ -225,6 +225,26 @@ laid-first {count} {m} {s} {at} d asks =
       deep = asks .deep;
     }
 
+-- digits that are read are the sample, unless it is refused
+judged-read : (m : ℕ) (s : List ℕ) (from v e : ℕ) {x : Sample} → x ≡ judgedOf m s from (Read v e) → ((n : ℕ) → Sample.Refused n ≡ x → ⊥) → Sample.Grey v e ≡ x
+unfolding judgedOf
+judged-read m s from v e {x} q never = go (ltb from e && endsAt s e) (leb v m) q
+  where
+    go : (a b : Bool) → x ≡ cond a (cond b (Sample.Grey v e) (Sample.Refused 26)) (Sample.Refused 24) → Sample.Grey v e ≡ x
+    go true true q = sym q
+    go true false q = absurd (never 26 (sym q))
+    go false b q = absurd (never 24 (sym q))
+
+-- and here no sample is
+pub laid-read : {count m : ℕ} {s : List ℕ} {at : ℕ} {d t : List ℕ} {i p v e from : ℕ} → Laid count m s at d t i p → i < count → from ≡ whiteOf (drop p s) p
+    → Read v e ≡ digitsOf 5 (drop from s) 0 from → Sample.Grey v e ≡ sampleOf m s p
+laid-read {m = m} {s = s} {p = p} {v = v} {e = e} {from = from} x l q r =
+    judged-read m s from v e (sym (sample-token m s p q (token-read m s from r refl))) (λ n. laying-never (x .laying) l)
+
+-- white space ends within the bytes
+pub laid-white : {count m : ℕ} {s : List ℕ} {at : ℕ} {d t : List ℕ} {i p from : ℕ} → Laid count m s at d t i p → from ≡ whiteOf (drop p s) p → from ≤ length s
+laid-white {s = s} {p = p} x q = rw q (white-le s p (x .laying .near))
+
 pub laid-next : {count m : ℕ} {s : List ℕ} {at : ℕ} {d t : List ℕ} {i p v e : ℕ} → Laid count m s at d t i p → i < count → Sample.Grey v e ≡ sampleOf m s p
     → Laid count m s at d (set t i v) (i + 1) e
 laid-next {d = d} {t = t} {i = i} {v = v} x l q =
@@ -246,6 +266,3 @@ pub laid-end : {count m : ℕ} {s : List ℕ} {at : ℕ} {d t : List ℕ} {i p :
 laid-end {count} {m} {s} {at} {d} {t} {i} x b =
     filled-end (λ k. getD (greysFrom count m s at) k 0) d (x .front) (x .laying .most) b
     ∙ (ap (filled (λ k. getD (greysFrom count m s at) k 0) d) (sym (length-greys count m s at (x .whole))) ∙ filled-copy (greysFrom count m s at) d)
-
-pub laid-never : {count m : ℕ} {s : List ℕ} {at : ℕ} {d t : List ℕ} {i p n : ℕ} → Laid count m s at d t i p → i < count → Sample.Refused n ≡ sampleOf m s p → ⊥
-laid-never x l q = laying-never (x .laying) l q

@@ -26,6 +26,11 @@ unfolding joined
 joined-cons zero f = sym (append-nil (f 0))
 joined-cons (suc n) f = ap (λ u. u ++ f (suc n)) (joined-cons n f) ∙ append-assoc (f 0) (joined n (λ i. f (suc i))) (f (suc n))
 
+-- the lines are those of the samples, one behind the other
+pub lines-joined : (pic : List ℕ) → linesOf pic ≡ joined (length pic) (λ i. lineOf (getD pic i 0))
+unfolding linesOf
+lines-joined pic = refl
+
 lines-nil : linesOf [] ≡ []
 unfolding linesOf joined
 lines-nil = refl

@@ -55,6 +55,25 @@ module _ (c : WriteCall) (file : List ℕ) (ends : wroteAs (c .answer) (c .out�
   takes : Film (c .pixels) (c .width) (c .height) (c .maxval) → length file ≤ length (c .out) → writtenSays (c .answer) ≡ accepted (length file)
   takes film room = ap (λ (x : Wrote). writtenSays (x .answer)) ends ∙ film-written (c .pixels) (c .width) (c .height) (c .maxval) file (c .out) film room .0
 
+-- a call of either writer ended with this form of file
+abbrev Laid : (List ℕ → ℕ → ℕ → ℕ → List ℕ) → WriteCall → Type 0
+Laid form c = wroteAs (c .answer) (c .out′) ≡ writtenOf (c .pixels) (c .width) (c .height) (c .maxval) (form (c .pixels) (c .width) (c .height) (c .maxval)) (c .out)
+
+-- the film of a file that was written, written in the same form again, is the same bytes
+same-again : (form : List ℕ → ℕ → ℕ → ℕ → List ℕ) (a b : WriteCall) {n : ℕ} → Laid form a → writtenSays (a .answer) ≡ accepted n → Laid form b
+    → (b .width ≡ a .width) × (b .height ≡ a .height) × (b .maxval ≡ a .maxval) → b .pixels ≡ a .pixels → n ≤ length (b .out)
+    → (writtenSays (b .answer) ≡ accepted n) × (take n (b .out′) ≡ take n (a .out′))
+same-again form a b {n} first written ends sizes same wide = (said, file-of b _ ends said ∙ file ∙ sym (file-of a _ first written))
+  where
+    file : form (b .pixels) (b .width) (b .height) (b .maxval) ≡ form (a .pixels) (a .width) (a .height) (a .maxval)
+    file = rw (same, sizes .0, sizes .1, sizes .2) refl
+
+    count : length (form (b .pixels) (b .width) (b .height) (b .maxval)) ≡ n
+    count = ap length file ∙ count-of a _ first written
+
+    said : writtenSays (b .answer) ≡ accepted n
+    said = takes b _ ends (rw (same, sizes .0, sizes .1, sizes .2) (film-of a _ first written)) (rw count wide) ∙ ap accepted count
+
 -- ---- what either reader accepted
 
 -- sizes that are said are one another's
@@ -181,13 +200,11 @@ front-same target {left} {pic} w h q l = ap (take (w * h)) q ∙ take-onto targe
 -- "Raw to plain and back is the same bytes for every file that our writer made"
 pub raw-plain-raw : {a : WriteCall} {n : ℕ} {z : SizesCall} {k : RasterCall} {g : GreysCall} {p : WriteCall} {j : ℕ} {r : PlainReadCall} {b : WriteCall} → RawPlainRaw a n z k g p j r b
     → (writtenSays (b .answer) ≡ accepted n) × (take n (b .out′) ≡ take n (a .out′))
-raw-plain-raw {a} {n} {z} {k} {g} {p} {j} {r} {b} way = (said, file-of b (raw b) (write-ends (way .again)) said ∙ file ∙ sym first)
+raw-plain-raw {a} {n} {z} {k} {g} {p} {j} {r} {b} way =
+    same-again fileOf a b (write-ends (way .made .writes)) (way .made .written) (write-ends (way .again)) (home .0 ∙ there .0, home .1 ∙ there .1, home .2 ∙ there .2) same (way .wide)
   where
     film : Film (a .pixels) (a .width) (a .height) (a .maxval)
     film = film-of a (raw a) (write-ends (way .made .writes)) (way .made .written)
-
-    first : take n (a .out′) ≡ raw a
-    first = file-of a (raw a) (write-ends (way .made .writes)) (way .made .written)
 
     there : (p .width ≡ a .width) × (p .height ≡ a .height) × (p .maxval ≡ a .maxval)
     there = sizes-same (way .sizes) (sizes-read-back (way .made .writes) (way .made .written) (way .made .reads .sizes) (way .made .reads .same ∙ way .made .file))
@@ -203,18 +220,6 @@ raw-plain-raw {a} {n} {z} {k} {g} {p} {j} {r} {b} way = (said, file-of b (raw b)
 
     same : b .pixels ≡ a .pixels
     same = way .greys ∙ front-same (r .target) (b .width) (b .height) (back .1) (rw (home .0, home .1, there .0, there .1, moved) (film .whole)) ∙ moved
-
-    file : raw b ≡ raw a
-    file = rw (same, home .0, home .1, home .2, there .0, there .1, there .2) refl
-
-    count : length (raw b) ≡ n
-    count = ap length file ∙ count-of a (raw a) (write-ends (way .made .writes)) (way .made .written)
-
-    said : writtenSays (b .answer) ≡ accepted n
-    said =
-        takes b (raw b) (write-ends (way .again))
-        (rw (same, home .0, home .1, home .2, there .0, there .1, there .2) film) (rw count (way .wide))
-        ∙ ap accepted count
 
 -- write_plain made a file of n bytes, a, which was read, r; that film was written raw, c, in j bytes, and read back, z, k and g; and written as plain again, b
 pub record PlainRawPlain (a : WriteCall) (n : ℕ) (r : PlainReadCall) (c : WriteCall) (j : ℕ) (z : SizesCall) (k : RasterCall) (g : GreysCall) (b : WriteCall) : Type 0 where
@@ -234,13 +239,11 @@ pub record PlainRawPlain (a : WriteCall) (n : ℕ) (r : PlainReadCall) (c : Writ
 -- "and plain to raw and back is so too"
 pub plain-raw-plain : {a : WriteCall} {n : ℕ} {r : PlainReadCall} {c : WriteCall} {j : ℕ} {z : SizesCall} {k : RasterCall} {g : GreysCall} {b : WriteCall} → PlainRawPlain a n r c j z k g b
     → (writtenSays (b .answer) ≡ accepted n) × (take n (b .out′) ≡ take n (a .out′))
-plain-raw-plain {a} {n} {r} {c} {j} {z} {k} {g} {b} way = (said, file-of b (plain b) (plain-write-ends (way .again)) said ∙ file ∙ sym first)
+plain-raw-plain {a} {n} {r} {c} {j} {z} {k} {g} {b} way =
+    same-again plainFileOf a b (plain-write-ends (way .makes)) (way .made) (plain-write-ends (way .again)) (home .0 ∙ there .0, home .1 ∙ there .1, home .2 ∙ there .2) same (way .wide)
   where
     film : Film (a .pixels) (a .width) (a .height) (a .maxval)
     film = plain-film (way .makes) (way .made)
-
-    first : take n (a .out′) ≡ plain a
-    first = plain-file (way .makes) (way .made)
 
     back : (sizesSays (r .answer) ≡ accepted (a .width, a .height, a .maxval)) × (r .target′ ≡ onto (r .target) (a .pixels))
     back = plain-back (way .makes) (way .made) (way .reads) (way .file) (way .room)
@@ -256,15 +259,3 @@ plain-raw-plain {a} {n} {r} {c} {j} {z} {k} {g} {b} way = (said, file-of b (plai
 
     same : b .pixels ≡ a .pixels
     same = way .pixels ∙ front-same (g .target) (b .width) (b .height) (greys-read-back (way .turned) .1) (rw (home .0, home .1, there .0, there .1, moved) (film .whole)) ∙ moved
-
-    file : plain b ≡ plain a
-    file = rw (same, home .0, home .1, home .2, there .0, there .1, there .2) refl
-
-    count : length (plain b) ≡ n
-    count = ap length file ∙ count-of a (plain a) (plain-write-ends (way .makes)) (way .made)
-
-    said : writtenSays (b .answer) ≡ accepted n
-    said =
-        takes b (plain b) (plain-write-ends (way .again))
-        (rw (same, home .0, home .1, home .2, there .0, there .1, there .2) film) (rw count (way .wide))
-        ∙ ap accepted count

@@ -1,29 +1,30 @@
 -- Order 9, of every run of plain_sizes, read_plain and write_plain by their contracts: any two outcomes are equal, what each answer says, that a refusal keeps
 -- lent memory, and which files are accepted. A name with ′ is lent memory at the end.
 -- Assumes nothing.
-use Prim.Native.Nat.{ℕ, _-_, _*_, _≤_}
+use Prim.Native.Nat.{ℕ, zero, suc, _+_, _-_, _*_, _≤_, _<_}
 use mathlib.Core.List.{List}
-use mathlib.Core.Logic.{_↔_}
+use mathlib.Core.Logic.{_↔_, _⊎_, inl, inr}
 use mathlib.Core.Path.{_≡_, refl, sym, ap, _∙_}
 use native.Mathlib.Omega.{arith}
 use lib.ListN.{length}
 use Rattle.lists.specs.Lists.{onto}
-use Rattle.refuse.specs.Refuse.{first, accepted, refused, says}
+use Rattle.refuse.specs.Refuse.{first, Says, accepted, refused, says}
 use Rattle.header.specs.declared.Head.{Head}
 use Rattle.header.specs.declared.Head.the-variants as Head
 use Rattle.raster.specs.Raster.{headRows, Within}
 use Rattle.pgm.specs.declared.Sizes.{Sizes}
 use Rattle.pgm.specs.declared.Sizes.the-variants as Sizes
 use Rattle.pgm.specs.Pgm.{sizesSays}
-use Rattle.pgm_write.specs.Write.{writtenSays, Wrote, writtenOf}
+use Rattle.pgm_write.specs.Write.{pictureRows, writtenSays, Wrote, writtenOf}
 use Rattle.plain.specs.Plain.{plainHeadOf, greysFrom}
 use Rattle.plain.specs.Grammar.{PlainHeader, PlainHash, PlainFile}
-use Rattle.plain.proofs.Heads.{head-complete, plain-hash-exactly, plain-other-exactly}
+use Rattle.plain.proofs.Heads.{head-complete, plain-hash-exactly, plain-refused-number, plain-other-exactly}
 use Rattle.plain_read.specs.PlainRead.{plainRows, PlainRead, plainReadAs, plainOf, limitedOf}
 use Rattle.plain_read.proofs.Tables.{samples-kept, samples-laid, read-found, read-refused, sizes-limit, sizes-found, sizes-refused}
 use Rattle.plain_read.proofs.Accepted.{read-sound, read-complete}
 use Rattle.plain_write.specs.PlainWrite.{plainFileOf, plainWriteRows, plainWriteOf}
-use Rattle.promises.proofs.Accepted.{ByTable, table-says, table-kept}
+use Rattle.plain_write.proofs.Parts.{roomy}
+use Rattle.promises.proofs.Accepted.{says-refused, ByTable, table-says, table-kept}
 use Rattle.promises.proofs.Files.{write-table}
 use Rattle.promises.proofs.Runs.{SizesCall, WriteCall, write-given}
 use Rattle.plain_promises.proofs.Runs.{ReadsPlainSizes, plain-sizes-ends, PlainReadCall, plain-read-given, ReadsPlain, plain-read-ends, WritesPlain, plain-write-ends}
@@ -114,6 +115,12 @@ pub plain-write-says : {c : WriteCall} → WritesPlain c
     ≡ says (first (plainWriteRows (c .pixels) (c .width) (c .height) (c .maxval) (length (c .out)))) (length (plainFileOf (c .pixels) (c .width) (c .height) (c .maxval)))
 plain-write-says ran = ap (λ (x : Wrote). writtenSays (x .answer)) (plain-write-ends ran) ∙ table-says (write-table _ _ _ _ _ _)
 
+-- 18 bytes and five for each pixel are room enough for any film: 22, 23, 2 and 26 alone decide
+pub plain-write-roomy : {c : WriteCall} → WritesPlain c → 18 + c .width * c .height * 5 ≤ length (c .out)
+    → writtenSays (c .answer) ≡ says (first (pictureRows (c .pixels) (c .width) (c .height) (c .maxval))) (length (plainFileOf (c .pixels) (c .width) (c .height) (c .maxval)))
+plain-write-roomy {c} ran l =
+    plain-write-says ran ∙ ap (λ n. says n (length (plainFileOf (c .pixels) (c .width) (c .height) (c .maxval)))) (roomy (c .pixels) (c .width) (c .height) (c .maxval) (length (c .out)) l)
+
 -- ---- a refusal keeps lent memory
 
 -- a refused read leaves the target as it was
@@ -123,6 +130,25 @@ read-says-kept s target n q = go (plainHeadOf s) refl
     go : (x : Head) → plainHeadOf s ≡ x → plainOf s target .target ≡ target
     go (Head.Found w h m at) e = ap (λ (y : PlainRead). y .target) (table-kept (plain-table s target e) q)
     go (Head.Refused k) e = ap (λ (y : PlainRead). y .target) (sym (read-refused s target (sym e)))
+
+-- and no refusal is 0
+pub read-says-some : (s target : List ℕ) (n : ℕ) → sizesSays (plainOf s target .answer) ≡ refused n → 0 < n
+unfolding sizesSays
+read-says-some s target n q = go (plainHeadOf s) refl
+  where
+    some : (k : ℕ) (v : ℕ × ℕ × ℕ) → says k v ≡ refused n → 0 < n
+    some zero v e = absurd (let z : _≡_ {A = ℕ} 0 1 = cc in omega arith)
+    some (suc k) v e = omega (arith, says-refused (suc k) v e)
+
+    header : {k : ℕ} → (k ≡ 20) ⊎ (k ≡ 21) → k ≡ n → 0 < n
+    header (inl t) e = omega arith
+    header (inr t) e = omega arith
+
+    go : (x : Head) → plainHeadOf s ≡ x → 0 < n
+    go (Head.Found w h m at) e = some (first (plainRows s w h m at (length target))) (w, h, m) (sym (table-says (plain-table s target e)) ∙ q)
+    go (Head.Refused k) e =
+        let z : _≡_ {A = Says (ℕ × ℕ × ℕ)} (refused k) (refused n) = ap (λ (y : PlainRead). sizesSays (y .answer)) (read-refused s target (sym e)) ∙ q in
+        header (plain-refused-number s e) cc
 
 -- demand 1, "after a refusal all lent memory holds what it held before", of read_plain: the target
 pub plain-read-refusal-keeps : {r : PlainReadCall} (n : ℕ) → ReadsPlain r → sizesSays (r .answer) ≡ refused n → r .target′ ≡ r .target

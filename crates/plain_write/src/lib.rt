@@ -7,7 +7,8 @@ ghost use Rattle.pgm_write.specs.Write.{WriteAsks, wroteAs};
 ghost use Rattle.plain_write.specs.PlainWrite.{plainFileOf, plainWriteRows, plainWriteOf};
 use pgm_write::Written;
 
-// The first refusal of write, else 0.
+// The first refusal of write, else 0. No line of a film takes more than five bytes, so that they are counted only where there is
+// less room.
 fn write_refusal(picture: &[u16], width: u32, height: u32, maxval: u32, room: usize) -> u32
     ensures { λ r. ⌜ r ≡ first (plainWriteRows (now (picture .entry)) width height maxval room) ⌝ }
 {
@@ -16,7 +17,10 @@ fn write_refusal(picture: &[u16], width: u32, height: u32, maxval: u32, room: us
         return refusal;
     }
     let header = header::header_length(width, height, maxval);
-    if room < header + plain::lines_length(picture) {
+    if header + 5 * picture.len() <= room {
+        return 0;
+    }
+    if room < header + plain_lines::lines_length(picture) {
         return 27;
     }
     0
@@ -28,8 +32,8 @@ fn lay_file(picture: &[u16], width: u32, height: u32, maxval: u32, out: &mut [u8
     ensures { λ r. ⌜ (now (out .exit) ≡ onto (now (out .entry)) (plainFileOf (now (picture .entry)) width height maxval)) × (r ≡ length (plainFileOf (now (picture .entry)) width height maxval)) ⌝ }
 {
     let header = plain::lay_plain_head(out, width, height, maxval);
-    plain::lay_lines(picture, &mut out[header..]);
-    header + plain::lines_length(picture)
+    let lines = plain_lines::lay_lines(picture, &mut out[header..]);
+    header + lines
 }
 
 // Writes a picture as a plain PGM file at the front of out; bytes behind it keep their contents.

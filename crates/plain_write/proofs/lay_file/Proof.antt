@@ -1,7 +1,5 @@
--- The header at the front, and the raster in the part that is lent behind it. Assumes nothing.
+-- The header at the front, and the lines in the part that is lent behind it. Assumes nothing.
 use mathlib.Core.Path.{sym}
-use native.Mathlib.Omega.{arith}
-use Rattle.raster.proofs.Tables.{count-small}
 use Rattle.plain_write.proofs.Parts.{length-file, file-fits, file-room, file-laid}
 use borrow.Author.Needs.{needs}
 use Rattle.plain_write.proofs.lay_file.Statement.{statement}
@@ -22,17 +20,17 @@ part-lay-lines-end c = search needs
 lay-lines-requires : tie.Need-lay-lines-requires
 lay-lines-requires c κs = file-room (c .before .before .before .lay-plain-head .last .0) _ _ _ _ (c .before .before .before .before .before .before .before .pre) (c .before .before .before .lay-plain-head .kept .0) (c .before .before .before .lay-plain-head .ensures .1)
 
-lines-length-requires : tie.Need-lines-length-requires
-lines-length-requires c κs = let t = c .before .before .before .before .before .before .before .before .before .before .pre in omega (arith, t .film .whole, count-small _ _ (t .film .within .widest) (t .film .within .highest))
-
 add-result : tie.Need-add-result
-add-result c = search (needs, file-fits (c .before .before .before .before .before .before .before .before .before .before .before .pre))
+add-result c = search (needs, file-fits (c .before .before .before .before .before .before .before .before .before .before .pre))
 
 same-length : tie.Need-same-length
 same-length c = search needs
 
 returns : tie.Need-returns
-returns c = (file-laid _ _ _ _ _ (c .before .before .before .before .before .before .before .lay-plain-head .ensures .0) (c .before .before .before .before .before .before .before .lay-plain-head .ensures .1) (c .before .before .before .lay-lines .ensures), rw (c .before .before .before .before .before .before .before .lay-plain-head .ensures .1, c .lines-length .ensures) (sym (length-file _ _ _ _)))
+returns c = (
+  file-laid _ _ _ _ _ (c .before .before .before .before .before .before .lay-plain-head .ensures .0) (c .before .before .before .before .before .before .lay-plain-head .ensures .1) (c .before .before .lay-lines .ensures .0),
+  rw (c .before .before .before .before .before .before .lay-plain-head .ensures .1, c .before .before .lay-lines .ensures .1) (sym (length-file _ _ _ _)),
+)
 
 pub lay-file-spec : {M : Type 1} → statement M
 lay-file-spec =
@@ -43,7 +41,6 @@ lay-file-spec =
     part-lay-lines-start
     part-lay-lines-end
     lay-lines-requires
-    lines-length-requires
     add-result
     same-length
     returns)
