@@ -40,7 +40,7 @@ def measured(picture, at=(0, 0)):
         raise SystemExit("contrast.py: the line, and 13 rows above and below it, do not lie inside the film")
     contrast = statistics.mean(difference(picture, x, rows[x]) for x in rows)
     noise = statistics.pstdev(difference(picture, x, rows[x] + off) for x in rows for off in BESIDE)
-    return 100 * contrast / picture[2], contrast / noise
+    return 100 * contrast / picture[2], contrast / noise if noise else 0.0  # a film of one grey shows nothing
 
 
 def main():

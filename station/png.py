@@ -1,13 +1,19 @@
 #!/usr/bin/env python3
-"""png.py IN.pgm OUT.png [--bits 8|16] [--crop X,Y,WxH] [--zoom N]: turns a raw PGM into a grey PNG, to look at or to hand on.
+"""png.py IN.pgm OUT.png [--bits 8|16] [--crop X,Y,WxH] [--zoom N] [--force]: turns a raw PGM into a grey PNG, to look at or to
+hand on.
 
 Greys are scaled from 0..maxval to 0..255, or with --bits 16 to 0..65535, where no two of them become one. --crop takes the
-part that begins at column X, row Y and is W by H pixels; --zoom makes each pixel N by N.
+part that begins at column X, row Y and is W by H pixels; --zoom makes each pixel N by N. An OUT that is there is replaced
+with --force alone, and IN never (64).
 """
 import argparse
+import os
 import re
 import struct
+import sys
 import zlib
+
+BAD_WORDS = 64
 
 
 def read_pgm(data):
@@ -69,6 +75,34 @@ def png(picture, bits):
             + chunk(b"IEND", b""))
 
 
+def refuse(sentence, way):
+    sys.stderr.write("%s: %s\n  %s\n" % (os.path.basename(sys.argv[0]), sentence, way))
+    sys.exit(BAD_WORDS)
+
+
+def put(data, path, force, source=None):
+    """Puts a file in its place, whole. What is there may be a scan, as where a glob for one film finds two: it is replaced
+    where that is asked for, a link itself and not what it leads to, and the source never. Devices and pipes are written to."""
+    if source is not None and os.path.exists(path) and os.path.samefile(source, path):
+        refuse("%s would take the scan's own place, which --force does not permit either" % path, "Give another name.")
+    if os.path.realpath(path).startswith(("/dev/", "/proc/")) or os.path.abspath(path).startswith(("/dev/", "/proc/")):
+        with open(path, "wb") as out:
+            out.write(data)
+        return
+    if os.path.lexists(path) and not force:
+        refuse("%s is there already, and is left as it was" % path,
+               "Give another name, or, where this is no scan, say --force to have it replaced.")
+    part = "%s.%d.part" % (path, os.getpid())
+    try:
+        with open(part, "xb") as out:
+            out.write(data)
+        os.replace(part, path)
+    except BaseException:
+        if os.path.lexists(part):
+            os.unlink(part)
+        raise
+
+
 def part_of(word):
     """The four numbers of X,Y,WxH."""
     numbers = re.fullmatch(r"(\d+),(\d+),(\d+)x(\d+)", word)
@@ -84,14 +118,16 @@ def main():
     words.add_argument("--bits", type=int, choices=(8, 16), default=8)
     words.add_argument("--crop", type=part_of, metavar="X,Y,WxH")
     words.add_argument("--zoom", type=int, choices=range(1, 17), default=1, metavar="N")
+    words.add_argument("--force", action="store_true")
     asked = words.parse_args()
-    with open(asked.source, "rb") as source:
-        picture = read_pgm(source.read())
-    if asked.crop:
-        picture = cropped(picture, *asked.crop)
-    data = png(zoomed(picture, asked.zoom), asked.bits)
-    with open(asked.target, "wb") as out:
-        out.write(data)
+    try:
+        with open(asked.source, "rb") as source:
+            picture = read_pgm(source.read())
+        if asked.crop:
+            picture = cropped(picture, *asked.crop)
+        put(png(zoomed(picture, asked.zoom), asked.bits), asked.target, asked.force, asked.source)
+    except OSError as fault:
+        raise SystemExit("png.py: %s: %s" % (fault.filename or asked.target, fault.strerror)) from None
 
 
 if __name__ == "__main__":

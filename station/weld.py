@@ -1,11 +1,13 @@
 #!/usr/bin/env python3
-"""weld.py [OUT.pgm]: draws a synthetic radiograph of a girth weld, 512 by 384 pixels, 12 bits, as raw PGM.
+"""weld.py [OUT.pgm [--force]]: draws a synthetic radiograph of a girth weld, 512 by 384 pixels, 12 bits, as raw PGM.
 
 The film shows a base plate whose grey rises from one corner to the other, a weld bead with its ripples, the root band
 along the middle, eleven pores, a faint line of lack of fusion at the upper side wall, and film noise. Only the four
 basic operations are used, and the noise comes from a fixed generator, so every machine draws the same bytes.
 """
 import sys
+
+import png
 
 WIDTH, HEIGHT, MAXVAL = 512, 384, 4095
 MIDDLE = 196.0  # the row of the weld's axis
@@ -88,8 +90,7 @@ def main():
         raster += bytes((grey >> 8, grey & 255))
     data = b"P5\n%d %d\n%d\n" % (WIDTH, HEIGHT, MAXVAL) + bytes(raster)
     if len(sys.argv) > 1:
-        with open(sys.argv[1], "wb") as out:
-            out.write(data)
+        png.put(data, sys.argv[1], "--force" in sys.argv[2:])
     else:
         sys.stdout.buffer.write(data)
 
