@@ -94,15 +94,28 @@ own_films() { # FOLDER: how many have no record or another
     done
     echo "$other"
 }
+at_work() { [ -e "/proc/$1/status" ] && ! grep -q '^State:.*Z' "/proc/$1/status" 2>/dev/null; } # PROCESS
 killed() { # SIGNAL STATUS
     rm -rf batch_out
     $undo "$tz" enhance --into batch_out --records --jobs 2 batch/scans >wrote 2>said &
     child=$!
     while [ "$(ls batch_out 2>/dev/null | wc -l)" -lt 120 ] && kill -0 "$child" 2>/dev/null; do :; done
+    workers=''
+    if [ "$1" = KILL ]; then
+        kill -s STOP "$child" 2>/dev/null # so that it begins no other
+        workers=$(cat "/proc/$child/task/$child/children" 2>/dev/null)
+    fi
     kill -s "$1" "$child" 2>/dev/null
     wait "$child" 2>/dev/null
     saw=$?
-    sleep 0.5 # after KILL the two processes that were at work finish their films
+    [ -n "$workers" ] || sleep 0.5
+    waited=0 # after KILL the two processes that were at work finish their films
+    for worker in $workers; do
+        while at_work "$worker" && [ "$waited" -lt 3000 ]; do
+            waited=$((waited + 1))
+            sleep 0.01
+        done
+    done
     there=$(ls batch_out | grep -c 'pgm$')
     other=$(own_films batch_out)
     ok=yes
