@@ -195,7 +195,7 @@ cut_files() {
 places() {
     clear
     printf 'mine\n' >imported/kept.pgm
-    imports 'a film that is there and differs' 73 '--force replaces it' scans/kept.pgm --into imported
+    imports 'a film that is there and differs' 73 'where this is no scan, say --force to have it replaced' scans/kept.pgm --into imported
     [ "$(cat imported/kept.pgm)" = mine ] && [ ! -e imported/kept.json ] || ok=no
     told_of
     imports 'the same with --force' 0 '1 films of 1 files' scans/kept.pgm --into imported --force

@@ -178,7 +178,8 @@ def put(folder, named, force):
         path = os.path.join(folder, name)
         there = standing(path, data)
         if there == "other" and not force:
-            raise Ended("%s is there already, and is another" % shown(path), "--force replaces it.", CANNOT_CREATE)
+            raise Ended("%s is there already, and is another" % shown(path),
+                        "Import into another folder, or, where this is no scan, say --force to have it replaced.", CANNOT_CREATE)
         if there != "same":
             todo.append((path, data, there == "other"))
     try:
