@@ -1,4 +1,4 @@
-// Runs rows of plain files through the calls for C, and films there and back with the calls on raw files. The independent second
+// Runs rows of plain files through the calls for C, and films there and back with those on raw files. The independent second
 // program prints the same text.
 mod line;
 mod moves;

@@ -1,8 +1,5 @@
 // Films there and back: a raw file as plain and raw again, and a plain file as raw and plain again.
 use crate::line;
-use pgm::Sizes;
-use pgm_greys::Turned;
-use pgm_write::Written;
 
 // A refusal ends the way: its line, and no sizes.
 fn refused(letter: u8, no: u32, n: u32) -> [u32; 3] {
@@ -12,27 +9,20 @@ fn refused(letter: u8, no: u32, n: u32) -> [u32; 3] {
     [0; 3]
 }
 
-// The raster of a file whose sizes were found, turned into greys.
-fn turned(letter: u8, no: u32, file: &[u8], sizes: [u32; 3], target: &mut [u16]) -> [u32; 3] {
-    let raster = pgm::read_raster(file);
-    match pgm_greys::read_greys(raster, 0, sizes[0], sizes[1], sizes[2], target) {
-        Turned::Done => sizes,
-        Turned::Refused(n) => refused(letter, no, n),
-    }
-}
-
 // Reads a raw file: its sizes, and its greys in the target.
 fn read_raw(letter: u8, no: u32, file: &[u8], target: &mut [u16]) -> [u32; 3] {
-    match pgm::read_sizes(file) {
-        Sizes::Found(width, height, maxval) => turned(
-            letter,
-            no,
-            file,
-            [width, height, maxval],
-            target,
-        ),
-        Sizes::Refused(n) => refused(letter, no, n),
+    let mut sizes = [0u32; 3];
+    let n = abi_files::tz_read_sizes(file, &mut sizes);
+    if n != 0 {
+        return refused(letter, no, n);
     }
+    let mut part = [0usize; 2];
+    abi_files::tz_read_raster(file, &mut part);
+    let k = abi_files::tz_read_greys(file, part[0], sizes[0], sizes[1], sizes[2], target);
+    if k != 0 {
+        return refused(letter, no, k);
+    }
+    sizes
 }
 
 // Reads a plain file: its sizes, and its greys in the target.
@@ -56,16 +46,10 @@ fn written(letter: u8, no: u32, answer: u32, count: usize, out: &[u8]) {
 
 // Writes a film as a raw file; how many bytes that has.
 fn write_raw(letter: u8, no: u32, greys: &[u16], sizes: [u32; 3], out: &mut [u8]) -> usize {
-    match pgm_write::write(greys, sizes[0], sizes[1], sizes[2], out) {
-        Written::Bytes(count) => {
-            written(letter, no, 0, count, out);
-            count
-        }
-        Written::Refused(n) => {
-            written(letter, no, n, 0, out);
-            0
-        }
-    }
+    let mut count: usize = 0;
+    let n = abi_files::tz_write(greys, sizes[0], sizes[1], sizes[2], out, &mut count);
+    written(letter, no, n, count, out);
+    count
 }
 
 // Writes a film as a plain file; how many bytes that has.
