@@ -88,9 +88,9 @@ what_is_built >is
 if [ "$saw" -eq 3 ] && cmp -s was is && [ -d "$clone/target/rlib" ]; then ok=yes; else ok=no; fi
 report "$ok" 'the gate leaves program, library and rendering as they were' "status $saw: $(head -n 1 said | cut -c 1-60)"
 : >said
-(cd "$clone" && exec toolchain/keep sh -c 'rm -rf target && sleep 5') 2>said &
+(cd "$clone" && exec toolchain/keep sh -c 'rm -rf target && sleep 8') 2>said &
 child=$!
-for i in $(seq 500); do grep -q 'lies in' said || sleep 0.1; done
+for i in $(seq 500); do ! grep -q 'lies in' said || break; sleep 0.1; done
 kill "$child"
 wait "$child"
 saw=$?
