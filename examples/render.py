@@ -4,7 +4,7 @@
 LIBRARY is libtzofnadir.so, as station/install puts it into PREFIX/lib. The grid is 8 by 8, so that a film of any size from 8 by
 8 pixels up is taken, the range 0 to the file's maxval, the bins are the least of 1024 and the greys in the range; so OUT is what
 `tzofnadir enhance IN.pgm OUT.pgm --clip FACTOR --bins BINS` writes, which without --bins takes fewer for a small film. A refusal
-ends the program with its sentence. The limit and the factor used that are printed are those of the upper left tile.
+ends the program with its sentence, and an OUT that is there already is not replaced. The limit and the factor used that are printed are those of the upper left tile.
 """
 import ctypes
 import sys
@@ -109,8 +109,11 @@ def main():
         data = write(library, sizes, greys)
     except Refused as refused:
         raise SystemExit("render.py: refused, %d: %s" % refused.args) from None
-    with open(sys.argv[3], "wb") as out:
-        out.write(data)
+    try:
+        with open(sys.argv[3], "xb") as out:
+            out.write(data)
+    except FileExistsError:
+        raise SystemExit("render.py: %s is there already, and may be a scan: it is not replaced" % sys.argv[3]) from None
     print("limit %d, factor asked %.9g, factor used %.17g" % (footer.limit, footer.asked, footer.used))
 
 
