@@ -4,7 +4,8 @@
 LIBRARY is libtzofnadir.so, as station/install puts it into PREFIX/lib. The grid is 8 by 8, so that a film of any size from 8 by
 8 pixels up is taken, the range 0 to the file's maxval, the bins are the least of 1024 and the greys in the range; so OUT is what
 `tzofnadir enhance IN.pgm OUT.pgm --clip FACTOR --bins BINS` writes, which without --bins takes fewer for a small film. A refusal
-ends the program with its sentence, and an OUT that is there already is not replaced. The limit and the factor used that are printed are those of the upper left tile.
+ends the program with its sentence, and an OUT that is there already is not replaced. The limit and the factor used that are
+printed are those of the upper left tile.
 """
 import ctypes
 import sys
