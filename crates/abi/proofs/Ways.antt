@@ -15,7 +15,8 @@ use Rattle.prepare.specs.Prepare.{preparedSays, prepareRows, Ended, prepareOf, 
 use Rattle.tiles.specs.Tiles.{footOf}
 use Rattle.draw.specs.Draw.{drawRows, drawnSays, drawOf}
 use Rattle.draw.proofs.Tables.{draw-ready}
-use Rattle.promises.specs.Films.{ruleGrey, HandedOn}
+use Rattle.rule.specs.Rule.{ruleGrey}
+use Rattle.promises.specs.Films.{HandedOn}
 use Rattle.promises.proofs.Accepted.{table-says, returned-number, prepare-table, draw-table}
 use Rattle.promises.proofs.Demand2.{draw-agrees, own-window, drawn-is-film}
 use Rattle.flat.specs.Flat.{returned, clipFactor, recordNumbers, axesAfter, recordFrom}

@@ -22,7 +22,8 @@ use Rattle.draw.proofs.Tables.{draw-ready}
 use Rattle.draw.proofs.Laws.{other-field}
 use Rattle.profile.specs.Profile.{byteRows}
 use Rattle.profile.proofs.Profile.{byte-ready, byte-inside, profile-none}
-use Rattle.promises.specs.Films.{clippedCounts, ruleGrey, ClippingOn, FooterShows, limitIn, FilmSound, LimitFits, BinsReached}
+use Rattle.rule.specs.Rule.{ruleGrey}
+use Rattle.promises.specs.Films.{clippedCounts, ClippingOn, FooterShows, limitIn, FilmSound, LimitFits, BinsReached}
 use Rattle.promises.proofs.Accepted.{refused-says, table-accepted, prepare-work, enhance-work, draw-table}
 use Rattle.promises.proofs.Reuse.{left-settings}
 use Rattle.promises.proofs.Demand2.{divides-pixels, own-mapping, own-mapping-enhance, own-rendering, own-pixels}

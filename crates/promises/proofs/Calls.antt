@@ -22,7 +22,8 @@ use Rattle.held.specs.Held.{Held}
 use Rattle.draw.specs.Draw.{drawRows, drawnSays, Shows, showing, drawOf}
 use Rattle.draw.proofs.Laws.{other-field}
 use Rattle.draw.proofs.Tables.{draw-ready}
-use Rattle.promises.specs.Films.{clippedCounts, dividesIn, ruleGrey, HandedOn}
+use Rattle.rule.specs.Rule.{ruleGrey}
+use Rattle.promises.specs.Films.{clippedCounts, dividesIn, HandedOn}
 use Rattle.promises.proofs.Accepted.{refused-says, prepare-record}
 use Rattle.prepare.proofs.Like.{enhance-kept}
 use Rattle.promises.proofs.Reuse.{left-settings}

@@ -12,7 +12,8 @@ use Rattle.settings.specs.Settings.{Tiled}
 use Rattle.settings.proofs.Records.{tiled-columns, tiled-rows}
 use Rattle.tiles.specs.Tiles.{tileOf}
 use Rattle.tiles.proofs.Tiles.{tile-left, tile-top, tile-width, tile-height}
-use Rattle.promises.specs.Films.{LiesIn, InOneTile}
+use Rattle.rule.specs.Reach.{LiesIn}
+use Rattle.promises.specs.Films.{InOneTile}
 
 -- a pixel lies in tile k where its column and its row lie between the edges of the tile's
 module _ {w h : ℕ} {s : Settings} (tiled : Tiled w h s) (x y k : ℕ) where

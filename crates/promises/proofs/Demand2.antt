@@ -25,9 +25,8 @@ use Rattle.settings.specs.declared.Footer.{Footer}
 use Rattle.settings.specs.declared.Window.{Window}
 use Rattle.settings.specs.Settings.{binsOf, entriesOf, clipOne}
 use Rattle.render.specs.Render.{rectOf, renderedOf, renderOf, whole}
-use Rattle.render.proofs.Pixels.{tile-index}
 use Rattle.tally.proofs.Greys.{getD-greys}
-use Rattle.render.proofs.Laws.{render-at, rendered-by, window-law}
+use Rattle.render.proofs.Laws.{render-at, window-law}
 use Rattle.tiles.specs.Tiles.{tileOf, pixelsIn, mappings, Work, TilesAsk}
 use Rattle.tiles.proofs.Tiles.{length-tile-greys}
 use Rattle.counting.specs.Counting.{rawCounts}
@@ -36,7 +35,9 @@ use Rattle.prepare.proofs.Table.{rows-any}
 use Rattle.tiles.proofs.Films.{length-mappings, mappings-own}
 use Rattle.prepare.proofs.Renders.{laid-mapped, laid-render}
 use Rattle.draw.specs.Draw.{drawRows, drawnSays, Shows, drawOf}
-use Rattle.promises.specs.Films.{clippedCounts, dividesIn, tileValue, greyFrom, ruleGrey, HandedOn}
+use Rattle.rule.specs.Rule.{ruleGrey}
+use Rattle.rule.proofs.Rule.{rendered-rule}
+use Rattle.promises.specs.Films.{clippedCounts, dividesIn, HandedOn}
 use Rattle.promises.proofs.Accepted.{table-says, prepare-accepts, prepare-work, prepare-done, prepare-foot, enhance-table, enhance-work, enhance-done, draw-table}
 use Rattle.draw.proofs.Like.{drawn-pixels, draw-kept, draw-room}
 use Rattle.promises.proofs.Reuse.{left-room, left-laid, left-asks, draw-free}
@@ -100,11 +101,8 @@ own-mapping-enhance w h pic s m t e one k b l q =
 laid-grey : (m : List ℕ) {w h : ℕ} {pic : List ℕ} {s : Settings} {scratch : ℕ} → TilesAsk w h pic s (length m) scratch → (x y : ℕ) → x < w → y < h
     → within (s .min) (s .max) (getD pic (y * w + x) 0) ≡ true
     → renderedOf w h s (onto m (mappings w h pic s)) x y (getD pic (y * w + x) 0) ≡ ruleGrey w h pic s x y
-unfolding ruleGrey greyFrom tileValue
 laid-grey m {w} {h} {pic} {s} asks x y l k g =
-    rendered-by (laid-mapped m asks refl) (λ j i. tileValue w pic s (tileOf w h s (j * s .across + i)) (getD pic (y * w + x) 0)) (getD pic (y * w + x) 0) l k g
-    (λ j i p q bin.
-    laid-own w h pic s m (j * s .across + i) _ (tile-index {across = s .across} {down = s .down} p q) bin)
+    rendered-rule (record { mapped = laid-mapped m asks refl; own = laid-own w h pic s m }) x y l k g
 
 -- "The rendering of every accepted film is the one that the integer rule of document 01 gives for that film's own pixels and settings: whole":
 -- each pixel of enhance's picture

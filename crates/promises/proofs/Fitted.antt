@@ -29,7 +29,7 @@ use Rattle.tiles.proofs.Tiles.{tile-area, tile-is}
 use Rattle.tiles.proofs.Films.{mappings-by}
 use Rattle.tiles.proofs.Footers.{foot-is}
 use Rattle.prepare.specs.Prepare.{preparedSays, enhancedSays, Ended, Over, enhancedOf}
-use Rattle.promises.specs.Films.{greyFrom, ruleGrey}
+use Rattle.rule.proofs.Rule.{rule-from, grey-from}
 use Rattle.promises.specs.Fitted.{Fitted, fitRect, fitPixels, fitAlone, fitBetween, half, fitPlace, fitGrey, fitMappings, fitFoot, AxisAsBefore, FilmAsBefore}
 use Rattle.promises.proofs.Accepted.{prepare-work, prepare-foot, enhance-work, enhance-done, enhance-foot}
 use Rattle.promises.proofs.Reuse.{left-map}
@@ -116,12 +116,6 @@ fitted-not-short side grid some even = go (ltb side grid) refl
 
 -- ---- the film
 
--- the grey goes by the tiles' rectangles and the two places
-grey-from : (w : ℕ) (pic : List ℕ) (s : Settings) (v : ℕ) {tile before : ℕ → Rect} {column column′ row row′ : Place} → ((k : ℕ) → tile k ≡ before k) → column ≡ column′ → row ≡ row′
-    → greyFrom w pic s tile column row v ≡ greyFrom w pic s before column′ row′ v
-unfolding greyFrom
-grey-from w pic s v same c r = rw (c, r) (simp same)
-
 module _ {w h : ℕ} (s : Settings) (columns : AxisAsBefore w (s .across)) (rows : AxisAsBefore h (s .down)) where
   -- tile k is where it was, and as large
   rect-fitted : (k : ℕ) → tileOf w h s k ≡ fitRect w h s k
@@ -136,14 +130,14 @@ module _ {w h : ℕ} (s : Settings) (columns : AxisAsBefore w (s .across)) (rows
 
 -- a film whose sides are multiples of its grid: its tiles, their pixels, its greys, its mappings and its footer are those of the rule before
 pub fitted-film : {w h : ℕ} {s : Settings} → Tiled w h s → Fitted w h s → (pic : List ℕ) → FilmAsBefore w h pic s
-unfolding ruleGrey fitGrey fitMappings fitFoot
+unfolding fitGrey fitMappings fitFoot
 fitted-film {w} {h} {s} tiled fitted pic =
     let columns = fitted-axis (tiled-columns tiled) (fitted .columns) in
     let rows = fitted-axis (tiled-rows tiled) (fitted .rows) in
     record {
       tiles = rect-fitted s columns rows;
       pixels = pixels-fitted s columns rows;
-      greys = λ x y l k. grey-from w pic s (getD pic (y * w + x) 0) (rect-fitted s columns rows) (columns .places x l) (rows .places y k);
+      greys = λ x y l k. rule-from w h pic s x y ∙ grey-from w pic s (getD pic (y * w + x) 0) (rect-fitted s columns rows) (columns .places x l) (rows .places y k);
       maps = mappings-by w h pic s (rect-fitted s columns rows);
       foot = sym (foot-is w h s) ∙ ap (λ n. footerOf (s .clip) n (binsOf s)) (pixels-fitted s columns rows 0);
     }

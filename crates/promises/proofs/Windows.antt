@@ -23,7 +23,8 @@ use Rattle.settings.proofs.Records.{record-width, record-height, record-setting
 use Rattle.render.proofs.Laws.{render-fields}
 use Rattle.draw.proofs.Like.{drawn-pixels}
 use Rattle.draw.proofs.Tables.{draw-ready}
-use Rattle.promises.specs.Films.{ruleGrey, HandedOn}
+use Rattle.rule.specs.Rule.{ruleGrey}
+use Rattle.promises.specs.Films.{HandedOn}
 use Rattle.promises.proofs.Accepted.{table-accepted, table-done, prepare-work, prepare-record, draw-table}
 use Rattle.promises.proofs.Demand2.{draw-agrees, drawn-is-enhanced, own-window, drawn-is-film}
 

@@ -1,4 +1,4 @@
--- What the promises speak of: the grey of a pixel by document 01's rule, the one tile that a pixel lies in, clipping that is on, the footer by the clip setting,
+-- What the promises speak of, beside the rule's grey (crate `rule`): a tile's clipped counts, the one tile that a pixel lies in, clipping that is on, the footer by the clip setting,
 -- what holds of each tile of an accepted film with clipping on, its limit, and that its bins are reached.
 -- w and h are the film's width and height, pic its pixels.
 -- Assumes nothing.
@@ -23,11 +23,9 @@ use Rattle.settings.specs.declared.Settings.{Settings}
 use Rattle.settings.specs.declared.Footer.{Footer}
 use Rattle.settings.specs.declared.Window.{Window}
 use Rattle.settings.specs.Settings.{binsOf, entriesOf, keptOf, clipOne}
-use Rattle.blend.specs.declared.Place.{Place}
-use Rattle.blend.specs.Blend.{greyOf}
-use Rattle.render.specs.Render.{columnPlace, rowPlace}
 use Rattle.counting.specs.Counting.{rawCounts}
 use Rattle.tiles.specs.Tiles.{tileOf, pixelsIn, none, one}
+use Rattle.rule.specs.Reach.{LiesIn}
 
 -- ---- a tile
 
@@ -38,31 +36,6 @@ clippedCounts w h pic s k = tileCounts (s .min) (s .max) (binsOf s) (s .edition)
 -- what its mapping divides by: N, its pixels; in the edition of 1986 with a factor "the new total T instead of N"
 abbrev pub dividesIn : ℕ → ℕ → List ℕ → Settings → ℕ → ℕ
 dividesIn w h pic s k = tileDivides (s .min) (s .max) (binsOf s) (s .edition) (s .clip) (greysOf pic w (tileOf w h s k))
-
--- the mapped value of a grey v by a tile that is the rectangle r of the film: of that tile's own clipped counts, over what their mapping divides by, at the grey's bin
-unfoldable pub tileValue : ℕ → List ℕ → Settings → Rect → ℕ → ℕ
-tileValue w pic s r v =
-    mappedOf (s .min) (s .max)
-    (tileDivides (s .min) (s .max) (binsOf s) (s .edition) (s .clip) (greysOf pic w r))
-    (tileCounts (s .min) (s .max) (binsOf s) (s .edition) (s .clip) (greysOf pic w r))
-    (binOf (s .min) (s .max) (binsOf s) v)
-
--- the grey of a pixel of grey v from the tiles of its two places, `tile k` being the rectangle of tile k, "tiles row by row"
-unfoldable pub greyFrom : ℕ → List ℕ → Settings → (ℕ → Rect) → Place → Place → ℕ → ℕ
-greyFrom w pic s tile column row v =
-    let value : ℕ → ℕ → ℕ = λ j i. tileValue w pic s (tile (j * s .across + i)) v in
-    greyOf column row (value (row .lower) (column .lower)) (value (row .lower) (column .upper)) (value (row .upper) (column .lower)) (value (row .upper) (column .upper))
-
--- the grey of the pixel in column x and row y by "the integer rule of document 01 .. for that film's own pixels and settings", with the tiles and places of order 6
-unfoldable pub ruleGrey : ℕ → ℕ → List ℕ → Settings → ℕ → ℕ → ℕ
-ruleGrey w h pic s x y = greyFrom w pic s (tileOf w h s) (columnPlace w s x) (rowPlace h s y) (getD pic (y * w + x) 0)
-
--- the pixel in column x and row y lies in the rectangle r
-pub record LiesIn (x y : ℕ) (r : Rect) : Type 0 where
-  pub left : r .left ≤ x
-  pub right : x < r .left + r .width
-  pub top : r .top ≤ y
-  pub bottom : y < r .top + r .height
 
 -- order 6, tiles without gap or overlap: it lies in one tile of the film and in no other
 pub record InOneTile (w h : ℕ) (s : Settings) (x y : ℕ) : Type 0 where

@@ -18,7 +18,7 @@ use Rattle.settings.specs.declared.Settings.{Settings}
 use Rattle.settings.specs.declared.Footer.{Footer}
 use Rattle.settings.specs.Settings.{binsOf}
 use Rattle.tiles.specs.Tiles.{tileOf, pixelsIn, mappings, footerOf, footOf}
-use Rattle.promises.specs.Films.{greyFrom, ruleGrey}
+use Rattle.rule.specs.Rule.{greyFrom, ruleGrey}
 
 -- "Both sides are multiples of the grid."
 pub record Fitted (w h : ℕ) (s : Settings) : Type 0 where
