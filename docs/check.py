@@ -1,6 +1,6 @@
 """Holds the papers to the repository. PROMISES.md: each theorem and definition that it names stands in the module that it
 names, each function is there, and each must-fail edit is named. RULES.md and CHANGING.md: what they name as `crate: name`
-stands in that crate. crates.txt: each crate names what it uses itself.
+stands in that crate. crates.txt: each crate names what it uses itself. Must-fail edits: what each replaces stands once.
 
 Run: python3 -B docs/check.py
 """
@@ -19,7 +19,7 @@ PART = re.compile(r"^(?:`(?P<crate>\w+)` )?(?P<module>[A-Z]\w*): ")
 REACHED = {"listing_program": {"pgm_write"}, "draw": {"limit"}, "byte_draw": {"limit"}}
 # a map record holds what `grid` keeps of an axis
 REACHED.update({"prepare": {"limit", "grid"}, "counts": {"limit", "grid"}, "byte_film": {"limit", "grid"}})
-REACHED.update({name: {"grid"} for name in ("film_lines", "abi", "abi_bytes", "byte_films", "count_films")})
+REACHED.update({name: {"grid"} for name in ("film_lines", "abi", "abi_bytes", "byte_films", "count_films", "reach_films")})
 REACHED["abi_counts"] = {"grid", "prepare"}
 
 
@@ -97,6 +97,24 @@ def listed():
     return faults
 
 
+def stale():
+    """The must-fail edits whose text does not stand exactly once in the file that they name, as left by the replacements before it."""
+    faults = []
+    for path in sorted(glob.glob(TOP + "/crates/*/must-fail/*.edit")):
+        crate, edit, texts, name, old = path.split("/")[-3], os.path.basename(path), {}, "", ""
+        for line in read(path).split("\n"):
+            if line.startswith("file: "):
+                name = line[len("file: "):]
+                texts.setdefault(name, read(f"crates/{crate}/{name}"))
+            if line.startswith("old: "):
+                old = line[len("old: "):]
+                if texts[name].count(old) != 1:
+                    faults.append(f"{crate}/{edit}: what it replaces stands {texts[name].count(old)} times in {name}")
+            if line.startswith("new:"):
+                texts[name] = texts[name].replace(old, line[len("new:"):].removeprefix(" "), 1)
+    return faults
+
+
 def main():
     """Says what is named and not there, and what is there and not named."""
     edits = {f"{path.split('/')[-3]}/{os.path.basename(path)[:-len('.edit')]}" for path in glob.glob(TOP + "/crates/*/must-fail/*.edit")}
@@ -108,7 +126,7 @@ def main():
     faults = ["PROMISES.md: " + fault for part in parts for fault in missing(part, stated, known)]
     faults += [f"PROMISES.md: {name} is named and is no edit" for name in sorted(named - edits)]
     faults += [f"PROMISES.md: {name} is an edit and is not named" for name in sorted(edits - named)]
-    faults += papers(stated) + listed()
+    faults += papers(stated) + listed() + stale()
     for fault in faults:
         print(fault, file=sys.stderr)
     print(f"PROMISES.md names {len(edits & named)} of {len(edits)} must-fail edits, and in {len(parts)} places what carries a promise")

@@ -33,7 +33,7 @@ extern "C" {
 #endif
 
 /* The edition of this header and of the library, as in the file VERSION. */
-#define TZ_VERSION "4.9.0"
+#define TZ_VERSION "4.10.0"
 
 /* The functions with bodies are compiled into what includes this header. station/structs.c, which is a part of the library,
    says otherwise, and so they have names in it as well. */

@@ -3,6 +3,7 @@
 import {MOST_BINS, MOST_ENTRIES, MOST_SIDE, USUAL_BINS, makeLibrary, settingsOf, tilingOf} from './calls.js';
 import {cellsOf, meanOf} from './cells.js';
 import {renderingName} from './names.js';
+import {isAsScanned, sidesOf, usedTiles} from './reach.js';
 import {recordText} from './record.js';
 import {isPlain, moreOfFile, moreOfRendering, moreOfSettings} from './refuse.js';
 
@@ -210,8 +211,8 @@ function dotOf(film, s, {cell}) {
     rendered: meanOf(drawn.greys, 0, cell.width, cell.width, cell.height)}};
 }
 
-// What is under the pointer, from the library's own numbers: greys, and the counts, the limit and the mapping of the pixel's
-// tile.
+// What is under the pointer, from the library's own numbers: greys, the counts, the limit and the mapping of the pixel's tile, and
+// the tiles that its rule uses.
 export function probe(film, s, at) {
   const {dot, refusal} = dotOf(film, s, at);
   if (refusal) return {refusal};
@@ -223,13 +224,14 @@ export function probe(film, s, at) {
   const tile = tileOf(film, s, at.x, at.y);
   const first = tile.index * bins;
   // at factor 1.0 nothing is mapped, and the map buffer holds what an earlier factor left
-  const unmapped = s.clip && s.factor === 1;
+  const unmapped = isAsScanned(s);
   return {
     x: at.x, y: at.y, bins, tile, rendered, dot, edition: s.clip ? s.edition : 0,
     scanned: room.u16(film.picture + 2 * (at.y * film.width + at.x), 1)[0],
     counts: room.u32(film.counts + 4 * first, bins).slice(),
     mapping: unmapped ? null : room.u16(film.map + 2 * first, bins).slice(),
     limit: limitOf(film, s, tile, bins), min: s.min, max: s.max,
+    used: unmapped ? [] : usedTiles(sidesOf(film.record.axes, s), at.x, at.y),
     // at factor 1.0 nothing is listed either
     excess: unmapped ? null : film.looks[2 * tile.index], looks: unmapped ? null : film.looks[2 * tile.index + 1],
   };

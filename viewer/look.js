@@ -271,18 +271,24 @@ export function pixelOf(film, x, y) {
 
 // ---- what lies over the pictures ----
 
-// The same place in the other picture: a cross where the pointer is not, the outline of the tile in both, and what other modules
+// The tiles that are outlined: the one that the pixel lies in, or those that its rule uses.
+function tilesOutlined() {
+  if (!state.probe || state.outlined === 'none') return [];
+  return state.outlined === 'tile' ? [state.probe.tile] : state.probe.used;
+}
+
+// The same place in the other picture: a cross where the pointer is not, the outlines of tiles in both, and what other modules
 // draw.
 export function placeMarks() {
   const place = look.painted;
   const at = place ? state.at : null;
-  const tile = at && state.tileShown && state.tile;
+  const tiles = at ? tilesOutlined() : [];
   for (const frame of frames()) {
     const cross = frame.querySelector('.cross');
     const shown = at && at.frame !== frame && (hasTwo() || !at.frame);
     cross.style.display = shown ? 'block' : 'none';
     if (shown) moveTo(cross, ...toDot(place, at.cell.x + at.cell.width / 2, at.cell.y + at.cell.height / 2));
-    outlineTile(frame.querySelector('.tile-mark'), place, tile);
+    for (const [i, mark] of frame.querySelectorAll('.tile-mark').entries()) outlineTile(mark, place, tiles[i]);
   }
   drawOverlays();
   for (const act of parts.watches) act(place);

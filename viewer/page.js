@@ -11,13 +11,15 @@ import {wireLens} from './lens.js';
 import {MODES, blink, choosePair, fit, flip, look, measurePane, setMode, turnRight, zoomBeside, zoomId, zoomTo} from './look.js';
 import {wireMarks} from './marks_panel.js';
 import {dueMeasures, wireMeasures} from './measure_panel.js';
+// what is drawn over the pictures, from below: shading, outlines
+import {wireReach} from './reach_panel.js';
 import './overlay.js';
 import {dueOverview, wireOverview} from './overview.js';
 import {changeClip, changeEdition, fillPanel, forgetTyping, resetDisplay, setInvert, stepFactor, wirePanel} from './panel.js';
 import {addKey, parts} from './parts.js';
 import {STEPS} from './place.js';
 import {chooseTool, wirePointer} from './pointer.js';
-import {showTile} from './reading.js';
+import {outlineNext, outlineTiles} from './reading.js';
 import {dueReading, dueReport, wireReport} from './report_panel.js';
 import {ask, askView, dueSaving} from './save.js';
 import {dueShow, fillCaptions} from './show.js';
@@ -59,7 +61,7 @@ addKey({keys: ['e'], what: 'edition of the clip rule: ours, 1986',
   act: onceEach(event => changeEdition(1 - state.film.settings.edition, event))});
 addKey({keys: ['i'], what: 'invert the display', act: event => setInvert(!state.film.display.invert, event)});
 addKey({keys: ['r'], what: 'reset the display', act: resetDisplay});
-addKey({keys: ['t'], what: 'outline the tile under the pointer', bare: true, act: () => showTile(!state.tileShown)});
+addKey({keys: ['t'], what: 'outline the tile under the pointer; again: those used; again: none', bare: true, act: outlineNext});
 addKey({keys: ['ctrl+z'], what: 'undo: settings, display, marks', act: event => takeBack(undo, event)});
 addKey({keys: ['ctrl+y', 'ctrl+shift+z'], what: 'redo', act: event => takeBack(redo, event)});
 addKey({keys: ['?'], what: 'this list', bare: true, act: () => element('keys-panel').showModal()});
@@ -96,7 +98,9 @@ function wireViewBar() {
   element('flip').onclick = flip;
   element('undo').onclick = event => takeBack(undo, event);
   element('redo').onclick = event => takeBack(redo, event);
-  element('tile-shown').onchange = event => showTile(event.target.checked);
+  for (const which of ['tile', 'used']) {
+    element(`outline-${which}`).onclick = () => outlineTiles(state.outlined === which ? 'none' : which);
+  }
 }
 
 // Files may be dropped anywhere on the page; else the browser would leave the page for the file.
@@ -155,6 +159,7 @@ function begin() {
   wirePanel();
   wireMeasures();
   wireMarks();
+  wireReach();
   wireReport();
   wirePointer();
   wireKeys();

@@ -132,14 +132,33 @@ export function cellAt(place, dotX, dotY) {
 
 // The cell that has a pixel; the last one of those that show it.
 export function cellOfPixel(zoom, film, x, y) {
-  const index = at => zoom.block ? Math.floor(at / zoom.block) : Math.ceil((at + 1) * zoom.p / UNIT) - 1;
-  return cellOf(zoom, film, index(x), index(y));
+  return cellOf(zoom, film, cellsShowing(zoom, x).last, cellsShowing(zoom, y).last);
 }
 
 function cellOf(zoom, film, cellX, cellY) {
   const x = cellStart(zoom, cellX);
   const y = cellStart(zoom, cellY);
   return {x, y, width: cellEnd(zoom, cellX, film.width) - x, height: cellEnd(zoom, cellY, film.height) - y};
+}
+
+// The first and the last cell of a direction that show a pixel: more than one where a pixel is more than a dot.
+function cellsShowing(zoom, at) {
+  const last = zoom.block ? Math.floor(at / zoom.block) : Math.ceil((at + 1) * zoom.p / UNIT) - 1;
+  return {first: zoom.p > UNIT && !zoom.block ? Math.ceil(at * zoom.p / UNIT) : last, last};
+}
+
+// The dots that show a pixel of a rectangle of the film, whole ones: {x, y, width, height}, also beyond the pane.
+export function dotsShowing(place, box) {
+  const {zoom, turn, dotsX, dotsY, edgeX, edgeY} = place;
+  const span = (from, length, dots, isReversed) => {
+    const first = cellsShowing(zoom, from).first * zoom.shown;
+    const count = (cellsShowing(zoom, from + length - 1).last + 1) * zoom.shown - first;
+    return {first: isReversed ? dots - first - count : first, count};
+  };
+  const across = span(box.left, box.width, dotsX, turn.reverseX);
+  const down = span(box.top, box.height, dotsY, turn.reverseY);
+  const [right, below] = turn.aside ? [down, across] : [across, down];
+  return {x: edgeX + right.first, y: edgeY + below.first, width: right.count, height: below.count};
 }
 
 // Whether a film's window holds another.

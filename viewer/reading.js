@@ -1,9 +1,9 @@
 // The pixel that is read: its greys, its tile, and the tile's plot.
 import {element, setText} from './dom.js';
-import {drawOverlays, look, pixelOf, placeMarks} from './look.js';
+import {look, pixelOf, placeMarks} from './look.js';
 import {editionWords} from './numbers.js';
 import {drawTilePlot} from './plots.js';
-import {filmReady, state, want} from './state.js';
+import {OUTLINED, filmReady, state, want} from './state.js';
 
 // at: {x, y, cell, frame}, or null.
 export function readAt(at) {
@@ -49,6 +49,20 @@ function tileNote(probe) {
   return probe.mapping ? `E ${probe.excess}, looks ${probe.looks}${edition}` : 'factor 1.0: nothing is mapped';
 }
 
+// Where the four corners stand that a pixel's rule may use: upper left, upper right, lower left, lower right. Those that are used
+// have the tile's place in the grid and its weight; beside them stands what the weights add up to.
+function fillUsed(probe) {
+  const used = probe ? probe.used : [];
+  const [across, down] = ['across', 'down'].map(key => Math.min(...used.map(tile => tile[key])));
+  const cells = ['', '', '', ''];
+  for (const tile of used) {
+    cells[2 * (tile.down - down) + tile.across - across] = `${tile.across + 1}, ${tile.down + 1}: ${tile.weight}`;
+  }
+  if (used.length === 0) cells[0] = probe ? 'its own grey alone: factor 1.0' : '–';
+  cells.forEach((text, i) => setText(`used-${i}`, text));
+  setText('used-sum', used.length === 0 ? '' : `of ${used.reduce((sum, {weight}) => sum + weight, 0)}`);
+}
+
 export function fillReading(probe) {
   state.probe = probe;
   state.tile = probe ? probe.tile : null;
@@ -60,14 +74,17 @@ export function fillReading(probe) {
   setText('at-tile', tile ? `${tile.across + 1} across, ${tile.down + 1} down` : '–');
   setText('at-rectangle', tile ? `columns ${tile.left} to ${tile.left + tile.width - 1}, ` +
     `rows ${tile.top} to ${tile.top + tile.height - 1}` : '');
+  fillUsed(probe);
   setText('tile-note', tileNote(probe));
   drawTilePlot(probe);
   placeMarks();
 }
 
-export function showTile(on) {
-  state.tileShown = on;
-  element('tile-shown').checked = on;
+export function outlineTiles(which) {
+  state.outlined = which;
+  for (const each of ['tile', 'used']) element(`outline-${each}`).setAttribute('aria-pressed', String(each === which));
   placeMarks();
-  drawOverlays();
 }
+
+// A press more: the next one, and behind the last none.
+export function outlineNext() { outlineTiles(OUTLINED[(OUTLINED.indexOf(state.outlined) + 1) % OUTLINED.length]); }

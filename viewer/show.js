@@ -65,7 +65,7 @@ function shown(film, asked, answer, marks) {
   film.refusal = answer.refusal || (answer.fault ? {number: null, sentence: answer.fault, more: []} : null);
   if (before !== Boolean(film.refusal)) listFilms();
   if (film.refusal) look.kept.delete(film.number);
-  else if (answer.picture && !film.closed) keepDrawn(film, {...asked, footer: answer.footer}, answer.picture);
+  else if (answer.picture && !film.closed) keepDrawn(film, {...asked, footer: answer.footer, axes: answer.axes}, answer.picture);
   if (state.film !== film) return besideShown(film);
   showRefusal(film.refusal);
   fillFooter(film.refusal ? null : answer.footer, asked.settings, film);

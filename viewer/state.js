@@ -1,13 +1,16 @@
 // What the page wants to show: the newest state is what is asked for next.
 import {pump} from './ask.js';
 
+// What the key for it goes through: none, the tile that the pixel lies in, the tiles that its rule uses.
+export const OUTLINED = ['none', 'tile', 'used'];
+
 export const state = {
   films: [],
   film: null, // the one that is looked at
   at: null, // the pixel that is read, {x, y, frame}
   probe: null, // what was read there
   tile: null,
-  tileShown: false,
+  outlined: 'none', // which tiles are outlined: one of OUTLINED
   version: '',
 };
 

@@ -50,6 +50,7 @@ function toShow(message) {
   const answer = settle(film, message.settings);
   if (answer.refusal) return answer;
   answer.footer = film.footer;
+  answer.axes = film.record.axes;
   if (message.place) answer.picture = picture(film, message.settings, message.place, message.spare);
   if (answer.picture && answer.picture.refusal) return answer.picture;
   if (message.at) answer.probe = probe(film, message.settings, message.at);

@@ -6,6 +6,7 @@ import { renderings } from './renderings.mjs';
 import { helpers } from './helpers.mjs';
 import { modules } from './modules.mjs';
 import { measuring } from './measuring.mjs';
+import { reaching } from './reaching.mjs';
 import { reporting } from './reporting.mjs';
 
 const [room, ...programs] = process.argv.slice(2);
@@ -40,6 +41,7 @@ const wasm = readFileSync('target/viewer/tzofnadir.wasm');
 renderings(wasm, room, trial);
 helpers(wasm, trial);
 modules(wasm, room, trial);
+reaching(wasm, trial);
 measuring(trial);
 reporting(trial);
 console.log(`${tried} tried, ${good} as expected`);

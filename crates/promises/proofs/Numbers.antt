@@ -12,8 +12,9 @@ use Rattle.binning.specs.Binning.{binOf}
 use Rattle.tile.specs.Tile.{mappedOf, mappingOf}
 use Rattle.grid.specs.Grid.{edgeOf, sizeOf, centreOf}
 use Rattle.blend.specs.Blend.{reachedOf, placeOf, greyOf}
-use Rattle.promises.specs.Worked.{greyAt, holds, allHold, worked}
+use Rattle.rule.specs.Reach.{cornerTiles, inUse, usedTiles}
+use Rattle.promises.specs.Worked.{weighedNumbers, greyAt, holds, allHold, worked}
 
 pub worked-numbers : allHold worked ≡ true
-unfolding same greyAt holds allHold worked ofBits tab total flooredOf limitOf excess share left walk starts clipped looksIn looksFrom looksOf levelFrom levelOf older binOf mappedOf mappingOf edgeOf sizeOf centreOf reachedOf placeOf greyOf
+unfolding same weighedNumbers greyAt holds allHold worked ofBits tab total flooredOf limitOf excess share left walk starts clipped looksIn looksFrom looksOf levelFrom levelOf older binOf mappedOf mappingOf edgeOf sizeOf centreOf reachedOf placeOf greyOf cornerTiles inUse usedTiles
 worked-numbers = refl

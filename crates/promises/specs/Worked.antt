@@ -7,6 +7,8 @@ use lib.Dec.{eqb}
 use lib.ListN.{getD}
 use lib.Ieee.{ofBits, binary32}
 use Rattle.lists.specs.Lists.{same}
+use Rattle.limit.specs.declared.Clip.the-variants.{Off}
+use Rattle.limit.specs.declared.Edition.the-variants.{Ours}
 use Rattle.limit.specs.Limit.{limitOf}
 use Rattle.clip.specs.Clip.{clipped}
 use Rattle.clip.specs.Looks.{looksOf}
@@ -16,6 +18,8 @@ use Rattle.tile.specs.Tile.{mappingOf}
 use Rattle.grid.specs.Grid.{edgeOf, centreOf}
 use Rattle.blend.specs.declared.Place.{Place}
 use Rattle.blend.specs.Blend.{placeOf, greyOf}
+use Rattle.settings.specs.declared.Settings.{Settings}
+use Rattle.rule.specs.Reach.{Weighed, usedTiles}
 
 -- a worked number: what goes in, and last what the document says comes out
 pub data Worked : Type 0 where
@@ -41,10 +45,21 @@ pub data Worked : Type 0 where
   place : ℕ → ℕ → ℕ → List ℕ → Worked
   -- a side of a square film of 2 by 2 tiles, whose mapped values are 10, 20, 30, 41, and a pixel: its grey
   grey : ℕ → ℕ → ℕ → ℕ → Worked
+  -- order 10: a side and a grid of a square film, and a pixel: the tiles that its rule uses, each with its weight
+  used : ℕ → ℕ → ℕ → ℕ → List ℕ → Worked
 
 -- the numbers of a place
 abbrev pub numbers : Place → List ℕ
 numbers p = p .lower ∷ p .upper ∷ p .lowerweight ∷ p .upperweight ∷ p .span ∷ []
+
+-- and those of weighed tiles
+unfoldable pub weighedNumbers : List Weighed → List ℕ
+weighedNumbers [] = []
+weighedNumbers (t ∷ ts) = t .tile ∷ t .weight ∷ weighedNumbers ts
+
+-- settings of a square grid; the others have no part in which tiles are used
+abbrev pub squareGrid : ℕ → Settings
+squareGrid grid = record { across = grid; down = grid; bins = 2; min = 0; max = 1; clip = Off; edition = Ours }
 
 -- the grey of that pixel
 unfoldable pub greyAt : ℕ → ℕ → ℕ → ℕ
@@ -69,6 +84,7 @@ holds (edge side grid i e) = eqb (edgeOf side grid i) e
 holds (centre side grid i c) = eqb (centreOf side grid i) c
 holds (place side grid x ns) = same (numbers (placeOf side grid x)) ns
 holds (grey side x y v) = eqb (greyAt side x y) v
+holds (used side grid x y ns) = same (weighedNumbers (usedTiles side side (squareGrid grid) x y)) ns
 
 -- all of a table hold: "rows of a single table under a single claim"
 unfoldable pub allHold : List Worked → Bool
@@ -133,4 +149,9 @@ worked =
     ∷ older 5 (17 ∷ 0 ∷ 0 ∷ 0 ∷ []) (5 ∷ 4 ∷ 4 ∷ 4 ∷ [])
     ∷ level 6 (4 ∷ 4 ∷ 4 ∷ 4 ∷ []) 6
     ∷ older 6 (4 ∷ 4 ∷ 4 ∷ 4 ∷ []) (4 ∷ 4 ∷ 4 ∷ 4 ∷ [])
+    -- Order 10, a film of 5 by 5, grid 2 by 2: column 1 stands on centre 0 and uses one tile column, column 2 two. Pixel x 1, y 1 uses tile 0 by 4;
+    -- x 2, y 1 tiles 0 and 1 by 2 each; x 2, y 2 all four by 1 each.
+    ∷ used 5 2 1 1 (0 ∷ 4 ∷ [])
+    ∷ used 5 2 2 1 (0 ∷ 2 ∷ 1 ∷ 2 ∷ [])
+    ∷ used 5 2 2 2 (0 ∷ 1 ∷ 1 ∷ 1 ∷ 2 ∷ 1 ∷ 3 ∷ 1 ∷ [])
     ∷ []
