@@ -37,14 +37,15 @@ static const struct reel {
 /* In the order in which they take turns: draw comes behind prepare, with whose mappings it draws. */
 enum call {
     ENHANCE, ENHANCE_BYTES, BY_1994, COPY, SCAN, UNCLIPPED, NEAR_ONE, OF_1986, PREPARE, DRAW, PREPARE_BYTES, DRAW_BYTES,
-    COUNT, MAP, TO_RAW, TO_PLAIN, WRITE, READ, CALLS
+    COUNT, MAP, TO_RAW, TO_PLAIN, WRITE, READ, STORE, ROOM_DRAW, DROP, MOVE, CALLS
 };
 
 #define ONE(call) (1u << (call))
 #define BYTES (ONE(ENHANCE_BYTES) | ONE(PREPARE_BYTES) | ONE(DRAW_BYTES)) /* for films of 8 bits alone */
 #define COUNTS (ONE(COUNT) | ONE(MAP)) /* in this order: mapping wants the counts */
 #define TEXT (ONE(TO_RAW) | ONE(TO_PLAIN)) /* for films that were laid down as text */
-#define ALL ((ONE(CALLS) - 1) & ~BYTES & ~COUNTS & ~TEXT & ~ONE(NEAR_ONE) & ~ONE(OF_1986))
+#define ROOM (ONE(STORE) | ONE(ROOM_DRAW) | ONE(DROP) | ONE(MOVE)) /* in this order: draw and drop want the store */
+#define ALL ((ONE(CALLS) - 1) & ~BYTES & ~COUNTS & ~TEXT & ~ROOM & ~ONE(NEAR_ONE) & ~ONE(OF_1986))
 
 static const struct {
     void (*before)(struct bench *);
@@ -58,6 +59,8 @@ static const struct {
     [PREPARE_BYTES] = {NULL, call_prepare_bytes},
     [DRAW_BYTES] = {NULL, call_draw_bytes},
     [TO_RAW] = {NULL, call_to_raw},      [TO_PLAIN] = {NULL, call_to_plain},
+    [STORE] = {lay_but_one, call_store}, [ROOM_DRAW] = {lay_all, call_room_draw},
+    [DROP] = {lay_all, call_drop},       [MOVE] = {NULL, call_move},
 };
 
 /* What was measured of a film: the best turn of each call, in nanoseconds. */
@@ -116,6 +119,10 @@ static struct result measure(const struct subject *of, unsigned which)
     if ((which & TEXT) != 0) {
         open_plain(&b);
         check_plain(&b);
+    }
+    if ((which & ROOM) != 0) {
+        open_room(&b);
+        check_room(&b);
     }
     struct result r = {.pixels = (double)b.pixels, .area = (double)b.area, .share = share_of(&b)};
     for (int i = rounds(of->height); i > 0; i--)
@@ -452,6 +459,60 @@ static void text_table(const char *netpbm)
             text_rows(&reels[j], text_sides[i], netpbm);
 }
 
+/* ---- one room ---- */
+
+static void store_row(uint32_t side, uint32_t bins)
+{
+    struct subject of = usual(NOISY, side, 12);
+    of.bins = bins;
+    struct result r = measure(&of, ONE(PREPARE) | ONE(STORE));
+    double prepare = r.best[PREPARE] / 1e3, store = r.best[STORE] / 1e3;
+    printf("| %4u | %4u | %9.1f | %9.1f | %7.4f |\n", (unsigned)side, (unsigned)bins, prepare, store, store / prepare);
+    fflush(stdout);
+}
+
+/* Of a window of one pixel nearly all of a draw is the look at all mappings, and the rest of the difference the room's. */
+static void room_draw_row(uint32_t window, uint32_t bins)
+{
+    struct subject of = {NOISY, 1024, 1024, 12, GRID, bins, window};
+    struct result r = measure(&of, ONE(PREPARE) | ONE(DRAW) | ONE(STORE) | ONE(ROOM_DRAW));
+    double draw = r.best[DRAW] / 1e3, from_room = r.best[ROOM_DRAW] / 1e3;
+    printf("| %4u | %4u | %9.2f | %9.2f | %6.2f |\n", (unsigned)window, (unsigned)bins, draw, from_room, from_room - draw);
+    fflush(stdout);
+}
+
+static void drop_row(uint32_t grid, uint32_t bins)
+{
+    struct subject of = {NOISY, 512, 512, 12, grid, bins, SMALL_WINDOW};
+    struct result r = measure(&of, ONE(MOVE) | ONE(DROP));
+    printf("| %2u by %-2u | %4u | %7u | %8.2f | %8.2f |", (unsigned)grid, (unsigned)grid, (unsigned)bins,
+           (unsigned)(7 * grid * grid * bins), r.best[MOVE] / 1e3, r.best[DROP] / 1e3);
+    ratio(r.best[DROP], r.best[MOVE]);
+    printf("\n");
+    fflush(stdout);
+}
+
+static void room_table(void)
+{
+    static const uint32_t windows[] = {1, SMALL_WINDOW, WINDOW}, bins[] = {128, 1024};
+    printf("\n### One room\n\nEight noisy films of 12 bits in a room, microseconds. The last one stored, against prepare:\n\n");
+    printf("| side | bins | prepare | store | store of prepare |\n|---|---|---|---|---|\n");
+    for (size_t i = 0; i < MANY(sides); i++)
+        for (size_t k = 0; k < MANY(bins); k++)
+            store_row(sides[i], bins[k]);
+    printf("\nA window of the last one drawn from the room, against draw, films of 1024 square:\n\n");
+    printf("| window | bins | draw | room draw | more |\n|---|---|---|---|---|\n");
+    for (size_t i = 0; i < MANY(windows); i++)
+        for (size_t k = 0; k < MANY(bins); k++)
+            room_draw_row(windows[i], bins[k]);
+    printf("\nThe first one dropped, so that seven move down, against memmove of their entries:\n\n");
+    printf("| grid | bins | entries | memmove | drop | drop of memmove |\n|---|---|---|---|---|---|\n");
+    drop_row(GRID, 128);
+    drop_row(GRID, 1024);
+    drop_row(GRID, 4096);
+    drop_row(16, 1024);
+}
+
 /* ---- odd sides ---- */
 
 /* Prints a film's times, and gives the time of enhance. */
@@ -551,6 +612,7 @@ static void run(const char *opencv, const char *netpbm)
     near_one_table();
     counts_table();
     text_table(netpbm);
+    room_table();
     sides_table();
     growth_table();
 }

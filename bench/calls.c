@@ -7,6 +7,8 @@
 #include "clahe1994.h"
 
 #define FILM 7u
+#define FIRST 1u /* the numbers of the films in a room: this one and the next ones, */
+#define LAST (FIRST + TZ_ROOM_SETS - 1) /* up to this one */
 
 void end(const char *why, long number)
 {
@@ -66,12 +68,35 @@ void open_plain(struct bench *b)
         end("a film cannot be laid down as text", b->of.width);
 }
 
+static size_t shelf_entries(const struct bench *b) { return tz_room_entries(&b->settings, TZ_ROOM_SETS); }
+
+static long store(struct bench *b, uint32_t number)
+{
+    const tz_settings *s = &b->settings;
+    return tzofnadir_room_store(number, b->of.width, b->of.height, b->film, b->pixels, s, b->shelf, shelf_entries(b),
+                                b->scratch, tz_scratch_entries(s), &b->room, &b->footer, b->list, tz_looks_entries(s));
+}
+
+void open_room(struct bench *b)
+{
+    b->shelf = room(2 * shelf_entries(b));
+    tzofnadir_room_empty(&b->room);
+    for (uint32_t number = FIRST; number <= LAST; number++) {
+        b->but_one = b->room;
+        if (store(b, number) != 0)
+            end("a film cannot be stored", number);
+    }
+    b->all = b->room;
+    free(b->map);
+    b->map = b->shelf + (TZ_ROOM_SETS - 1) * tz_map_entries(&b->settings);
+}
+
 void close_bench(struct bench *b)
 {
     free(b->film);
     free(b->picture);
     free(b->drawn);
-    free(b->map);
+    free(b->shelf == NULL ? b->map : b->shelf);
     free(b->scratch);
     free(b->list);
     free(b->counts);
@@ -224,6 +249,29 @@ long call_draw_bytes(struct bench *b)
                                 &b->window, b->byte_map, tz_map_entries(&b->settings), b->byte_drawn, b->area);
 }
 
+/* ---- a room's calls ---- */
+
+void lay_but_one(struct bench *b) { b->room = b->but_one; }
+
+void lay_all(struct bench *b) { b->room = b->all; }
+
+long call_store(struct bench *b) { return store(b, LAST); }
+
+long call_room_draw(struct bench *b)
+{
+    return tzofnadir_room_draw(LAST, b->of.width, b->of.height, b->film, b->pixels, &b->settings, &b->room, &b->window,
+                               b->shelf, shelf_entries(b), b->drawn, b->area);
+}
+
+long call_drop(struct bench *b) { return tzofnadir_room_drop(FIRST, b->shelf, shelf_entries(b), &b->room); }
+
+long call_move(struct bench *b)
+{
+    size_t of_one = tz_map_entries(&b->settings);
+    memmove(b->shelf, b->shelf + of_one, 2 * (shelf_entries(b) - of_one));
+    return 0;
+}
+
 /* ---- the check ---- */
 
 static void must(const char *call, long answer)
@@ -343,6 +391,46 @@ void check_of_1986(struct bench *b)
                 end("a mapping by the edition of 1986 is another, tile", tile);
         }
     }
+}
+
+/* A store beside prepare, which it is. */
+static void check_stored(struct bench *b)
+{
+    size_t maps = 2 * tz_map_entries(&b->settings), looks = 8 * tz_looks_entries(&b->settings);
+    uint64_t *list = room(looks);
+    must("prepare", call_prepare(b));
+    memcpy(b->mapped, b->map, maps);
+    memcpy(list, b->list, looks);
+    tz_footer footer = b->footer;
+    memset(b->map, 0, maps);
+    memset(b->list, 0, looks);
+    lay_but_one(b);
+    must("store", call_store(b));
+    if (memcmp(b->map, b->mapped, maps) != 0 || memcmp(b->list, list, looks) != 0 ||
+        memcmp(&b->footer, &footer, sizeof footer) != 0)
+        end("a store is not prepare's", b->of.width);
+    free(list);
+}
+
+void check_room(struct bench *b)
+{
+    size_t entries = shelf_entries(b), of_one = tz_map_entries(&b->settings);
+    uint16_t *wanted = room(2 * entries);
+    check_stored(b);
+    must("draw", call_draw(b));
+    memcpy(b->picture, b->drawn, 2 * b->area);
+    memset(b->drawn, 0, 2 * b->area);
+    must("draw from a room", call_room_draw(b));
+    if (memcmp(b->drawn, b->picture, 2 * b->area) != 0)
+        end("a window drawn from a room is another", b->of.width);
+    for (size_t i = 0; i < entries; i++)
+        b->shelf[i] = (uint16_t)(b->shelf[i] + i / of_one);
+    memcpy(wanted, b->shelf, 2 * entries);
+    memmove(wanted, wanted + of_one, 2 * (entries - of_one));
+    must("drop", call_drop(b));
+    if (memcmp(b->shelf, wanted, 2 * entries) != 0)
+        end("a drop is not one move of what lies behind it", b->of.width);
+    free(wanted);
 }
 
 void check_plain(struct bench *b)

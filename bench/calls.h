@@ -39,6 +39,9 @@ struct bench {
     size_t file_len;
     uint8_t *text; /* and as plain PGM, where open_plain made room for it */
     size_t text_len;
+    uint16_t *shelf; /* a room's buffer, where open_room made it, with eight films like this one stored; `map` is its end */
+    tz_room all, but_one; /* its record with all of them, and without the last */
+    tz_room room;         /* the one that the calls change */
     tz_record record;
     tz_footer footer;
 };
@@ -51,6 +54,16 @@ void close_bench(struct bench *b);
 
 /* Makes room for the film as plain PGM and lays both files down. */
 void open_plain(struct bench *b);
+
+/*
+ * Makes a room's buffer and stores the film in it eight times, by eight numbers. From then on `map` is the last set's part of
+ * it, so that prepare and draw work on the very memory that store and draw from the room work on.
+ */
+void open_room(struct bench *b);
+
+/* The room's record laid out anew: with all films but the last one, for a store, or with all. */
+void lay_but_one(struct bench *b);
+void lay_all(struct bench *b);
 
 /* Lays the film out anew, where it is rendered in place. */
 void lay_out(struct bench *b);
@@ -66,6 +79,8 @@ void lay_out_bytes(struct bench *b);
  * of 1986:   prepare by the clip rule of 1986, and so is its record not that of the settings.
  * map:       mapping from the counts. It wants counting before it; the mappings go to `mapped`.
  * to raw:    the plain file read, and written as raw; to plain the other way round. They want open_plain before them.
+ * store:     the film stored as the last of eight; room draw draws it from there; drop takes the first one out, so that
+ *            seven move down, and move is what memmove takes for these. They want open_room before them.
  */
 long call_enhance(struct bench *b);
 long call_prepare(struct bench *b);
@@ -85,12 +100,22 @@ long call_copy(struct bench *b);
 long call_enhance_bytes(struct bench *b);
 long call_prepare_bytes(struct bench *b);
 long call_draw_bytes(struct bench *b);
+long call_store(struct bench *b);
+long call_room_draw(struct bench *b);
+long call_drop(struct bench *b);
+long call_move(struct bench *b);
 
 /*
  * What is measured is worth nothing if it is wrong. Ends the program where a film written and read back is another, a
  * drawn window is not enhance's, or a call on bytes leaves other greys or mappings. Leaves enhance's picture in `picture`.
  */
 void check(struct bench *b);
+
+/*
+ * Ends the program where a store leaves other mappings, list or footer than prepare, a room draw is not draw's, or a drop does
+ * not leave what memmove leaves.
+ */
+void check_room(struct bench *b);
 
 /* Ends the program where a film moved from raw to plain and back, or from plain to raw, is not the same bytes. */
 void check_plain(struct bench *b);

@@ -21,6 +21,8 @@ REACHED = {"listing_program": {"pgm_write"}, "draw": {"limit"}, "byte_draw": {"l
 REACHED.update({"prepare": {"limit", "grid"}, "counts": {"limit", "grid"}, "byte_film": {"limit", "grid"}})
 REACHED.update({name: {"grid"} for name in ("film_lines", "abi", "abi_bytes", "byte_films", "count_films", "reach_films")})
 REACHED["abi_counts"] = {"grid", "prepare"}
+# a set of a room holds settings, whose clip and edition are `limit`'s
+REACHED.update({"room": {"limit"}, "abi_room": {"limit"}})
 
 
 def read(path):

@@ -33,7 +33,7 @@ extern "C" {
 #endif
 
 /* The edition of this header and of the library, as in the file VERSION. */
-#define TZ_VERSION "4.10.0"
+#define TZ_VERSION "4.11.0"
 
 /* The functions with bodies are compiled into what includes this header. station/structs.c, which is a part of the library,
    says otherwise, and so they have names in it as well. */
@@ -53,6 +53,7 @@ const char *tz_version(void);
 #define TZ_MOST_GRID 16u
 #define TZ_MOST_BINS 4096u
 #define TZ_USUAL_BINS 128u    /* what bins 0 means */
+#define TZ_ROOM_SETS 8u       /* the films that one room holds */
 #define TZ_WRITE_HEADER 18u   /* the longest header that tz_write lays down: "P5\n4096 4096\n4095\n" */
 #define TZ_PLAIN_SAMPLE 5u    /* the longest sample that tz_write_plain lays down: "4095\n" */
 #define TZ_LISTING_BYTES 512u /* what tz_listing wants lent */
@@ -90,7 +91,12 @@ enum tz_refusal {
     TZ_BINS_UNREACHED = 31,  /* bins, 0 read as 128, above Max - Min + 1 */
     TZ_LOOKS_SHORT = 32,     /* list of excesses and looks shorter than 2 x (grid across) x (grid down) */
     TZ_COUNTS_SHORT = 33,    /* counts buffer shorter than (grid across) x (grid down) x B */
-    TZ_COUNTS_SUM = 34       /* a tile's counts do not add up to its pixels */
+    TZ_COUNTS_SUM = 34,      /* a tile's counts do not add up to its pixels */
+    TZ_STORED = 35,          /* store: the film's number is already stored in the room */
+    TZ_ROOM_FULL = 36,       /* store: eight films are stored */
+    TZ_ROOM_SHORT = 37,      /* store: the free entries of the room's buffer are fewer than the set needs */
+    TZ_NOT_STORED = 38,      /* a room's draw or drop: the film's number is not stored */
+    TZ_ROOM_RECORD = 40      /* a room record with over eight sets, a number twice, or sets that end to end exceed the buffer */
 };
 
 /* One plain sentence for a refusal's number, to show to a person. */
@@ -132,6 +138,12 @@ TZ_FUNCTION const char *tz_refusal_text(uint32_t refusal)
         "The list of excesses and looks is shorter than twice the grid across times the grid down.",
         "The counts buffer is shorter than the grid across times the grid down times the bins.",
         "The counts of a tile do not add up to that tile's pixels.",
+        "A film of this number is already stored in the room.",
+        "Eight films are stored in the room, and it holds no more.",
+        "The free entries of the room's buffer are fewer than this film needs.",
+        "No film of this number is stored in the room.",
+        "There is no refusal of this number.",
+        "The room's record has more than eight films, a number twice, or films that end to end exceed the buffer.",
     };
     return refusal < sizeof text / sizeof text[0] ? text[refusal] : text[19];
 }
@@ -167,6 +179,21 @@ typedef struct tz_record {
     tz_axis columns, rows;
 } tz_record;
 
+/* A set: the mappings of one film in a room, and what they were made for. In a set that a call wrote bins is never 0; clip is
+   0 or 1; factor 0.0 where clip is 0; edition is TZ_OURS or TZ_1986. */
+typedef struct tz_set {
+    uint32_t film, width, height;
+    tz_settings settings;
+} tz_set;
+
+/* Which films' mappings lie in a room's buffer: the first `count` sets, end to end from entry 0 in the order of storing, each
+   of across x down x bins entries. Its edges and centres follow from size and grid, and are not kept. A record with count 0,
+   as one that was cleared, is an empty room. Hand it on as the last call left it, always with the same buffer. */
+typedef struct tz_room {
+    uint32_t count;
+    tz_set sets[TZ_ROOM_SETS];
+} tz_room;
+
 /* What clipping did. Clip off: 0, 0.0, 0.0. Factor 1.0: 0, 1.0, 1.0. Each tile has a limit by its own pixels, N; limit and
    factor used are those of tile 0, 0, the upper left one, which has the fewest. L is the same in both editions. */
 typedef struct tz_footer {
@@ -193,7 +220,8 @@ typedef struct tz_part {
 
 /*
  * A record is ten numbers, film, width, height, across, down, bins, min, max, clip, edition, its factor apart, and the edges
- * and centres of its tile columns and tile rows. The edition of the settings is the last argument of all.
+ * and centres of its tile columns and tile rows. The edition of the settings is the last argument of all; in a room's calls
+ * the room stands behind it. A room is its count, such ten numbers for each of its eight sets, and the factor of each.
  * `sizes` is three numbers, width, height, maxval. `part` is two, where the raster starts and how long it is.
  * What each call does stands at the function with structs, below.
  */
@@ -235,6 +263,27 @@ uint32_t tz_map(uint32_t film, uint32_t width, uint32_t height,
                 uint32_t column_edges[17], uint32_t column_centres[16],
                 uint32_t row_edges[17], uint32_t row_centres[16], uint64_t *looks, size_t looks_len,
                 uint32_t edition);
+
+void tz_room_empty(uint32_t *count, uint32_t numbers[80], float factors[8]);
+
+uint32_t tz_room_store(uint32_t film, uint32_t width, uint32_t height,
+                       const uint16_t *picture, size_t picture_len,
+                       uint32_t across, uint32_t down, uint32_t bins, uint32_t min, uint32_t max,
+                       uint32_t clip, float factor,
+                       uint16_t *map, size_t map_len, uint32_t *scratch, size_t scratch_len,
+                       uint32_t *limit, float *asked, double *used, uint64_t *looks, size_t looks_len,
+                       uint32_t edition, uint32_t *count, uint32_t numbers[80], float factors[8]);
+
+uint32_t tz_room_draw(uint32_t film, uint32_t width, uint32_t height,
+                      const uint16_t *picture, size_t picture_len,
+                      uint32_t across, uint32_t down, uint32_t bins, uint32_t min, uint32_t max,
+                      uint32_t clip, float factor,
+                      uint32_t left, uint32_t top, uint32_t window_width, uint32_t window_height,
+                      const uint16_t *map, size_t map_len, uint16_t *out, size_t out_len,
+                      uint32_t edition, uint32_t count, const uint32_t numbers[80], const float factors[8]);
+
+uint32_t tz_room_drop(uint32_t film, uint16_t *map, size_t map_len,
+                      uint32_t *count, uint32_t numbers[80], float factors[8]);
 
 uint32_t tz_prepare_bytes(uint32_t film, uint32_t width, uint32_t height,
                           const uint8_t *picture, size_t picture_len,
@@ -304,6 +353,13 @@ TZ_FUNCTION size_t tz_map_entries(const tz_settings *s)
     size_t across = s->across < TZ_MOST_GRID ? s->across : TZ_MOST_GRID;
     size_t down = s->down < TZ_MOST_GRID ? s->down : TZ_MOST_GRID;
     return across * down * tz_scratch_entries(s);
+}
+
+/* Entries of a room's buffer that holds so many films of these settings; of several settings it is the sum of theirs. Never
+   above those of eight films, for the same reason. */
+TZ_FUNCTION size_t tz_room_entries(const tz_settings *s, uint32_t films)
+{
+    return (films < TZ_ROOM_SETS ? films : TZ_ROOM_SETS) * tz_map_entries(s);
 }
 
 /* Entries of the counts buffer: as many as of the map buffer. */
@@ -497,6 +553,124 @@ TZ_FUNCTION uint32_t tzofnadir_map(uint32_t film, uint32_t width, uint32_t heigh
         *record = tz_record_of(r, factor, &columns, &rows);
         *footer = tz_footer_of(limit, asked, used);
     }
+    return refusal;
+}
+
+/* A room's numbers and factors, in the order in which the flat functions have them. */
+TZ_FUNCTION void tz_room_numbers(const tz_room *room, uint32_t numbers[80], float factors[8])
+{
+    for (uint32_t i = 0; i < TZ_ROOM_SETS; i++) {
+        const tz_set *set = &room->sets[i];
+        const tz_settings *s = &set->settings;
+        const uint32_t n[10] = {set->film, set->width, set->height, s->across, s->down,
+                                s->bins, s->min, s->max, s->clip, s->edition};
+        for (uint32_t k = 0; k < 10; k++)
+            numbers[10 * i + k] = n[k];
+        factors[i] = s->factor;
+    }
+}
+
+/* A room of its count, numbers and factors. */
+TZ_FUNCTION tz_room tz_room_of(uint32_t count, const uint32_t numbers[80], const float factors[8])
+{
+    tz_room room;
+    room.count = count;
+    for (uint32_t i = 0; i < TZ_ROOM_SETS; i++) {
+        const uint32_t *n = numbers + 10 * i;
+        tz_settings kept = {n[3], n[4], n[5], n[6], n[7], n[8], factors[i], n[9]};
+        tz_set set = {n[0], n[1], n[2], kept};
+        room.sets[i] = set;
+    }
+    return room;
+}
+
+/*
+ * A room: the mappings of up to eight films in one buffer, `map`, which is lent to each of the calls below. Films are stored,
+ * drawn and dropped by their numbers, so that two of one size and grid are never taken for each other.
+ *
+ * As long as nobody else writes the buffer, and the record is handed on as the last call left it, each film that was stored
+ * and not dropped, its pixels as they were then, draws as if it alone had been prepared, with 16 and 17 too.
+ *
+ * The record is looked at whoever wrote it. One with more than eight films, with a number twice, or whose films end to end
+ * exceed the buffer is refused with 40 by store, draw and drop; so is a buffer that is shorter than it was.
+ *
+ * Empty: leaves a record without films, all of it 0. The buffer may hold anything.
+ */
+TZ_FUNCTION void tzofnadir_room_empty(tz_room *room)
+{
+    uint32_t count = 0, numbers[80] = {0};
+    float factors[8] = {0};
+    tz_room_empty(&count, numbers, factors);
+    *room = tz_room_of(count, numbers, factors);
+}
+
+/*
+ * Store: prepares a film into the room. Its (across x down x bins) mappings lie behind those of the films stored before it,
+ * at factor 1.0 too, where they are taken and not written; all other entries of `map` keep their contents. Scratch, list and
+ * footer as prepare leaves them. The record has one set more, and is written as a whole: in a set that somebody made up a factor
+ * beside clip 0 becomes 0.0, and a clip or an edition other than 0 becomes 1.
+ *
+ * Sizes: as for prepare, but map_len is the whole buffer's, and what is free in it has to take the film; tz_room_entries says
+ * how much several of them take.
+ * Refusals, the first that applies: 40, 35, 36, then as prepare gives them with 37 for 11: 1 to 9 upward, 31, 10, 37, 12,
+ * 32, 13.
+ */
+TZ_FUNCTION uint32_t tzofnadir_room_store(uint32_t film, uint32_t width, uint32_t height,
+                                          const uint16_t *picture, size_t picture_len, const tz_settings *s,
+                                          uint16_t *map, size_t map_len, uint32_t *scratch, size_t scratch_len,
+                                          tz_room *room, tz_footer *footer, uint64_t *looks, size_t looks_len)
+{
+    uint32_t count = room->count, numbers[80], limit = 0;
+    float factors[8], asked = 0;
+    double used = 0;
+    tz_room_numbers(room, numbers, factors);
+    uint32_t refusal = tz_room_store(film, width, height, picture, picture_len, s->across, s->down, s->bins, s->min,
+                                     s->max, s->clip, s->factor, map, map_len, scratch, scratch_len, &limit, &asked,
+                                     &used, looks, looks_len, s->edition, &count, numbers, factors);
+    if (refusal == TZ_DONE) {
+        *room = tz_room_of(count, numbers, factors);
+        *footer = tz_footer_of(limit, asked, used);
+    }
+    return refusal;
+}
+
+/*
+ * Draw from a room: renders a window of a film that is stored in it, as draw does of a film that was prepared alone. Nothing
+ * in the room changes. 15 compares size and settings with those of the set of this number, bins 0 read as 128 on both sides.
+ * The set's entries are taken as lent, whoever wrote them, and no other film's are looked at.
+ *
+ * Sizes: picture_len is width x height; out_len exactly the window's area.
+ * Refusals, the first that applies: 40, 38, then 1 to 9, 31, 10, 15, 16, 17, then 13 over the window, then 18 over the set's
+ * entries (not at factor 1.0). 11 is never given.
+ */
+TZ_FUNCTION uint32_t tzofnadir_room_draw(uint32_t film, uint32_t width, uint32_t height,
+                                         const uint16_t *picture, size_t picture_len, const tz_settings *s,
+                                         const tz_room *room, const tz_window *window,
+                                         const uint16_t *map, size_t map_len, uint16_t *out, size_t out_len)
+{
+    uint32_t numbers[80];
+    float factors[8];
+    tz_room_numbers(room, numbers, factors);
+    return tz_room_draw(film, width, height, picture, picture_len, s->across, s->down, s->bins, s->min, s->max, s->clip,
+                        s->factor, window->left, window->top, window->width, window->height, map, map_len, out, out_len,
+                        s->edition, room->count, numbers, factors);
+}
+
+/*
+ * Drop: takes a film out of the room. The sets behind it move down, in the buffer and in the record, so that all that is free
+ * lies at the end and is used by the next store; entries behind the last set, and places of the record behind it, keep what
+ * they held. The record is written as a whole, as by store.
+ *
+ * Refusals, the first that applies: 40, 38.
+ */
+TZ_FUNCTION uint32_t tzofnadir_room_drop(uint32_t film, uint16_t *map, size_t map_len, tz_room *room)
+{
+    uint32_t count = room->count, numbers[80];
+    float factors[8];
+    tz_room_numbers(room, numbers, factors);
+    uint32_t refusal = tz_room_drop(film, map, map_len, &count, numbers, factors);
+    if (refusal == TZ_DONE)
+        *room = tz_room_of(count, numbers, factors);
     return refusal;
 }
 

@@ -36,15 +36,48 @@ report "$ok" 'the man page has each option of help' "missing: ${missing:-nothing
 # ---- the library that is delivered, by the toolchain alone, under its emulator where this is no x86-64
 { echo "$version"; printf '4\t4\t2\t2\t4\t0\t15\t2\n0\t0\t2\t3\t7\t11\t15\t15\n0\t1\t0\t0\t3\t7\t11\t15\n1\t0\t2\t2\t3\t3\t7\t15\n1\t1\t0\t0\t7\t7\t7\t15\n'; } >wanted
 tools=$("$top/toolchain/kit")/toolchain
-"$top/toolchain/compile" x86_64 "$top/station/faults/loaded.c" loaded.o >wrote 2>said && "$top/toolchain/link" x86_64 loaded loaded.o >>wrote 2>>said
-if [ -x "$tools/bin/qemu-x86_64" ]; then
-    "$tools/bin/qemu-x86_64" "$tools/lib/ld-linux-x86-64.so.2" --library-path "$tools/lib" ./loaded "$prefix/lib/libtzofnadir.so" >wrote 2>>said
-else
-    ./loaded "$prefix/lib/libtzofnadir.so" >wrote 2>>said
-fi
+by_toolchain() { # PROGRAM SOURCE ..: of sources of station/faults
+    program=$1 objects=''
+    shift
+    for source in "$@"; do
+        object=$program-$(basename "$source" .c).o
+        "$top/toolchain/compile" x86_64 "$top/station/faults/$source" "$object" -O2 || return
+        objects="$objects $object"
+    done
+    # shellcheck disable=SC2086
+    "$top/toolchain/link" x86_64 "$program" $objects
+}
+run_made() { # PROGRAM WORDS ..
+    if [ -x "$tools/bin/qemu-x86_64" ]; then
+        "$tools/bin/qemu-x86_64" "$tools/lib/ld-linux-x86-64.so.2" --library-path "$tools/lib" "$@"
+    else
+        "$@"
+    fi
+}
+by_toolchain loaded loaded.c >wrote 2>said && run_made ./loaded "$prefix/lib/libtzofnadir.so" >wrote 2>>said
 saw=$?
 if [ "$saw" -eq 0 ] && cmp -s wanted wrote; then ok=yes; else ok=no; fi
 report "$ok" 'the shared library loaded by its name: the listing of the rules' "status $saw: $(tail -n 1 said)"
+
+# ---- rooms
+by_toolchain guarded_room rooms/calls.c rooms/guarded.c rooms/desk.c rooms/guarded_room.c >wrote 2>said && run_made ./guarded_room "$prefix/lib/libtzofnadir.so" >wrote 2>>said
+saw=$?
+if [ "$saw" -eq 0 ]; then ok=yes; else ok=no; fi
+report "$ok" 'rooms on guarded memory: wild records, buffers one short, refusals that write nothing' "status $saw: $(cat wrote)$(tail -n 1 said)"
+ended=''
+for word in behind locked; do
+    # shellcheck disable=SC3045
+    (ulimit -c 0 2>/dev/null; run_made ./guarded_room "$prefix/lib/libtzofnadir.so" "$word") >wrote 2>&1
+    ended="$ended $?"
+done 2>/dev/null
+if [ "$ended" = ' 139 139' ]; then ok=yes; else ok=no; fi
+report "$ok" 'the guards themselves: an entry too many, and a write where one may only read' "status$ended"
+steps=100000
+[ ! -x "$tools/bin/qemu-x86_64" ] || steps=5000
+by_toolchain steps rooms/calls.c rooms/list.c rooms/steps.c >wrote 2>said && run_made ./steps "$prefix/lib/libtzofnadir.so" "$steps" >wrote 2>>said
+saw=$?
+if [ "$saw" -eq 0 ] && grep -q "^$steps steps: .* and no difference\$" wrote; then ok=yes; else ok=no; fi
+report "$ok" "$steps random steps in rooms, beside a plain list of films prepared alone" "status $saw: $(cat wrote)$(tail -n 1 said)"
 
 # ---- for aarch64, made here, and run under an emulator where there is one
 machine_of() { od -An -tu1 -j18 -N1 "$1" | tr -d ' '; } # PROGRAM: ELF's number of its machine
@@ -68,6 +101,11 @@ for_aarch64() {
     saw=$?
     if [ "$saw" -eq 0 ] && cmp -s alone.pgm from_arm.pgm; then ok=yes; else ok=no; fi
     report "$ok" "README's program in C for aarch64, with the shared library" "status $saw: $(tail -n 1 said)"
+    aarch64-linux-gnu-gcc -std=c11 -O2 -o steps_arm "$top/station/faults/rooms/calls.c" "$top/station/faults/rooms/list.c" "$top/station/faults/rooms/steps.c" -ldl >wrote 2>said &&
+        arm ./steps_arm "$room/arm/lib/libtzofnadir.so" 2000 >wrote 2>>said
+    saw=$?
+    if [ "$saw" -eq 0 ] && grep -q '^2000 steps: .* and no difference$' wrote; then ok=yes; else ok=no; fi
+    report "$ok" '2000 random steps in rooms, on aarch64' "status $saw: $(cut -c 1-60 wrote)$(tail -n 1 said)"
 }
 if command -v aarch64-linux-gnu-gcc >/dev/null; then
     for_aarch64
@@ -119,6 +157,27 @@ if [ -n "$prefix" ] && command -v cc >/dev/null; then
     saw=$(./which 2>>said)
     if [ "$saw" = "9.9.9 $version" ]; then ok=yes; else ok=no; fi
     report "$ok" "tz_version() is the loaded library's, whatever the header" "$saw$(tail -n 1 said)"
+    # a station's program: ten films through a room of eight, and each window what the command line makes of that film alone
+    films=''
+    for i in 1 2 3 4 5 6 7 8 9 10; do
+        size=120x90 at=28,13 part=64x64
+        [ "$i" -ne 4 ] || size=131x97 at=33,16
+        [ "$i" -ne 7 ] || size=50x40 at=0,0 part=50x40
+        "$tz" window film.pgm "open$i.pgm" --at "$((30 * i)),$((20 * i))" --size "$size" --clip 1 2>said
+        "$tz" window "open$i.pgm" "shown$i.pgm" --at "$at" --size "$part" --bins 256 2>said
+        films="$films open$i.pgm"
+    done
+    for i in 1 2 3 4 5 6 7 8 2 3 4 5 6 7 8 9 3 4 5 6 7 8 9 10; do cat "shown$i.pgm"; done >wanted
+    # shellcheck disable=SC2086
+    cc -std=c11 -Wall -Wextra -Werror -o station_room "$top/examples/room.c" "-I$prefix/include" "-L$prefix/lib" -ltzofnadir "-Wl,-rpath,$prefix/lib" >wrote 2>said &&
+        ./station_room $films >wrote 2>said
+    saw=$?
+    if [ "$saw" -eq 0 ] && cmp -s wanted wrote && [ "$(cat shown*.pgm | wc -c)" -gt 70000 ]; then ok=yes; else ok=no; fi
+    report "$ok" 'examples/room.c: eight films open in one room, each as the command line shows it' "status $saw: $(tail -n 1 said)"
+    ./station_room open1.pgm short.pgm >wrote 2>said
+    saw=$?
+    if [ "$saw" -eq 24 ] && [ ! -s wrote ]; then ok=yes; else ok=no; fi
+    report "$ok" 'examples/room.c, and a cut file' "status $saw: $(tail -n 1 said)"
     ./render <short.pgm >from_c.pgm 2>said
     saw=$?
     if [ "$saw" -eq 24 ] && [ ! -s from_c.pgm ] && [ -s said ]; then ok=yes; else ok=no; fi
@@ -140,6 +199,12 @@ library = render.load(sys.argv[1])
 print(*(library.tz_write_bytes(*sides) for sides in ((512, 384), (0, 9), (4096, 4096), (2**32 - 1, 2**32 - 1), (2**32 - 1, 1))))' "$prefix/lib/libtzofnadir.so" 2>said)
     if [ "$saw" = '393234 18 33554450 33554450 8210' ]; then ok=yes; else ok=no; fi
     report "$ok" 'tz_write_bytes is bounded, whatever the sides' "$saw"
+    saw=$(PYTHONPATH=$top/examples python3 -B -c 'import ctypes, render, sys
+library, settings = render.load(sys.argv[1]), [render.Settings(8, 8, 0), render.Settings(16, 16, 4096), render.Settings(*[2**32 - 1] * 3)]
+library.tz_room_entries.argtypes, library.tz_room_entries.restype = [ctypes.POINTER(render.Settings), ctypes.c_uint32], ctypes.c_size_t
+print(*(library.tz_room_entries(ctypes.byref(s), films) for s in settings for films in (0, 3, 8, 9, 2**32 - 1)))' "$prefix/lib/libtzofnadir.so" 2>said)
+    if [ "$saw" = '0 24576 65536 65536 65536 0 3145728 8388608 8388608 8388608 0 3145728 8388608 8388608 8388608' ]; then ok=yes; else ok=no; fi
+    report "$ok" 'tz_room_entries is bounded, whatever is asked' "$saw"
     python3 -B "$top/station/faults/axes.py" "$top/examples" "$prefix/lib/libtzofnadir.so" film.pgm >wrote 2>said
     saw=$?
     if [ "$saw" -eq 0 ]; then ok=yes; else ok=no; fi
