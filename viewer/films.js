@@ -2,9 +2,9 @@
 // and closing.
 import {keepTimes, pump, tellBusy} from './ask.js';
 import {element, made, tell} from './dom.js';
-import {clearPanes, fillViewBar, holdView, keptOf, look, paintKept, startView} from './look.js';
+import {clearPanes, fillViewBar, holdView, keptOf, look, paintKept, paintView, panes, startView} from './look.js';
 import {fillFooter, fillPanel, forgetTyping, startSettings} from './panel.js';
-import {fillReading} from './reading.js';
+import {forgetReading, forgetReadingOf} from './reading.js';
 import {isReport, keepReports} from './report_panel.js';
 import {dropSaving} from './save.js';
 import {showRefusal, tellState} from './show.js';
@@ -75,9 +75,8 @@ export function choose(film, event) {
 // Nothing of the film before stays up while this one's picture is being made.
 export function showFilm(mark) {
   const film = state.film;
-  state.at = null;
   clearPanes();
-  fillReading(null);
+  forgetReading();
   fillFooter(null);
   showRefusal(film && film.refusal);
   fillPanel();
@@ -111,13 +110,17 @@ export function chooseBeside(way, event) {
 export function closeOne(film, event) {
   const at = state.films.indexOf(film);
   const waits = opening.findIndex(each => each.film === film);
+  const isBeside = look.painted && state.film !== film && panes().some(pane => pane.film === film);
   film.closed = true;
+  forgetReadingOf(film);
   state.films.splice(at, 1);
   if (waits >= 0) opening.splice(waits, 1);
   dropSaving(film);
   look.kept.delete(film.number);
   if (film.ready) closing.push(film.number);
   if (state.film === film) choose(state.films[Math.min(at, state.films.length - 1)] || null, event);
+  if (isBeside) paintView(state.film);
+  fillViewBar();
   listFilms();
   pump();
 }

@@ -1,32 +1,59 @@
-// The magnifier: around the pixel that is read, pixels as squares, larger than the picture has them, in both panes.
+// The magnifier: around the pixel that is read, pixels as squares, larger than the picture has them, in both panes. Each pane's
+// are those of the film on it.
+import {pump} from './ask.js';
 import {element, frames, made} from './dom.js';
 import {look, panes} from './look.js';
 import {addKey, addWatch} from './parts.js';
 import {toDot} from './place.js';
 import {displayOf, shadeCells, shadeTable} from './shades.js';
-import {filmReady, state, want} from './state.js';
+import {state} from './state.js';
 
 const SIZE = 232; // of the page's own lengths
-const lens = {on: false, seen: null};
+const lens = {on: false, seen: new Map()}; // seen: of each film, by its number, what was had last: {key, at, window, greys}
 
 // How many dots a pixel gets: four, or twice what the picture gives it.
 function dotsOfPixel() { return Math.max(4, 2 * look.painted.zoom.shown) * Math.max(1, Math.round(devicePixelRatio)); }
 
-// The window that the worker is asked for beside the reading: as many pixels as the glass has room for, held to the film.
-export function lensWindow(film) {
-  if (!lens.on || !state.at || !look.painted) return null;
+// As many pixels as the glass has room for, held to the film.
+function windowAbout(film, at) {
   const count = Math.floor(SIZE * devicePixelRatio / dotsOfPixel());
-  const side = (at, most) => {
+  const side = (from, most) => {
     const length = Math.min(count, most);
-    return {from: Math.max(0, Math.min(most - length, at - (length >> 1))), length};
+    return {from: Math.max(0, Math.min(most - length, from - (length >> 1))), length};
   };
-  const x = side(state.at.x, film.width);
-  const y = side(state.at.y, film.height);
-  return {left: x.from, top: y.from, width: x.length, height: y.length, number: film.number, at: {x: state.at.x, y: state.at.y}};
+  const x = side(at.x, film.width);
+  const y = side(at.y, film.height);
+  return {left: x.from, top: y.from, width: x.length, height: y.length};
 }
 
-function paintLens(canvas, film, side) {
-  const {window, greys} = lens.seen;
+// What is to be had of a film now; null where the pixel that is read lies beyond it.
+function wishFor(film) {
+  const {at} = state;
+  if (!lens.on || !at || !look.painted || !film || !film.ready || film.refusal || at.x >= film.width || at.y >= film.height) return null;
+  const window = windowAbout(film, at);
+  const settings = {...film.settings};
+  return {at: {x: at.x, y: at.y}, window, settings,
+    key: [at.x, at.y, ...Object.values(window), ...Object.values(settings)].join()};
+}
+
+// Of the films on the panes the first whose pixels are not at hand.
+export function dueLens() {
+  for (const {film} of panes()) {
+    const wish = wishFor(film);
+    if (!wish || (lens.seen.has(film.number) && lens.seen.get(film.number).key === wish.key)) continue;
+    return {
+      message: {kind: 'greys', number: film.number, settings: wish.settings, window: wish.window},
+      slow: `magnifying ${film.name}`,
+      done: answer => {
+        lens.seen.set(film.number, {...wish, greys: answer.refusal || answer.fault ? null : answer});
+        drawLens();
+      },
+    };
+  }
+  return null;
+}
+
+function paintLens(canvas, {window, greys}, film, side) {
   const {turn} = look.painted;
   const dots = dotsOfPixel();
   const [wide, high] = turn.aside ? [window.height, window.width] : [window.width, window.height];
@@ -42,10 +69,10 @@ function paintLens(canvas, film, side) {
   pen.drawImage(sheet, 0, 0, canvas.width, canvas.height);
 }
 
-// On whole dots of the screen, with the pixel that is read in its middle, held to the pane.
-function placeLens(canvas) {
-  const {pane} = look.painted;
-  const [x, y] = toDot(look.painted, state.at.x + 0.5, state.at.y + 0.5);
+// On whole dots of the screen, with the pixel that it is about in its middle, held to the pane.
+function placeLens(canvas, place, at) {
+  const {pane} = place;
+  const [x, y] = toDot(place, at.x + 0.5, at.y + 0.5);
   const hold = (value, most) => Math.max(0, Math.min(most, Math.round(value)));
   const left = hold(x - canvas.width / 2, pane.width - canvas.width);
   const top = hold(y - canvas.height / 2, pane.height - canvas.height);
@@ -53,30 +80,22 @@ function placeLens(canvas) {
     width: `${canvas.width / devicePixelRatio}px`, height: `${canvas.height / devicePixelRatio}px`});
 }
 
-// greys: of the window, by its sides; null where nothing is read.
-export function showLens(window, greys) {
-  lens.seen = window && greys ? {window, greys} : null;
-  drawLens();
-}
-
+// What was had last stays up until the next is there, so that it follows the pointer without going out.
 function drawLens() {
-  const film = filmReady();
-  const {seen} = lens;
-  const isThere = lens.on && film && seen && state.at && look.painted && seen.window.number === film.number &&
-    seen.window.at.x === state.at.x && seen.window.at.y === state.at.y;
-  panes().forEach(({side}, i) => {
+  panes().forEach(({film, side}, i) => {
     const canvas = frames()[i].querySelector('.lens');
-    if (!isThere) return void (canvas.style.display = 'none');
-    paintLens(canvas, film, side);
-    placeLens(canvas);
+    const seen = wishFor(film) && lens.seen.get(film.number);
+    if (!seen || !seen.greys) return void (canvas.style.display = 'none');
+    paintLens(canvas, seen, film, side);
+    placeLens(canvas, look.places[i], seen.at);
   });
 }
 
 function turnLens() {
   lens.on = !lens.on;
   element('lens').setAttribute('aria-pressed', String(lens.on));
-  if (lens.on) want('probe');
   drawLens();
+  pump();
 }
 
 addWatch(drawLens);

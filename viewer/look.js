@@ -6,7 +6,9 @@ import {fillPanel} from './panel.js';
 import {parts} from './parts.js';
 import {STEPS, cellAt, cellCount, cellOfPixel, covers, fitZoom, heldZoom, isWhole, placeOf, stepBeside, toDot, toFilm,
   zoomOf} from './place.js';
+import {forgetSizes} from './plots.js';
 import {displayOf, shadeCells, shadeTable} from './shades.js';
+import {forgetReadingOf} from './reading.js';
 import {fillCaptions} from './show.js';
 import {filmReady, state, want} from './state.js';
 
@@ -18,6 +20,7 @@ const MOST_KEPT = 6; // films whose last pictures stay at hand
 
 export const look = {
   pane: null, // a picture's room on the screen, in the screen's own dots
+  isExact: true, // whether a canvas' dots are the screen's
   painted: null, // the place of the film that is looked at, as it is on the canvases now
   places: [], // the places of the two panes: of one film, or of two
   pair: 0, // the number of the film that is looked at beside another
@@ -166,6 +169,11 @@ function paintPane(i, pane, place) {
   pen.drawImage(sheet.canvas, ...sheetEdge(place, kept.place), sheet.canvas.width * shown, sheet.canvas.height * shown);
 }
 
+// The places of both panes, where the film that is looked at lies at this one.
+function placesBy(film, place) {
+  return panes().map(pane => pane.film === film || !pane.film ? place : placeUnder(pane.film, film));
+}
+
 // Paints what is kept where the view has it now; what was drawn for another zoom or turn stays as it was asked for. Gives
 // whether all that is seen was there.
 export function paintView(film) {
@@ -174,7 +182,7 @@ export function paintView(film) {
   const fits = keptFits(kept, now);
   const place = fits ? now : kept.seen;
   look.painted = place;
-  look.places = panes().map(pane => pane.film === film || !pane.film ? place : placeUnder(pane.film, film));
+  look.places = placesBy(film, place);
   panes().forEach((pane, i) => paintPane(i, pane, look.places[i]));
   tellHow(film, place);
   placeMarks();
@@ -212,9 +220,12 @@ export function howShown(zoom) {
   return zoom.p > 1024 ? 'pixels as unequal squares, not smoothed' : 'means of unequal blocks of pixels';
 }
 
+// Where a canvas does not lie on whole dots, the browser spreads it: then no zoom is what it is called.
 function tellHow(film, place) {
   const bits = Math.ceil(Math.log2(film.maxval + 1));
-  setText('how', `${place.zoom.label}: ${howShown(place.zoom)}${bits > 8 ? `; ${bits} bits shown as 8` : ''}`);
+  const how = look.isExact ? howShown(place.zoom)
+    : `spread over other dots by the page's scale of ${Math.round(100 * devicePixelRatio)} %, at 100 % it is not`;
+  setText('how', `${place.zoom.label}: ${how}${bits > 8 ? `; ${bits} bits shown as 8` : ''}`);
 }
 
 // The part of the film that is on the canvases: what is seen and has been drawn.
@@ -256,17 +267,20 @@ export function sideAt(dot) {
   return dot.x < dividerDot() ? 'scanned' : 'rendered';
 }
 
-// The pixel that is read: the first of the dot's cell.
-export function pixelAt(event, place) {
-  const dot = place && dotAt(event);
-  const cell = dot && cellAt(place, dot.x, dot.y);
-  return cell ? {x: cell.x, y: cell.y, cell, frame: dot.frame} : null;
+// The pixel that is read: the first of the dot's cell, of the film on that pane. places: of the two panes.
+export function pixelAt(event, places) {
+  const dot = look.painted && dotAt(event);
+  if (!dot) return null;
+  const i = frames().indexOf(dot.frame);
+  const {film} = panes()[i];
+  const cell = keptOf(film) && cellAt(places[i], dot.x, dot.y);
+  return cell ? {film, x: cell.x, y: cell.y, cell, frame: dot.frame} : null;
 }
 
 // A pixel that is read, though nothing points at it.
 export function pixelOf(film, x, y) {
   const cell = look.painted ? cellOfPixel(look.painted.zoom, film, x, y) : {x, y, width: 1, height: 1};
-  return {x, y, cell, frame: null};
+  return {film, x, y, cell, frame: null};
 }
 
 // ---- what lies over the pictures ----
@@ -283,12 +297,14 @@ export function placeMarks() {
   const place = look.painted;
   const at = place ? state.at : null;
   const tiles = at ? tilesOutlined() : [];
-  for (const frame of frames()) {
+  for (const [i, frame] of frames().entries()) {
     const cross = frame.querySelector('.cross');
     const shown = at && at.frame !== frame && (hasTwo() || !at.frame);
     cross.style.display = shown ? 'block' : 'none';
-    if (shown) moveTo(cross, ...toDot(place, at.cell.x + at.cell.width / 2, at.cell.y + at.cell.height / 2));
-    for (const [i, mark] of frame.querySelectorAll('.tile-mark').entries()) outlineTile(mark, place, tiles[i]);
+    if (shown) moveTo(cross, ...toDot(look.places[i], at.cell.x + at.cell.width / 2, at.cell.y + at.cell.height / 2));
+    // tiles are of their own film
+    const own = at && panes()[i].film === at.film ? tiles : [];
+    for (const [k, mark] of frame.querySelectorAll('.tile-mark').entries()) outlineTile(mark, look.places[i], own[k]);
   }
   drawOverlays();
   for (const act of parts.watches) act(place);
@@ -391,7 +407,7 @@ function moveOn(film, event) {
 
 // The film moves beneath a pointer that rests.
 function readBeneath(film) {
-  if (look.pointer && look.painted) state.at = pixelAt(look.pointer, placeNow(film));
+  if (look.pointer && look.painted) state.at = pixelAt(look.pointer, placesBy(film, placeNow(film)));
 }
 
 export function viewChanged(what, event) {
@@ -429,6 +445,7 @@ function fillPair(film) {
 }
 
 export function choosePair(number, event) {
+  forgetReadingOf(pairFilm());
   look.pair = number;
   fillCaptions();
   if (filmReady()) viewChanged('mode', event);
@@ -455,6 +472,7 @@ export function flip(event) {
 // ---- ways of looking ----
 
 export function setMode(mode, event) {
+  if (look.mode === 'pair') forgetReadingOf(pairFilm());
   look.mode = mode;
   document.documentElement.dataset.mode = mode;
   document.documentElement.dataset.turn = look.turn;
@@ -495,19 +513,19 @@ export function setDivide(share) {
 // ---- the panes ----
 
 // The shortest of the page's lengths that is a whole number of dots: places at multiples of it are whole in both, so that no
-// browser rounds them. {length, dots}; without one, as near as lengths go.
+// browser rounds them. {length, dots, isExact}; without one, as near as lengths go.
 function latticeOf(ratio) {
   for (let length = 1; length <= MOST_LATTICE; length++) {
     const dots = Math.round(length * ratio);
-    if (Math.abs(length * ratio - dots) < 0.001) return {length, dots};
+    if (Math.abs(length * ratio - dots) < 0.001) return {length, dots, isExact: true};
   }
-  return {length: 1 / ratio, dots: 1};
+  return {length: 1 / ratio, dots: 1, isExact: false};
 }
 
 // A pane's glass lies on whole dots of the screen, whatever the page's scale is, and so do the canvases in it: no dot of theirs is
 // spread over two. Both have the same size.
 export function measurePane() {
-  const {length, dots} = latticeOf(devicePixelRatio);
+  const {length, dots, isExact} = latticeOf(devicePixelRatio);
   const boxes = frames().map(frame => frame.getBoundingClientRect());
   const firsts = boxes.map(box => [Math.ceil(box.left / length - 0.01), Math.ceil(box.top / length - 0.01)]);
   const width = Math.min(...boxes.map((box, i) => Math.floor(box.right / length + 0.01) - firsts[i][0]));
@@ -522,11 +540,13 @@ export function measurePane() {
   const pane = {width: width * dots, height: height * dots};
   const changed = !look.pane || look.pane.width !== pane.width || look.pane.height !== pane.height;
   look.pane = pane;
+  look.isExact = isExact;
   setDivide(look.divide);
   return changed;
 }
 
 export function paneResized() {
+  forgetSizes();
   if (measurePane() && filmReady()) viewChanged('size', null);
   fillPanel();
 }

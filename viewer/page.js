@@ -7,7 +7,7 @@ import {addFiles, chooseBeside, dueClosing, dueOpening, listFilms, showFilm} fro
 import {dueGreys} from './greys.js';
 import {isUnsaved, redo, undo} from './history.js';
 import {fillKeys, wireKeys} from './keys.js';
-import {wireLens} from './lens.js';
+import {dueLens, wireLens} from './lens.js';
 import {MODES, blink, choosePair, fit, flip, look, measurePane, setMode, turnRight, zoomBeside, zoomId, zoomTo} from './look.js';
 import {wireMarks} from './marks_panel.js';
 import {dueMeasures, wireMeasures} from './measure_panel.js';
@@ -168,7 +168,7 @@ function begin() {
   wireLens();
   wireOverview();
   fillKeys();
-  asking.sources = [dueShow, dueMeasures, dueSaving, dueReport, dueGreys, dueClosing, dueOverview, dueOpening, dueReading];
+  asking.sources = [dueShow, dueLens, dueMeasures, dueSaving, dueReport, dueGreys, dueClosing, dueOverview, dueOpening, dueReading];
   startWorker(state.version, tell);
   measurePane();
   showFilm(null);

@@ -1,6 +1,6 @@
 // The panel: settings of the rendering, and the display. Boxes hand any number to the library as it is typed;
 // sliders stay within what it takes.
-import {asking, tellBusy} from './ask.js';
+import {asking, pump, tellBusy} from './ask.js';
 import {EDITIONS, USUAL_BINS} from './calls.js';
 import {element, setText} from './dom.js';
 import {canRedo, canUndo, keepStep} from './history.js';
@@ -8,7 +8,7 @@ import {repaint} from './look.js';
 import {FACTORS, MOST_WHOLE, binSteps, chosenBins, factorOf, nearestGrid, nearestStep, shownFactor,
   wholeOf} from './numbers.js';
 import {addKept, parts} from './parts.js';
-import {drawHistogram, greyToX} from './plots.js';
+import {drawHistogram, shareOf} from './plots.js';
 import {printG} from './record.js';
 import {displayLow, displayOf} from './shades.js';
 import {fillCaptions} from './show.js';
@@ -61,6 +61,7 @@ export function changeSettings(film, what, event, act) {
   act(film.settings);
   chooseBins(film);
   if (film === state.film) want('draw', MAPPED.includes(what) ? 'factor' : 'settings', event);
+  else pump(); // it may be seen beside the one that is looked at
   fillPanel();
 }
 
@@ -73,7 +74,8 @@ export function changeDisplay(film, what, event, act) {
   act(film.display);
   repaint('display', event);
   fillCaptions();
-  fillPanel();
+  fillDisplay(film);
+  fillSteps(film);
 }
 
 function change(id, value, event) {
@@ -312,14 +314,20 @@ export function fillPanel() {
   }
   fillHead(film);
   for (const section of parts.sections) section.fill(ready ? film : null);
-  element('undo').disabled = !ready || !canUndo(film);
-  element('redo').disabled = !ready || !canRedo(film);
+  fillSteps(ready ? film : null);
   element('copy').disabled = !ready;
   if (!ready) return emptyPanel();
   fillBoxes(film);
   fillSliders(film);
+  fillDisplay(film);
   fillEnds(film);
   drawHistogram(film);
+}
+
+// Whether there is something to undo and to redo.
+function fillSteps(film) {
+  element('undo').disabled = !film || !canUndo(film);
+  element('redo').disabled = !film || !canRedo(film);
 }
 
 function emptyPanel() {
@@ -337,36 +345,49 @@ function notesOf(film) {
 }
 
 function fillHead(film) {
-  element('film-name').textContent = film ? film.name : 'no film';
+  setText('film-name', film ? film.name : 'no film');
   element('film-name').title = film ? film.name : '';
-  element('film-number').textContent = film ? `film ${film.number}` : '';
-  element('film-note').textContent = film && film.ready ? notesOf(film).join(' ') : '';
+  setText('film-number', film ? `film ${film.number}` : '');
+  setText('film-note', film && film.ready ? notesOf(film).join(' ') : '');
   element('film-note').hidden = element('film-note').textContent === '';
   if (!film || !film.ready) return;
-  element('film-size').textContent = `${film.width} × ${film.height}, maxval ${film.maxval},`;
-  element('film-greys').textContent = `greys ${film.least} to ${film.greatest}`;
+  setText('film-size', `${film.width} × ${film.height}, maxval ${film.maxval},`);
+  setText('film-greys', `greys ${film.least} to ${film.greatest}`);
 }
 
 // A box that is being typed into, or holds text that is no number, keeps its text.
-function fillBoxes(film) {
-  const {settings, display} = film;
-  for (const id of [...SETTINGS, ...DISPLAY]) {
-    const box = element(id);
-    if (typing.has(id) || box.getAttribute('aria-invalid') === 'true') continue;
-    box.value = shownNumber(id, id in settings ? settings[id] : display[id]);
-  }
+function fillNumber(id, value) {
+  const box = element(id);
+  if (!typing.has(id) && box.getAttribute('aria-invalid') !== 'true') box.value = shownNumber(id, value);
+}
+
+function fillTypedNote() {
   if (!document.querySelector('.box[aria-invalid="true"]')) element('typed-note').hidden = true;
+}
+
+function fillBoxes(film) {
+  const {settings} = film;
+  for (const id of SETTINGS) fillNumber(id, settings[id]);
   element('bins-chosen').checked = film.binsChosen;
-  element('bins-note').textContent = film.binsChosen ? `bins chosen by the range ${settings.min} to ${settings.max}`
-    : 'let the range choose the bins';
+  setText('bins-note', film.binsChosen ? `bins chosen by the range ${settings.min} to ${settings.max}`
+    : 'let the range choose the bins');
   element('clip').checked = settings.clip === 1;
   fillEdition(settings.edition);
   for (const id of ['factor', 'factor-slider', 'edition-set']) element(id).classList.toggle('idle', settings.clip === 0);
+}
+
+// Level, window and the rest of the display: all that moves while they are dragged.
+function fillDisplay(film) {
+  const {display} = film;
+  const most = mostLevel(film);
+  for (const id of DISPLAY) fillNumber(id, display[id]);
+  setSlider('level', 0, most, display.level);
+  setSlider('width', 1, most + 1, display.width);
+  fillTypedNote();
   element('invert').checked = display.invert;
   element('auto').checked = display.auto;
-  element('display-note').textContent = endsOf(display);
-  const own = displayOf(film, 'scanned');
-  element('auto-note').textContent = display.auto ? endsOf(own) : '';
+  setText('display-note', endsOf(display));
+  setText('auto-note', display.auto ? endsOf(displayOf(film, 'scanned')) : '');
 }
 
 // edition: its place in EDITIONS, or null.
@@ -382,8 +403,7 @@ export function endsOf(display) {
 }
 
 function fillSliders(film) {
-  const {settings, display, fits} = film;
-  const most = mostLevel(film);
+  const {settings, fits} = film;
   for (const id of ['across', 'down']) {
     setSlider(id, 0, Math.max(0, fits[id].length - 1), fits[id].indexOf(nearestGrid(settings[id], fits[id])));
     element(`${id}-slider`).disabled = fits[id].length === 0;
@@ -394,17 +414,14 @@ function fillSliders(film) {
   element('bins-slider').setAttribute('aria-valuetext', `${settings.bins} bins`);
   setSlider('factor', 0, FACTORS.length - 1, nearestStep(FACTORS, settings.factor));
   element('factor-slider').setAttribute('aria-valuetext', settings.clip ? `factor ${settings.factor}` : 'clip off');
-  setSlider('level', 0, most, display.level);
-  setSlider('width', 1, most + 1, display.width);
 }
 
 function fillEnds(film) {
-  const width = element('histogram').clientWidth;
   for (const [id, handle] of [['min', 'range-low'], ['max', 'range-high']]) {
     const end = element(handle);
     const limits = endLimits(film)[id];
     end.style.display = 'block';
-    end.style.left = `${greyToX(film, film.settings[id], width)}px`;
+    end.style.left = `calc(${shareOf(film, film.settings[id])} * (100% - 1px))`;
     end.setAttribute('aria-valuemin', limits.from);
     end.setAttribute('aria-valuemax', limits.to);
     end.setAttribute('aria-valuenow', film.settings[id]);

@@ -5,10 +5,23 @@ import {mostLevel} from './panel.js';
 export const INK = {bar: '#6f6f6f', faint: '#4a4a4a', text: '#9a9a9a', line: '#e0e0e0', limit: '#d8a54a', out: '#2b2b2b'};
 const AXIS = 12; // room for the numbers beneath
 
+// How large the canvases are, asked once until the page is sized anew: to ask has the browser lay out the page before its time.
+const sizes = {asked: new Map()};
+
+export function forgetSizes() { sizes.asked.clear(); }
+
+function canvasSize(canvas) {
+  if (!sizes.asked.has(canvas)) {
+    const size = {width: canvas.clientWidth, height: canvas.clientHeight};
+    if (size.width === 0) return size; // it is not shown yet
+    sizes.asked.set(canvas, size);
+  }
+  return sizes.asked.get(canvas);
+}
+
 // A pen for the canvas at the screen's own pixels, with lengths in the page's.
 export function penFor(canvas) {
-  const width = canvas.clientWidth;
-  const height = canvas.clientHeight;
+  const {width, height} = canvasSize(canvas);
   canvas.width = Math.round(width * devicePixelRatio);
   canvas.height = Math.round(height * devicePixelRatio);
   const pen = canvas.getContext('2d');
@@ -30,14 +43,15 @@ function columnsOf(counts, width) {
 
 // ---- the histogram ----
 
-// From 0 to the file's maxval, or to Max where that is above it.
-export function greyToX(film, grey, width) { return Math.max(0, Math.min(1, grey / mostLevel(film))) * (width - 1); }
+// From 0 to the file's maxval, or to Max where that is above it: a grey's share of the plot's width less a dot.
+export function shareOf(film, grey) { return Math.max(0, Math.min(1, grey / mostLevel(film))); }
+function greyToX(film, grey, width) { return shareOf(film, grey) * (width - 1); }
 
 let histogramKey = ''; // what it was drawn for: a display that is dragged leaves it alone
 
 export function drawHistogram(film) {
   const canvas = element('histogram');
-  const key = film ? [film.number, film.settings.min, film.settings.max, canvas.clientWidth, canvas.clientHeight,
+  const key = film ? [film.number, film.settings.min, film.settings.max, ...Object.values(canvasSize(canvas)),
     devicePixelRatio].join() : '';
   if (film && key === histogramKey) return;
   histogramKey = key;

@@ -116,7 +116,7 @@ function moved(event) {
   if (event.pointerType === 'touch' && fingerMoved(event)) return;
   const {drag} = hand;
   if (event.pointerType !== 'touch') look.pointer = {clientX: event.clientX, clientY: event.clientY};
-  if (!drag || drag.byKeys) return readAt(pixelAt(event, look.painted));
+  if (!drag || drag.byKeys) return readAt(pixelAt(event, look.places));
   const x = event.clientX - drag.x;
   const y = event.clientY - drag.y;
   drag.x = event.clientX;
@@ -151,7 +151,7 @@ function released(event) {
 }
 
 function readTapped(event) {
-  const pixel = pixelAt(event, look.painted);
+  const pixel = pixelAt(event, look.places);
   if (pixel) readAt({...pixel, frame: null});
 }
 

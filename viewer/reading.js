@@ -5,11 +5,11 @@ import {editionWords} from './numbers.js';
 import {drawTilePlot} from './plots.js';
 import {OUTLINED, filmReady, state, want} from './state.js';
 
-// at: {x, y, cell, frame}, or null.
+// at: {film, x, y, cell, frame}, or null.
 export function readAt(at) {
   const film = filmReady();
   if (!film || film.refusal) return;
-  const same = at && state.at && at.x === state.at.x && at.y === state.at.y &&
+  const same = at && state.at && at.film === state.at.film && at.x === state.at.x && at.y === state.at.y &&
     ['x', 'y', 'width', 'height'].every(key => at.cell[key] === state.at.cell[key]);
   state.at = at;
   if (same) return placeMarks();
@@ -17,22 +17,38 @@ export function readAt(at) {
   else fillReading(null);
 }
 
+// Nothing is read any more.
+export function forgetReading() {
+  state.at = null;
+  fillReading(null);
+}
+
+// What is read of a film that is no longer on a pane.
+export function forgetReadingOf(film) { if (state.at && state.at.film === film) forgetReading(); }
+
 // From the pixel that is read, or from the middle of what is seen. Gives the pixel.
 export function moveReading(x, y) {
   const film = filmReady();
   if (!film || !look.painted) return null;
   const from = readNow();
-  const hold = (value, side) => Math.max(0, Math.min(side - 1, value));
   look.pointer = null;
-  const at = pixelOf(film, hold(from.x + x, film.width), hold(from.y + y, film.height));
+  const at = heldPixel(film, from.x + x, from.y + y);
   readAt(at);
   return at;
 }
 
-// The pixel that is read, or the one in the middle of what is seen.
+function heldPixel(film, x, y) {
+  const hold = (value, side) => Math.max(0, Math.min(side - 1, value));
+  return pixelOf(film, hold(x, film.width), hold(y, film.height));
+}
+
+// The pixel of the film that is looked at that is read, or lies beneath the one that is read of the film beside it, or in the
+// middle of what is seen.
 export function readNow() {
+  const {at, film} = state;
   const place = look.painted;
-  return state.at || pixelOf(state.film, place.left + (place.width >> 1), place.top + (place.height >> 1));
+  if (at) return at.film === film ? at : heldPixel(film, at.x, at.y);
+  return pixelOf(film, place.left + (place.width >> 1), place.top + (place.height >> 1));
 }
 
 // Below 1:1 a dot is more than the pixel that is read.
@@ -70,6 +86,7 @@ export function fillReading(probe) {
     setText(id, probe ? String(probe[key]) : '–');
   }
   const tile = state.tile;
+  setText('pointer-film', probe && look.mode === 'pair' && state.at ? `film ${state.at.film.number}` : '');
   setText('at-dot', probe ? dotWords(probe) : '');
   setText('at-tile', tile ? `${tile.across + 1} across, ${tile.down + 1} down` : '–');
   setText('at-rectangle', tile ? `columns ${tile.left} to ${tile.left + tile.width - 1}, ` +

@@ -78,7 +78,7 @@ export function makeReport(film, s, reading, names) {
   const body = unsealed(recordText(names.version, input, output, s, film, namesEdition(form)), told);
   const seal = digestOfText(film.library, body);
   const footer = {limit: film.footer.limit, asked: printG(film.footer.asked, 9), used: printG(film.footer.used, 17)};
-  return {name: `${name}-report`, seal, text: sealed(body, seal),
+  return {name: `${name}-report-${seal.slice(0, 12)}`, seal, text: sealed(body, seal),
     html: reportHtml({version: names.version, film: input, output, settings: s, footer, told, seal})};
 }
 

@@ -32,9 +32,10 @@ export function askView() {
   tell('');
   const {settings, footer} = keptOf(film);
   const other = look.mode === 'pair' ? pairFilm() : null;
-  const second = other && keptOf(other) ? {film: other, settings: keptOf(other).settings, footer: keptOf(other).footer} : null;
-  saving.push({film, what: 'view', settings, display: {...film.display}, footer, mode: look.mode, part: partShown(),
-    view: {...film.view}, second, sheet: viewSheet(), sides: sidesOfView()});
+  const second = other && keptOf(other) ? {film: other, settings: keptOf(other).settings, footer: keptOf(other).footer,
+    display: {...other.display}} : null;
+  saving.push({film, what: 'view', settings, display: {...film.display}, footer, mode: look.mode, turn: look.turn,
+    cut: dividerDot(), part: partShown(), view: {...film.view}, second, sheet: viewSheet(), sides: sidesOfView()});
   pump();
 }
 
@@ -149,8 +150,8 @@ export function captionOf(asked, digest, second) {
   const {left, top, right, bottom, zoom} = part;
   return [
     ...filmWords(asked, digest),
-    ...(second ? filmWords(asked.second, second) : []),
     `Display: ${displayWords(film, display)}`,
+    ...(second ? ['Beside it:', ...filmWords(asked.second, second), `Display: ${displayWords(asked.second.film, asked.second.display)}`] : []),
     `Part: columns ${left} to ${right}, rows ${top} to ${bottom}, at ${zoom.label}, ${howShown(zoom)}${turnWords(view)}; ${sides}`,
     'Film density is not read off the rendered picture.',
   ];
@@ -194,10 +195,9 @@ export function captioned(sheet, caption) {
   return pen.canvas;
 }
 
-async function savedView(asked, {name, digest}) {
+async function savedView(asked, {digest}) {
   const second = asked.second ? await filmDigest(asked.second.film) : null;
-  const beside = second ? `-beside-film${asked.second.film.number}-${second.slice(0, 12)}` : '';
-  const view = `${viewName(name, asked)}${beside}.png`;
+  const view = `${viewName(asked, [digest, second])}.png`;
   captioned(asked.sheet, captionOf(asked, digest, second)).toBlob(blob => {
     if (!blob) return tell('The view could not be saved as PNG.');
     download([blob], 'image/png', view);

@@ -2,12 +2,11 @@
 import {keepTimes} from './ask.js';
 import {element, setText} from './dom.js';
 import {listFilms} from './films.js';
-import {showLens, lensWindow} from './lens.js';
 import {MARGIN_DOTS, clearPanes, keepDrawn, keptOf, look, paintView, pairFilm, pairIsThere, panes, placeNow,
   placeUnder} from './look.js';
 import {editionWords} from './numbers.js';
 import {fillFooter} from './panel.js';
-import {fillReading} from './reading.js';
+import {fillReading, forgetReading} from './reading.js';
 import {filmReady, state, want, wanted} from './state.js';
 
 // What is moved by a slider, and has to be seen at once.
@@ -16,11 +15,15 @@ const HASTY = ['factor', 'settings'];
 export function dueShow() {
   const film = filmReady();
   if (!film || !look.pane) return null;
-  const draw = wanted.draw !== wanted.drawn;
-  if (!draw && (wanted.probe === wanted.probed || film.refusal)) return pairRequest(film);
+  if (wanted.draw !== wanted.drawn) return drawRequest(film);
+  const read = state.at ? state.at.film : film;
+  if (wanted.probe === wanted.probed || read.refusal) return pairRequest(film);
   wanted.probed = wanted.probe;
-  return draw ? drawRequest(film) : showRequest(film, {place: null}, {}, []);
+  return showRequest(read, {place: null}, {}, []);
 }
+
+// Whether what is read is this film's: of two films on the panes the one that is pointed at is read.
+function isRead(film) { return !state.at || state.at.film === film; }
 
 // Of two films that are looked at the second comes behind the first.
 function pairRequest(film) {
@@ -32,6 +35,7 @@ function pairRequest(film) {
 function drawRequest(film) {
   const marks = wanted.marks.splice(0);
   wanted.drawn = wanted.draw;
+  if (isRead(film)) wanted.probed = wanted.probe;
   // a moved setting is not kept waiting for what is not seen
   const margin = marks.some(({what}) => HASTY.includes(what)) ? 0 : MARGIN_DOTS;
   const spare = look.spare;
@@ -49,13 +53,12 @@ function scannedIsThere(film, place) {
 function showRequest(film, {place, seen}, spare, marks) {
   const settings = {...film.settings};
   const asked = place && {...place, scannedIsThere: scannedIsThere(film, place)};
-  const at = film === state.film && state.at ? {x: state.at.x, y: state.at.y, cell: state.at.cell} : null;
-  const lens = at && lensWindow(film);
+  const at = state.at && isRead(film) ? {x: state.at.x, y: state.at.y, cell: state.at.cell} : null;
   return {
-    message: {kind: 'show', number: film.number, settings, place: asked, at, lens, spare},
+    message: {kind: 'show', number: film.number, settings, place: asked, at, spare},
     transfer: Object.values(spare),
     slow: `rendering ${film.name}`,
-    done: answer => shown(film, {settings, place, seen, lens}, answer, marks),
+    done: answer => shown(film, {settings, place, seen}, answer, marks),
   };
 }
 
@@ -66,25 +69,30 @@ function shown(film, asked, answer, marks) {
   if (before !== Boolean(film.refusal)) listFilms();
   if (film.refusal) look.kept.delete(film.number);
   else if (answer.picture && !film.closed) keepDrawn(film, {...asked, footer: answer.footer, axes: answer.axes}, answer.picture);
-  if (state.film !== film) return besideShown(film);
+  if (state.film !== film) return besideShown(film, answer);
   showRefusal(film.refusal);
   fillFooter(film.refusal ? null : answer.footer, asked.settings, film);
   if (film.refusal) {
-    state.at = null;
     clearPanes();
-    fillReading(null);
+    forgetReading();
   } else {
     // the view may have gone on since this was asked for
     if (answer.picture && !paintView(film)) want('draw');
-    showLens(asked.lens, answer.lens);
-    fillReading(answer.probe || null);
+    if (isRead(film)) fillReading(answer.probe || null);
   }
   tellState();
   keepTimes(marks);
 }
 
-function besideShown(film) {
-  if (look.mode === 'pair' && film === pairFilm() && keptOf(state.film) && look.painted) paintView(state.film);
+// The film beside the one that is looked at was drawn, refused or read.
+function besideShown(film, answer) {
+  if (state.at && isRead(film)) {
+    if (film.refusal) forgetReading();
+    else if (answer.probe) fillReading(answer.probe);
+    else want('probe'); // drawn with other settings than it was read with
+  }
+  const isSeen = look.mode === 'pair' && film === pairFilm() && keptOf(state.film) && look.painted;
+  if (isSeen && (answer.picture || film.refusal)) paintView(state.film);
 }
 
 // In the film's place, in red: the library's number and sentence, and the numbers that help.
@@ -100,6 +108,13 @@ export function showRefusal(refusal) {
   }));
 }
 
+function fillLabel(label, words, name) {
+  const [what, own] = label.children;
+  if (what.textContent !== words) what.textContent = words;
+  if (own.textContent !== name) own.textContent = name;
+  if (label.title !== name) label.title = name;
+}
+
 // Above each picture: which film it is, whatever its name's length.
 export function fillCaptions() {
   for (const [i, {film, side}] of panes().entries()) {
@@ -110,9 +125,7 @@ export function fillCaptions() {
     const words = `${side === 'rendered' ? `rendered${edition}` : `as scanned${own}`}${refused}`;
     const size = film && film.ready ? `${film.width} × ${film.height} · ` : '';
     const none = look.mode === 'pair' && i > 0 ? 'no second film' : words;
-    label.querySelector('.what').textContent = film ? `film ${film.number} · ${size}${words}` : none;
-    label.querySelector('.name').textContent = film ? film.name : '';
-    label.title = film ? film.name : '';
+    fillLabel(label, film ? `film ${film.number} · ${size}${words}` : none, film ? film.name : '');
   }
 }
 

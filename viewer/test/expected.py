@@ -109,13 +109,23 @@ def footer_of(film, asked):
             struct.unpack(">d", struct.pack(">Q", footer.used))[0])
 
 
-def saved_name(film, number, asked, data=None):
-    """The name of a saved rendering, without its ending: no other film, number or setting has it."""
+def rendering_words(film, number, asked, data=None):
+    """What tells a rendering: no other film, number or setting has it."""
     factor = factor_of(asked)
     clip = "clipoff" if factor is None else "clip%.9g" % factor
-    return "%s-rendered-film%d-%dx%d-%dbins-%dto%d-%s-%s-%s" % (
-        film.name[:-4], number, asked.across, asked.down, asked.bins or 128, asked.min, asked.max, clip,
-        EDITIONS[asked.edition], digest_of(film, data)[:12])
+    return "film%d-%dx%d-%dbins-%dto%d-%s-%s-%s" % (number, asked.across, asked.down, asked.bins or 128, asked.min, asked.max, clip,
+                                                    EDITIONS[asked.edition], digest_of(film, data)[:12])
+
+
+def saved_name(film, number, asked, data=None):
+    """The name of a saved rendering, without its ending."""
+    return "%s-rendered-%s" % (film.name[:-4], rendering_words(film, number, asked, data))
+
+
+def view_name(film, number, asked, words, data=None):
+    """The name of a saved view, without its ending; words: what is shown, and how."""
+    rest = "-%s-view-%s" % (rendering_words(film, number, asked, data), words)
+    return film.name[:-4][:min(100, 235 - len(rest))] + rest
 
 
 def digest_of(film, data=None):

@@ -62,7 +62,9 @@ def browser(room, log=True):
         options.add_argument("--" + flag)
     if log:
         options.set_capability("goog:loggingPrefs", {"browser": "ALL", "performance": "ALL"})
-    return webdriver.Chrome(service=Service(shutil.which("chromedriver")), options=options)
+    driver = webdriver.Chrome(service=Service(shutil.which("chromedriver")), options=options)
+    driver.set_script_timeout(PATIENCE)
+    return driver
 
 
 class Person:

@@ -203,28 +203,29 @@ def told_apart(person, films):
     numbers = [person.open(person.file(film.name, film.file()))[0] for film in long]
     for width, height in ((1600, 1000), (1280, 720)):
         person.size(width, height)
-        for mode in ("side", "divide", "turn"):
+        for mode in ("side", "divide", "turn", "pair"):
             person.click("mode-" + mode)
             for number, name in zip(numbers, names):
                 person.choose(number)
-                told(person, number, name, mode)
+                told(person, number, name, mode, sum(numbers) - number)
     least = 99
     for state in ("", "refused", "reading"):
         person.script("document.querySelector('#film-2').parentElement.className = 'film ' + arguments[0]", state)
         least = min(least, person.script(CONTRAST, "#film-2"))
     hold(least >= 4.5, "the contrast of the chosen tab is", least)
-    return "200 letters, three ways of looking; contrast %.1f at the least" % least
+    return "200 letters, four ways of looking; contrast %.1f at the least" % least
 
 
-def told(person, number, name, mode):
-    """Holds tab, captions and panel to a film."""
+def told(person, number, name, mode, other):
+    """Holds tab, captions and panel to a film; beside it is another one where two are looked at."""
     size = "77 × 63"
     hold(person.script(SEEN, "#film-%d small" % number), "size and number are cut off in the tab")
     same("in the tab", person.text("film-%d" % number), "%s%s · %d" % (name, size, number))
     for side in ("scanned", "rendered"):
         if mode != "turn" or person.element("label-" + side).is_displayed():
             hold(person.script(SEEN, "#label-%s .what" % side), "size and number are cut off above the picture")
-        hold(person.text("label-" + side).startswith("film %d · %s · " % (number, size)), "the caption:", person.text("label-" + side))
+        own = other if mode == "pair" and side == "rendered" else number
+        hold(person.text("label-" + side).startswith("film %d · %s · " % (own, size)), "the caption:", person.text("label-" + side))
     same("in the panel", person.text("film-name"), name)
     hold(person.script(SEEN, "#film-name"), "the name is cut off in the panel")
 

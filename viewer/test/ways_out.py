@@ -11,6 +11,7 @@ from person import hold, picture_of, same
 from ways_settings import set_now
 
 PROGRAM = os.path.join(expected.TOP, "station/render")
+MOST_OFF = 16  # shades
 
 
 def rendered_by_the_station(person, name, words, base):
@@ -160,8 +161,12 @@ def view_saved(person, name, height):
     same("size of the PNG", [len(sheet[0]), len(sheet)], [lines[0]["width"], lines[0]["height"]])
     hold(max(line["right"] for line in lines) <= len(sheet[0]), "the caption is cut off on the right")
     hold(max(line["y"] for line in lines) + 13 <= len(sheet), "the caption is cut off beneath")
+    # a letter's edge may come out a few shades off on another canvas; another letter is off by far more
     wanted = person.script(REDRAW, lines, height)
-    same("the caption's dots", [dot for row in sheet[height:] for dot in row], [(shade,) * 3 for shade in wanted])
+    seen = [dot for row in sheet[height:] for dot in row]
+    same("the caption's dots", len(seen), len(wanted))
+    far = max(abs(part - shade) for dot, shade in zip(seen, wanted) for part in dot)
+    hold(far <= MOST_OFF, "a dot of the caption is %d shades off" % far)
     return sheet, " ".join(" ".join(line["text"] for line in lines).split())
 
 
@@ -170,7 +175,7 @@ def save_view(person, films):
     is: film, number, digest, sizes, settings, display and part."""
     film, number = films.odd, person.show(films.odd)
     asked = film.usual()
-    base = expected.saved_name(film, number, asked)
+    named = lambda words: expected.view_name(film, number, asked, words)
     person.script(HOOK_TEXT)
     person.click("zoom-4-1")
     person.settled()
@@ -178,7 +183,7 @@ def save_view(person, films):
     plain = "Display: level 2048, window 4096, not inverted: black 0, white 4095"
     part = "Part: columns 0 to 76, rows 0 to 62, at 4:1, pixels as squares, not smoothed; "
     end = "-4to1-columns0to76-rows0to62-level2048-window4096"
-    sheet, words = view_saved(person, base + "-view-side" + end, left.height)
+    sheet, words = view_saved(person, named("side" + end), left.height)
     same("beneath the view", words, caption(film, number, asked, plain, part + "left as scanned, right rendered"))
     gap = len(sheet[0]) - left.width - right.width
     hold(gap >= 0, "the sheet is too narrow")
@@ -188,17 +193,19 @@ def save_view(person, films):
     person.settled()
     left, right = [person.canvas(which) for which in ("scanned", "rendered")]
     half = left.width // 2
-    sheet, words = view_saved(person, base + "-view-divide" + end, left.height)
+    cut = (left.width + 1) // 2  # the middle, rounded as it is shown
+    sheet, words = view_saved(person, named("divide%d" % cut + end), left.height)
     hold(re.search(r"as scanned in its first %d|%d columns of dots" % (half, half + 1), words), "beneath the view:", words)
     held_to(sheet, left, 0, half - 1)
     held_to([row[half + 1:] for row in sheet], right, -half - 1, right.width - half - 1)
     person.click("mode-turn")
     person.settled()
-    shown = "rendered" if person.element("label-rendered").is_displayed() else "scanned"
-    sheet, words = view_saved(person, base + "-view-turn" + end, left.height)
-    hold("rendered alone" in words if shown == "rendered" else "as scanned alone" in words, "beneath the view:", words)
-    held_to(sheet, person.canvas(shown), 0, len(sheet[0]))
-    return "side by side, divider, in turn (%s)" % shown
+    for shown, alone in (("rendered", "rendered alone"), ("scanned", "as scanned alone")):
+        sheet, words = view_saved(person, named("turn-" + shown + end), left.height)
+        hold(alone in words, "beneath the view:", words)
+        held_to(sheet, person.canvas(shown), 0, len(sheet[0]))
+        person.keys("b")
+    return "side by side, divider, in turn both"
 
 
 def save_part_of_view(person, films):
@@ -216,14 +223,42 @@ def save_part_of_view(person, films):
     edge = person.sees(film, asked, table=expected.shades(1500, 1000, True))
     canvas = person.canvas("scanned")
     columns, rows = (-edge[0], -edge[0] + canvas.width - 1), (-edge[1], -edge[1] + canvas.height - 1)
-    name = expected.saved_name(expected.Film("n" * 100 + ".pgm", 0, 0, 0, []), number, asked, film.file())
-    _, words = view_saved(person, name + "-view-side-1to1-columns%dto%d-rows%dto%d-level1500-window1000-inverted" % (
-        *columns, *rows), canvas.height)
+    name = expected.view_name(film, number, asked, "side-1to1-columns%dto%d-rows%dto%d-level1500-window1000-inverted" % (
+        *columns, *rows), film.file())
+    _, words = view_saved(person, name, canvas.height)
     wanted = caption(film, number, asked, "Display: level 1500, window 1000, inverted: white 1000, black 1999",
                      "Part: columns %d to %d, rows %d to %d, at 1:1, pixel for pixel; left as scanned, right rendered" % (
                          *columns, *rows))
     same("beneath the view", words.replace(" ", ""), wanted.replace(" ", ""))
     return "columns %d to %d, rows %d to %d" % (*columns, *rows)
+
+
+def save_view_of_two(person, films):
+    """Two films beside each other, each with settings and display of its own: the name has both, cut to what a file system takes,
+    and beneath the view stands what each of them is."""
+    one, two = films.sample, expected.Film("t" * 120 + ".pgm", films.twin.width, films.twin.height, films.twin.maxval, films.twin.greys)
+    first, second = person.open(*[person.file(film.name, film.file()) for film in (one, two)])
+    person.script(HOOK_TEXT)
+    person.choose(second)
+    set_boxes(person, {"factor": "1.00000012", "across": "16", "edition": "1986", "level": "1777", "width": "1111", "invert": True})
+    asked = set_now(person)
+    person.script("document.getElementById('stage').focus()")
+    person.keys("4", "0")
+    for number, shown in ((second, "rendered"), (first, "rendered"), (first, "scanned")):
+        person.choose(number)
+        before = set(os.listdir(person.saved))
+        person.script("drawn.length = 0")
+        person.click("save-png")
+        name = person.until("a view", lambda: next((each for each in set(os.listdir(person.saved)) - before if each.endswith(".png")), None))
+        person.settled()
+        words = " ".join(" ".join(line["text"] for line in person.script("return drawn")).split()).replace(" ", "")
+        hold(len(name.encode()) <= 254 and ("pair-" + shown) in name, "the name is", name)
+        for film, own, told in ((one, one.usual(), "level2048,window4096,notinverted"), (two, asked, "level1777,window1111,inverted")):
+            hold(expected.digest_of(film) in words and told in words, "beneath it stands", words)
+            hold(("L%d,%s" % (expected.footer_of(film, own)[0], ("ouredition", "editionof1986")[own.edition])) in words, "beneath it stands", words)
+        person.keys(*["b"] * (number == first))
+    same("views saved", len({each for each in os.listdir(person.saved) if "-view-pair-" in each}), 3)
+    return "three views, three names"
 
 
 def held_to(sheet, canvas, shift, width):
@@ -263,5 +298,5 @@ def what_is_proved(person, films):
     return "panel, foot and keys"
 
 
-WAYS = [save_film_and_record, two_films_of_one_name, save_shallow, save_view, save_part_of_view, too_deep_to_save,
+WAYS = [save_film_and_record, two_films_of_one_name, save_shallow, save_view, save_part_of_view, save_view_of_two, too_deep_to_save,
         what_is_proved]

@@ -53,7 +53,13 @@ def whole_dots(person, films):
             same("at scale %g, %s" % (scale, mode), other, [])
             dots += count
         person.sees(films.sample, films.sample.usual())
-    return "scales %s, %d dots" % (", ".join("%g" % scale for scale in SCALES), dots)
+    person.arrive(1000, 620, scale=1.07)
+    person.show(films.sample)
+    person.click("zoom-1-1")
+    person.settled()
+    hold("pixel for pixel" not in person.text("how") and "107 %" in person.text("how"), "at a scale without whole dots it says",
+         person.text("how"))
+    return "scales %s, %d dots; at 1.07 it is not said" % (", ".join("%g" % scale for scale in SCALES), dots)
 
 
 def pressed(person, name):
@@ -198,14 +204,17 @@ def magnifier(person, films):
 
 def held_lens(person, film, x, y):
     """Holds both magnifiers to the pixels around one."""
-    count = 58
-    from_x, from_y = max(0, min(film.width - count, x - count // 2)), max(0, min(film.height - count, y - count // 2))
-    table = expected.shades(2048, 4096)
     for lens, greys in zip(person.script(READ_LENS), (film.greys, film.rendered(film.usual()))):
-        same("size of the magnifier", [lens["shown"], lens["width"], lens["height"]], [True, 4 * count, 4 * count])
-        wanted = [table[greys[(from_y + dy // 4) * film.width + from_x + dx // 4]]
-                  for dy in range(4 * count) for dx in range(4 * count)]
-        hold(lens["dots"] == wanted, "the magnifier shows other pixels than those about", x, y)
+        lens_held(lens, film, greys, x, y)
+
+
+def lens_held(lens, film, greys, x, y):
+    """Holds one magnifier to a film's greys around a pixel."""
+    count, table = 58, expected.shades(2048, 4096)
+    from_x, from_y = max(0, min(film.width - count, x - count // 2)), max(0, min(film.height - count, y - count // 2))
+    same("size of the magnifier", [lens["shown"], lens["width"], lens["height"]], [True, 4 * count, 4 * count])
+    wanted = [table[greys[(from_y + dy // 4) * film.width + from_x + dx // 4]] for dy in range(4 * count) for dx in range(4 * count)]
+    hold(lens["dots"] == wanted, "the magnifier shows other pixels than those of", film.name, "about", x, y)
 
 
 def own_window(person, films):
@@ -250,6 +259,47 @@ def two_films(person, films):
     return "films of 512 by 384 and 77 by 63, then two of one size"
 
 
+def read_of_two(person, films):
+    """Of two films the one that is pointed at is read, and it is said which; the magnifier has each pane's own film, and the tile
+    is outlined on its film alone. A film that is closed leaves its pane at once, though the next one is at hand."""
+    one, two, three = films.sample, films.twin, expected.Film("third.pgm", 512, 384, 4095, [4095 - grey for grey in films.sample.greys])
+    first, second, third = person.open(*[person.file(film.name, film.file()) for film in (one, two, three)])
+    person.choose(second)
+    person.type("factor", "6")
+    person.choose(first)
+    person.script("document.getElementById('stage').focus()")
+    person.keys("4", "0", "t")
+    for number in (third, second):
+        person.script("""const list = document.getElementById('pair-with'); list.value = arguments[0];
+            list.dispatchEvent(new Event('change', {bubbles: true}))""", str(number))
+        person.settled()
+    person.click("lens")
+    sides = [(one, one.usual()), (two, two.usual(6.0))]
+    for pane, number, (film, asked) in zip(("scanned", "rendered"), (first, second), sides):
+        edge = person.sees_on(pane, film, film.rendered(asked), "1-1", expected.shades(2048, 4096))
+        left, top, _, _ = person.box("canvas-" + pane)
+        person.mouse("mouseMoved", left + edge[0] + 211, top + edge[1] + 190)
+        wanted = ("film %d" % number, "211", "190", str(film.greys[190 * 512 + 211]), str(film.grey_at(211, 190, asked)))
+        person.until("the reading %s" % (wanted,), lambda: tuple(person.text(name) for name in (
+            "pointer-film", "at-column", "at-row", "at-scanned", "at-rendered")) == wanted, 10)
+        person.settled()
+        outlined = person.script("return [...document.querySelectorAll('.tile-mark')].map(each => each.style.display !== 'none')")
+        same("where the tile is outlined", outlined, [number == first, number == second])
+        for lens, (own, own_asked) in zip(person.script(READ_LENS), sides):
+            lens_held(lens, own, own.rendered(own_asked), 211, 190)
+    person.keys("m")
+    person.click("close-%d" % second)
+    person.settled()
+    hold(person.text("label-rendered").startswith("film %d " % third), "the caption:", person.text("label-rendered"))
+    person.sees_on("rendered", three, three.rendered(three.usual()), "1-1", expected.shades(2048, 4096))
+    hold(person.text("at-column") in ("–", "211") and "film %d" % second not in person.text("pointer-part"), "it still reads the closed film")
+    person.click("close-%d" % third)
+    person.settled()
+    hold(person.canvas("rendered").blank() and "no second film" in person.text("label-rendered"), "the last one's picture stays up")
+    person.sees_on("scanned", one, one.rendered(one.usual()), "1-1", expected.shades(2048, 4096))
+    return "films %d and %d, then %d" % (first, second, third)
+
+
 def linked(person, left, right, zoom, turn):
     """Holds both panes to their films, and the second's place to the first's."""
     person.drag(500, 500, 560, 540, 2)
@@ -267,4 +317,4 @@ def linked(person, left, right, zoom, turn):
     same("pixel 0, 0 of both", places[1], places[0])
 
 
-WAYS = [whole_dots, fit_fits, overview, any_zoom, turned, magnifier, own_window, two_films]
+WAYS = [whole_dots, fit_fits, overview, any_zoom, turned, magnifier, own_window, two_films, read_of_two]
