@@ -6,6 +6,7 @@ const MOST_TIMES = 5000;
 
 export const asking = {
   worker: null,
+  beside: null, // a second one, which the first one asks
   under: null, // the request under way
   last: 0, // its number
   timer: 0,
@@ -91,15 +92,26 @@ function mostMemory() {
   return asked ? Number(asked[1]) * 1048576 : Infinity;
 }
 
+// A second worker for a part of large windows, where there is a processor for it: the way to it, for the first one.
+function startBeside(address, wasm) {
+  if (!(navigator.hardwareConcurrency > 1)) return null;
+  const {port1, port2} = new MessageChannel();
+  asking.beside = new Worker(address);
+  asking.beside.postMessage({kind: 'help', port: port2, wasm}, [port2]);
+  return port1;
+}
+
 export function startWorker(version, failed) {
   const text = document.getElementById('worker').textContent;
-  asking.worker = new Worker(URL.createObjectURL(new Blob([text], {type: 'text/javascript'})));
+  const address = URL.createObjectURL(new Blob([text], {type: 'text/javascript'}));
+  asking.worker = new Worker(address);
   asking.worker.onmessage = event => answered(event.data);
   asking.worker.onerror = event => failed(`The page's worker failed: ${event.message}`);
   const wasm = bytesOfBase64('wasm').buffer;
+  const beside = startBeside(address, wasm);
   send({
-    message: {kind: 'start', wasm, version, memory: mostMemory()},
-    transfer: [wasm],
+    message: {kind: 'start', wasm, version, memory: mostMemory(), beside},
+    transfer: beside ? [wasm, beside] : [wasm],
     slow: 'starting',
     done: answer => { if (answer.fault) failed(`The library could not be started: ${answer.fault}`); },
   });

@@ -109,7 +109,7 @@ export function settingsOf(s) { return [...tilingOf(s), s.clip, s.factor]; }
 function sizeOf(film) { return [film.width, film.height]; }
 function pictureOf(film) { return [film.picture, BigInt(film.width * film.height)]; }
 
-// The calls on files: read and write.
+// The calls on files, read and write, and the page's own.
 function fileCalls(exports, room, cells) {
   return {
     readSizes(at, count) {
@@ -137,6 +137,8 @@ function fileCalls(exports, room, cells) {
         BigInt(bytes), cells + CELL.count) >>> 0;
       return {refusal, count: Number(room.view(cells + CELL.count, 8).getBigUint64(0, true))};
     },
+    // A window in means of the zoom's blocks, whose side is a power of two.
+    means(at, stride, {width, height, zoom}, to) { exports.viewer_means(at, stride, width, height, Math.log2(zoom.block), to); },
     digest(at, count) {
       exports.viewer_sha256(at, count, cells + CELL.digest);
       return String.fromCharCode(...room.u8(cells + CELL.digest, 64));

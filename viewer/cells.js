@@ -2,26 +2,7 @@
 // grey. A cell at the film's right or lower edge is the mean of the pixels that it has.
 import {cellEnd, cellStart} from './place.js';
 
-// Adds a row of the film to the sums of its blocks.
-function addBlocks(sums, row, block) {
-  const whole = row.length - row.length % block;
-  let k = 0;
-  let x = 0;
-  for (; x < whole; x += block) {
-    let sum = row[x] + row[x + 1];
-    for (let i = 2; i < block; i++) sum += row[x + i];
-    sums[k++] += sum;
-  }
-  for (; x < row.length; x++) sums[k] += row[x];
-}
-
-function addQuads(sums, row) {
-  const whole = row.length - row.length % 4;
-  let k = 0;
-  let x = 0;
-  for (; x < whole; x += 4) sums[k++] += row[x] + row[x + 1] + row[x + 2] + row[x + 3];
-  for (; x < row.length; x++) sums[k] += row[x];
-}
+const MOST_BLOCK = 16; // pixels of a block in a direction whose mean the page's C takes
 
 function addCells(sums, row, spans) {
   for (let k = 0; k < sums.length; k++) {
@@ -41,31 +22,26 @@ function spansOf(zoom, first, count, from, side) {
   return spans;
 }
 
-function copyPixels(greys, from, stride, place, out) {
-  for (let y = 0; y < place.height; y++) {
-    const start = from + y * stride;
-    out.set(greys.subarray(start, start + place.width), y * place.width);
-  }
+function copyPixels(greys, stride, place, out) {
+  for (let y = 0; y < place.height; y++) out.set(greys.subarray(y * stride, y * stride + place.width), y * place.width);
 }
 
 // Cells that are one pixel each, though not every pixel once: a zoom between two multiples.
-function pickPixels(greys, from, stride, place, across, down, out) {
+function pickPixels(greys, stride, place, across, down, out) {
   const {columns, rows} = place;
   for (let k = 0; k < rows; k++) {
-    const row = from + down[2 * k] * stride;
+    const row = down[2 * k] * stride;
     for (let x = 0; x < columns; x++) out[k * columns + x] = greys[row + across[2 * x]];
   }
 }
 
-function meanCells(greys, from, stride, place, across, down, out) {
-  const {columns, rows, width, zoom} = place;
+function meanCells(greys, stride, place, across, down, out) {
+  const {columns, rows, width} = place;
   const sums = new Uint32Array(columns);
-  const add = zoom.block === 4 ? addQuads : zoom.block > 1 ? addBlocks : addCells;
-  const last = zoom.block > 1 ? zoom.block : across;
   for (let k = 0; k < rows; k++) {
     sums.fill(0);
     for (let y = down[2 * k]; y < down[2 * k + 1]; y++) {
-      add(sums, greys.subarray(from + y * stride, from + y * stride + width), last);
+      addCells(sums, greys.subarray(y * stride, y * stride + width), across);
     }
     meansOfRow(sums, down[2 * k + 1] - down[2 * k], across, out.subarray(k * columns));
   }
@@ -78,22 +54,36 @@ function meansOfRow(sums, high, across, out) {
   }
 }
 
-// greys: a picture, of which the window begins at `from` and has `stride` greys a row. place: of the film (place.js). spare: a
-// buffer that may be written over, so that moving a film all day leaves nothing to clear away.
-export function cellsOf(greys, from, stride, place, spare) {
-  const {columns, rows, zoom} = place;
+// Blocks that are alike: their means by the page's own C, which is several times as fast. They are laid over the greys where
+// these are not needed any more.
+function meanBlocks(library, {at, stride, isSpent}, place, out) {
+  const to = isSpent ? at : library.room.last(2 * out.length);
+  library.means(at, stride, place, to);
+  out.set(library.room.u16(to, out.length));
+}
+
+// source: where the window's first grey stands in the library's memory, how many greys a row has, and whether they are not needed
+// any more. place: of the film (place.js). spare: a buffer that may be written over, so that moving a film all day leaves nothing
+// to clear away.
+export function cellsOf(library, source, place, spare) {
+  const {columns, rows} = place;
   const bytes = 2 * columns * rows;
   const buffer = spare && spare.byteLength >= bytes && spare.byteLength <= 4 * bytes ? spare : new ArrayBuffer(bytes);
   const out = new Uint16Array(buffer, 0, columns * rows);
-  if (zoom.block === 1) {
-    copyPixels(greys, from, stride, place, out);
-    return buffer;
-  }
+  if (bytes > 0) layCells(library, source, place, out);
+  return buffer;
+}
+
+function layCells(library, source, place, out) {
+  const {columns, rows, zoom} = place;
+  if (zoom.block > 1 && zoom.block <= MOST_BLOCK) return meanBlocks(library, source, place, out);
+  const {stride} = source;
+  const greys = library.room.u16(source.at, (place.height - 1) * stride + place.width);
+  if (zoom.block === 1) return copyPixels(greys, stride, place, out);
   const across = spansOf(zoom, place.cellX, columns, place.left, place.film.width);
   const down = spansOf(zoom, place.cellY, rows, place.top, place.film.height);
   const way = zoom.p > 1024 ? pickPixels : meanCells;
-  way(greys, from, stride, place, across, down, out);
-  return buffer;
+  way(greys, stride, place, across, down, out);
 }
 
 // The mean of a whole window, rounded to the nearest grey.

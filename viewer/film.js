@@ -144,8 +144,13 @@ function drawWindow(film, s, w) {
 }
 
 export function scanCells(film, place, spare) {
-  const scan = film.library.room.u16(film.picture, film.width * film.height);
-  return cellsOf(scan, place.top * film.width + place.left, film.width, place, spare);
+  const at = film.picture + 2 * (place.top * film.width + place.left);
+  return cellsOf(film.library, {at, stride: film.width, isSpent: false}, place, spare);
+}
+
+// The cells of what was drawn, whose greys are not kept.
+function drawnCells(film, drawn, place, spare) {
+  return cellsOf(film.library, {at: drawn.out, stride: place.width, isSpent: true}, place, spare);
 }
 
 // Scanned and rendered side of a window as greys, in the cells of its zoom. place: where the film lies (place.js), and whether the
@@ -153,10 +158,8 @@ export function scanCells(film, place, spare) {
 export function picture(film, s, place, spare = {}) {
   const drawn = drawWindow(film, s, place);
   if (drawn.refusal) return drawn;
-  return {
-    scanned: place.scannedIsThere ? null : scanCells(film, place, spare.scanned),
-    rendered: cellsOf(drawn.greys, 0, place.width, place, spare.rendered),
-  };
+  const rendered = drawnCells(film, drawn, place, spare.rendered); // first: the scan's cells may be laid where it was drawn
+  return {scanned: place.scannedIsThere ? null : scanCells(film, place, spare.scanned), rendered};
 }
 
 // Both sides of a window, every pixel, for measuring and for reports.
@@ -166,7 +169,7 @@ export function greysOfWindow(film, s, window) {
   const drawn = drawWindow(film, s, window);
   if (drawn.refusal) return drawn;
   const place = {...window, zoom: {block: 1}, columns: window.width, rows: window.height};
-  return {scanned: scanCells(film, place), rendered: cellsOf(drawn.greys, 0, window.width, place), footer: film.footer};
+  return {scanned: scanCells(film, place), rendered: drawnCells(film, drawn, place), footer: film.footer};
 }
 
 // Of a film's tile columns or tile rows the one in which a column or row lies, by their edges.
@@ -271,7 +274,6 @@ export function saveRecord(film, s, version) {
 }
 
 // What a saved view says of its film.
-export function saveView(film, s) {
-  const digest = digestOf(film);
-  return {name: renderingName(film, s), digest};
+export function saveView(film) {
+  return {digest: digestOf(film)};
 }

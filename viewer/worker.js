@@ -1,7 +1,8 @@
 // The worker's messages. It holds all films; the page asks for one thing at a time and is answered once for each.
 import {NoMemory, makeLedger} from './calls.js';
-import {closeFilm, digestOf, greysOfWindow, mostBytes, openFilm, picture, probe, saveFilm, saveRecord, saveView,
-  scanCells, settle} from './film.js';
+import {closeFilm, digestOf, greysOfWindow, mostBytes, openFilm, probe, saveFilm, saveRecord, saveView, scanCells,
+  settle} from './film.js';
+import {findHelp, forgetHelp, handOver, help, sharedPicture} from './helper.js';
 import {gridsThatFit} from './refuse.js';
 import {makeReport, measured, readReport} from './reporter.js';
 
@@ -11,6 +12,7 @@ async function toStart(message) {
   held.module = await WebAssembly.compile(message.wasm);
   held.version = message.version;
   held.ledger = makeLedger(message.memory);
+  findHelp(message.beside, held.ledger);
   return {};
 }
 
@@ -39,22 +41,24 @@ async function toOpen(message) {
 
 function toClose(message) {
   const film = held.films.get(message.number);
-  if (film) closeFilm(film);
+  if (film) {
+    forgetHelp(film);
+    closeFilm(film);
+  }
   held.films.delete(message.number);
   return {};
 }
 
 // Settings, window and pointer in one: what the page wants to see now.
-function toShow(message) {
+async function toShow(message) {
   const film = held.films.get(message.number);
   const answer = settle(film, message.settings);
   if (answer.refusal) return answer;
   answer.footer = film.footer;
   answer.axes = film.record.axes;
-  if (message.place) answer.picture = picture(film, message.settings, message.place, message.spare);
+  if (message.place) answer.picture = await sharedPicture(film, message.settings, message.place, message.spare);
   if (answer.picture && answer.picture.refusal) return answer.picture;
   if (message.at) answer.probe = probe(film, message.settings, message.at);
-  if (message.at && message.lens) answer.lens = greysOfWindow(film, message.settings, message.lens);
   return answer.probe && answer.probe.refusal ? answer.probe : answer;
 }
 
@@ -81,7 +85,6 @@ function buffersOf(answer) {
   const found = [];
   if (answer.picture) found.push(answer.picture.rendered);
   if (answer.picture && answer.picture.scanned) found.push(answer.picture.scanned);
-  if (answer.lens) found.push(answer.lens.scanned, answer.lens.rendered);
   for (const key of ['bytes', 'scanned', 'rendered']) if (answer[key]) found.push(answer[key]);
   return found;
 }
@@ -101,7 +104,10 @@ async function answerTo(message) {
 }
 
 self.onmessage = async event => {
-  const answer = await answerTo(event.data);
-  answer.id = event.data.id;
+  const message = event.data;
+  if (message.kind === 'help') return help(message);
+  const answer = await answerTo(message);
+  answer.id = message.id;
   self.postMessage(answer, buffersOf(answer));
+  if (message.kind === 'show' && message.place && held.films.has(message.number)) handOver(held.films.get(message.number));
 };

@@ -2,7 +2,7 @@
 // and the ways from a film's pixels to dots and back.
 import { readFileSync } from 'node:fs';
 import { makeLedger } from '../calls.js';
-import { openFilm, saveFilm, saveRecord } from '../film.js';
+import { greysOfWindow, openFilm, picture, saveFilm, saveRecord, settle } from '../film.js';
 import { cellAt, cellEnd, cellStart, placeOf, toDot, toFilm, zoomOf } from '../place.js';
 import { commandLine } from './renderings.mjs';
 
@@ -67,11 +67,43 @@ function cells() {
   return '1009 zooms';
 }
 
+/** A window's means, pixel by pixel, by the definition of a cell. */
+function meansOf(greys, { zoom, cellX, cellY, columns, rows, left, top, width, film }) {
+  const cell = (first, k, side) => [cellStart(zoom, first + k), cellEnd(zoom, first + k, side)];
+  return Uint16Array.from({ length: columns * rows }, (_, i) => {
+    const [x0, x1] = cell(cellX, i % columns, film.width), [y0, y1] = cell(cellY, Math.floor(i / columns), film.height);
+    let sum = 0;
+    for (let y = y0; y < y1; y++) for (let x = x0; x < x1; x++) sum += greys[(y - top) * width + x - left];
+    const area = (x1 - x0) * (y1 - y0);
+    return Math.floor((2 * sum + area) / (2 * area));
+  });
+}
+
+/** Both sides of windows at fixed and other zooms, cut blocks at the edges too: means by the page's C and by its JavaScript. */
+function means(module, path) {
+  const { film } = openFilm(module, makeLedger(Infinity), 7, { name: 'weld.pgm', cut: false, bytes: new Uint8Array(readFileSync(path)) });
+  const { s } = TRIALS[1];
+  settle(film, s);
+  for (let i = 0; i < 60; i++) {
+    const zoom = [512, 256, 128, 64, 32, 16, 700, 300, 1500, 99][i % 10];
+    const view = { zoom, x: random(film.width), y: random(film.height), turn: 0, flip: false };
+    const place = placeOf(film, view, { width: 1 + Math.floor(random(160)), height: 1 + Math.floor(random(160)) }, i % 3);
+    const drawn = picture(film, s, place), pixels = greysOfWindow(film, s, { left: place.left, top: place.top, width: place.width, height: place.height });
+    for (const side of ['scanned', 'rendered']) {
+      const seen = new Uint16Array(drawn[side], 0, place.columns * place.rows), wanted = meansOf(new Uint16Array(pixels[side]), place);
+      const at = wanted.findIndex((grey, k) => grey !== seen[k]);
+      if (at >= 0) throw new Error(`cell ${at} at ${zoom} / 1024, ${side}: ${seen[at]}, expected ${wanted[at]}`);
+    }
+  }
+  return '60 windows, both sides';
+}
+
 export function modules(wasm, room, trial) {
   const module = new WebAssembly.Module(wasm);
   for (const each of TRIALS)
     trial(`the page's modules: film and record ${each.words.join(' ') || 'as README renders it'}`, () => saved(module, 'docs/weld.pgm', room, each));
   trial('the page\'s modules: a change of edition', () => turnedOver(module, 'docs/weld.pgm'));
+  trial('the page\'s modules: means of windows', () => means(module, 'docs/weld.pgm'));
   trial('the page\'s modules: from pixels to dots and back', places);
   trial('the page\'s modules: cells of every zoom below 1:1', cells);
 }

@@ -5,6 +5,7 @@ import time
 
 import expected
 from person import hold, same
+from ways_settings import set_now
 
 MOST_HOLD = 200  # ms
 
@@ -67,6 +68,55 @@ def largest_film(person, films):
     worst = max(((name, held_by(person, act)) for name, act in acts), key=lambda each: max(each[1]))
     hold(max(worst[1]) <= MOST_HOLD, "%s held the page's thread for %.0f ms" % (worst[0], max(worst[1])))
     return "longest hold: %s, %.0f ms by a timer, %.0f ms by the browser's own count" % (worst[0], *worst[1])
+
+
+# The first worker tells how many windows it has shared with the second.
+SHARED = """
+window.Blob = class extends Blob {
+  constructor(texts, words) {
+    super(texts.map(text => typeof text !== 'string' ? text : text
+      .replace('const rest = await other;', 'const rest = await other; self.shared = (self.shared || 0) + (rest.cells ? 1 : 0);')
+      .replace('answer.id = message.id;', 'answer.id = message.id; answer.shared = self.shared || 0;')), words);
+  }
+};
+window.Worker = class extends Worker {
+  constructor(...words) {
+    super(...words);
+    this.addEventListener('message', event => { window.shared = event.data.shared; });
+  }
+};
+"""
+ALONE = "Object.defineProperty(navigator, 'hardwareConcurrency', {value: 1});"
+
+
+def two_workers(person, films):
+    """Large windows are drawn by two workers, each its part: every picture is the whole one, in both editions, at factor 1.0 and
+    while two films are changed; and so it is where there is one processor."""
+    other = expected.Film("other.pgm", 1280, 1024, 4095, [4095 - grey for grey in films.noisy.greys])
+    seen = []
+    for before in (SHARED, SHARED + ALONE):
+        person.arrive(before=before)
+        first, second = person.open(*[person.file(film.name, film.file()) for film in (films.noisy, other)])
+        for zoom in ("1-2", "1-4"):
+            person.click("zoom-" + zoom)
+            person.script("document.getElementById('stage').focus()")
+            for _ in range(4):
+                person.keys("e")
+                person.sees(films.noisy, set_now(person), zoom)
+            person.type("factor", "1")
+            person.sees(films.noisy, set_now(person), zoom)
+            person.type("factor", "3")
+        person.choose(second)
+        person.type("factor", "1")  # the film itself, so that no second rendering has to be worked out
+        for number, film in ((first, films.noisy), (second, other)) * 2:
+            person.choose(number)
+            for zoom in ("1-4", "1-2"):
+                person.click("zoom-" + zoom)
+                person.settled()
+                person.sees(film, set_now(person), zoom)
+        seen.append(person.script("return window.shared"))
+    hold(seen[0] > 8 and seen[1] == 0, "windows that were shared:", seen)
+    return "%d windows shared, %d with one processor" % tuple(seen)
 
 
 def no_memory(person, films):
@@ -132,4 +182,4 @@ def many_films(person, films):
     return "%d opened, %d told that there is no room" % (len(good), 150 - len(good))
 
 
-WAYS = [largest_film, no_memory, room_given_back, many_films]
+WAYS = [largest_film, two_workers, no_memory, room_given_back, many_films]

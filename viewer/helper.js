@@ -1,0 +1,131 @@
+// Two workers on one window. A large window is drawn in two parts: the upper one by the worker that has the film, the lower one
+// beside it by a second worker. That one has a copy of one film's pixels at a time, of the film that is looked at, in an instance of
+// the library of its own, and is handed the film's number, record and mappings with every part: so it draws by the same call,
+// which compares them, and a part of another film is refused like a whole window.
+import {MOST_ENTRIES, USUAL_BINS, makeLedger, makeLibrary} from './calls.js';
+import {picture, scanCells} from './film.js';
+import {cellEnd, cellStart} from './place.js';
+
+const SHARED_PIXELS = 1 << 20; // a smaller window is as soon drawn by one
+const ROOM = 4 * 1048576; // bytes beside the pixels: stack, mappings, and what is drawn of the smallest of these
+
+// ---- the first worker's side ----
+
+// port: to the second worker, which is there where it has answered; number: of the film whose pixels it has; taken: what they take
+const beside = {port: null, isThere: false, number: 0, taken: 0, ledger: null, waiting: new Map(), last: 0};
+
+function askBeside(message, transfer = []) {
+  return new Promise(done => {
+    beside.waiting.set(++beside.last, done);
+    beside.port.postMessage({...message, id: beside.last}, transfer);
+  });
+}
+
+// To be called once. Nothing waits for a second worker that never answers.
+export function findHelp(port, ledger) {
+  if (!port) return;
+  Object.assign(beside, {port, ledger});
+  port.onmessage = ({data}) => {
+    beside.waiting.get(data.id)(data);
+    beside.waiting.delete(data.id);
+  };
+  askBeside({kind: 'drop'}).then(() => { beside.isThere = true; });
+}
+
+// The second worker gets a large film's pixels when it was shown, so that the next window is shared.
+export function handOver(film) {
+  const bytes = 4 * film.width * film.height + ROOM; // its pixels, and half of them drawn
+  if (!beside.isThere || beside.number === film.number || film.width * film.height < SHARED_PIXELS) return;
+  dropHelp();
+  try {
+    beside.ledger.take(bytes);
+  } catch {
+    return; // one worker draws as well
+  }
+  const {number, width, height} = film;
+  const pixels = film.library.room.u16(film.picture, width * height).slice().buffer;
+  Object.assign(beside, {number, taken: bytes});
+  askBeside({kind: 'hold', number, width, height, pixels}, [pixels]).then(answer => {
+    if (answer.fault && beside.number === number) dropHelp();
+  });
+}
+
+function dropHelp() {
+  if (beside.number === 0) return;
+  beside.ledger.give(beside.taken);
+  Object.assign(beside, {number: 0, taken: 0});
+  askBeside({kind: 'drop'});
+}
+
+// A film that is closed.
+export function forgetHelp(film) { if (film.number === beside.number) dropHelp(); }
+
+// A place in two, at a row of cells.
+function halvesOf(place) {
+  const {zoom, cellY, rows, top, height, film} = place;
+  const half = rows >> 1;
+  const from = cellStart(zoom, cellY + half);
+  return [{...place, rows: half, height: cellEnd(zoom, cellY + half - 1, film.height) - top},
+    {...place, rows: rows - half, cellY: cellY + half, top: from, height: top + height - from}];
+}
+
+function mapsOf(film, s) {
+  return film.library.room.u16(film.map, s.across * s.down * (s.bins || USUAL_BINS)).slice().buffer;
+}
+
+// What film.js gives for a window, by both workers where it is large.
+export async function sharedPicture(film, s, place, spare) {
+  if (beside.number !== film.number || place.width * place.height < SHARED_PIXELS || place.rows < 2) {
+    return picture(film, s, place, spare);
+  }
+  const [upper, lower] = halvesOf(place);
+  const maps = mapsOf(film, s);
+  const other = askBeside({kind: 'part', settings: s, record: film.record, maps, place: lower}, [maps]);
+  const own = picture(film, s, {...upper, scannedIsThere: true});
+  const scanned = place.scannedIsThere ? null : scanCells(film, place, spare.scanned);
+  const rest = await other;
+  if (own.refusal) return own;
+  if (!rest.cells) return picture(film, s, place, spare);
+  const rendered = new Uint16Array(place.columns * place.rows);
+  rendered.set(new Uint16Array(own.rendered));
+  rendered.set(new Uint16Array(rest.cells), upper.columns * upper.rows);
+  return {scanned, rendered: rendered.buffer};
+}
+
+// ---- the second worker's side ----
+
+function copyHeld(module, {number, width, height, pixels}) {
+  const film = {number, width, height, library: makeLibrary(module, makeLedger(Infinity))};
+  film.map = film.library.room.lend(2 * MOST_ENTRIES);
+  film.picture = film.library.room.lend(2 * width * height);
+  film.library.room.u16(film.picture, width * height).set(new Uint16Array(pixels));
+  return film;
+}
+
+function partOf(film, {settings, record, maps, place}) {
+  if (!film) return {};
+  film.library.room.u16(film.map, maps.byteLength / 2).set(new Uint16Array(maps));
+  const drawn = picture({...film, record}, settings, {...place, scannedIsThere: true});
+  return {cells: drawn.rendered};
+}
+
+// Answers the first worker for as long as the page is open. The library is compiled here once more: a page from the disk may hand
+// no module from one worker to another.
+export async function help({port, wasm}) {
+  const module = await WebAssembly.compile(wasm);
+  let film = null;
+  const ways = {
+    drop: () => { film = null; return {}; },
+    hold: message => { film = copyHeld(module, message); return {}; },
+    part: message => partOf(film, message),
+  };
+  port.onmessage = ({data}) => {
+    let answer;
+    try {
+      answer = ways[data.kind](data);
+    } catch (fault) {
+      answer = {fault: fault.message};
+    }
+    port.postMessage({...answer, id: data.id}, answer.cells ? [answer.cells] : []);
+  };
+}
