@@ -37,6 +37,18 @@ function turnedOver(module, path) {
   return 'counted once, rendered by ours, 1986 and ours';
 }
 
+/** A plain film through the page's modules: the film that is saved is the raw one's. */
+function plainFilm(module, path) {
+  const opened = bytes => openFilm(module, makeLedger(Infinity), 7, { name: 'weld.pgm', cut: false, bytes: new Uint8Array(bytes) }).film;
+  const raw = opened(readFileSync(path)), greys = raw.library.room.u16(raw.picture, raw.width * raw.height);
+  const text = Buffer.from(`P2 ${raw.width}\t${raw.height}\r\n${raw.maxval}\n${[...greys].join(' ')}`), plain = opened(text), { s } = TRIALS[0];
+  const [a, b] = [raw, plain].map(film => Buffer.from(saveFilm(film, s).bytes));
+  if (!a.equals(b)) throw new Error('another rendering than the raw film has');
+  const record = JSON.parse(saveRecord(plain, s, '0').text);
+  if (record.input.bytes !== text.length || record.output.bytes !== a.length) throw new Error('the record names other bytes');
+  return `${text.length} bytes of text, ${b.length} saved`;
+}
+
 const random = (() => {
   let state = 20261116;
   return most => { state = (state * 1103515245 + 12345) % 2147483648; return state / 2147483648 * most; };
@@ -102,6 +114,7 @@ export function modules(wasm, room, trial) {
   const module = new WebAssembly.Module(wasm);
   for (const each of TRIALS)
     trial(`the page's modules: film and record ${each.words.join(' ') || 'as README renders it'}`, () => saved(module, 'docs/weld.pgm', room, each));
+  trial('the page\'s modules: a plain film', () => plainFilm(module, 'docs/weld.pgm'));
   trial('the page\'s modules: a change of edition', () => turnedOver(module, 'docs/weld.pgm'));
   trial('the page\'s modules: means of windows', () => means(module, 'docs/weld.pgm'));
   trial('the page\'s modules: from pixels to dots and back', places);

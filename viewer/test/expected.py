@@ -34,6 +34,11 @@ class Film:
             return head + bytes(self.greys)
         return head + struct.pack(">%dH" % len(self.greys), *self.greys)
 
+    def plain(self, end=b"\n"):
+        """The film as a plain PGM file, a sample a line."""
+        head = b"P2" + end + b"%d %d" % (self.width, self.height) + end + b"%d" % self.maxval + end
+        return head + b"".join(b"%d" % grey + end for grey in self.greys)
+
     def usual(self, factor=3.0):
         """The settings that a film starts with: 8 by 8 tiles, or as many as it has pixels, and the bins that hold the factor."""
         across, down = min(8, self.width), min(8, self.height)

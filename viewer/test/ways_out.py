@@ -117,6 +117,27 @@ def save_shallow(person, films):
     return "%r and %d letters" % (odd.name, len(long.name))
 
 
+def save_plain(person, films):
+    """Films that came as plain PGM, with the shortest samples too, are seen and saved as station/render writes them, raw, and the
+    record is of the plain file."""
+    film = films.sample
+    dark = expected.Film("dark.pgm", 64, 48, 9, [(x * 7 + x // 64) % 10 for x in range(64 * 48)])
+    for each, end in ((film, b"\n"), (film, b" \r\n"), (dark, b" ")):
+        data = each.plain(end)
+        person.arrive()
+        number, = person.open(person.file(each.name, data))
+        person.click("zoom-1-1")
+        person.settled()
+        asked = set_now(person)
+        person.sees(each, asked)
+        base = expected.saved_name(each, number, asked, data)
+        pgm, record = rendered_by_the_station(person, each.name, [], base)
+        hold(pgm.startswith(b"P5"), "station/render writes another form")
+        hold(person.saved_file(base + ".pgm", "save-pgm") == pgm, "not station/render's film")
+        same("the record", person.saved_file(base + ".json", "save-record").decode(), record.decode())
+    return "%d and %d bytes of text" % (len(film.plain()), len(dark.plain(b" ")))
+
+
 HOOK_TEXT = """
 window.drawn = [];
 const fillText = CanvasRenderingContext2D.prototype.fillText;
@@ -298,5 +319,5 @@ def what_is_proved(person, films):
     return "panel, foot and keys"
 
 
-WAYS = [save_film_and_record, two_films_of_one_name, save_shallow, save_view, save_part_of_view, save_view_of_two, too_deep_to_save,
+WAYS = [save_film_and_record, two_films_of_one_name, save_shallow, save_plain, save_view, save_part_of_view, save_view_of_two, too_deep_to_save,
         what_is_proved]
