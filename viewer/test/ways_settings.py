@@ -139,7 +139,7 @@ window.Blob = class extends Blob {
   constructor(texts, words) {
     super(texts.map(text => typeof text !== 'string' ? text : text
       .replace('return exports.tz_count(', 'self.counted = (self.counted || 0) + 1; return exports.tz_count(')
-      .replace('answer.id = event.data.id;', 'answer.id = event.data.id; answer.counted = self.counted || 0;')), words);
+      .replace('answer.id = message.id;', 'answer.id = message.id; answer.counted = self.counted || 0;')), words);
   }
 };
 window.Worker = class extends Worker {
