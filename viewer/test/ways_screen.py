@@ -150,6 +150,7 @@ def turned(person, films):
     person.script("document.getElementById('stage').focus()")
     for zoom in ("1-4", "2-1"):
         person.click("zoom-" + zoom)
+        person.settled()
         for mirrored in (False, True):
             for quarters in range(4):
                 edge = person.sees(film, film.usual(), zoom, turn=(mirrored, quarters))
