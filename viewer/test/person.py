@@ -2,6 +2,7 @@
 the browser's own input; what is seen is read off the canvases and the texts."""
 
 import base64
+import json
 import os
 import shutil
 import time
@@ -136,6 +137,24 @@ class Person:
         before = {entry["number"] for entry in self.entries()}
         self.element("open-input").send_keys("\n".join(paths))
         return self.opened(before, len(paths))
+
+    def open_by_key(self, key, *paths):
+        """Presses a key that opens the browser's own dialog, and chooses files in it; gives the numbers that they got."""
+        before = {entry["number"] for entry in self.entries()}
+        self.tell("Page.setInterceptFileChooserDialog", enabled=True)
+        self.keys(key)
+        node = self.until("the browser's dialog for files", self.dialog, 20)
+        self.tell("DOM.setFileInputFiles", files=list(paths), backendNodeId=node)
+        self.tell("Page.setInterceptFileChooserDialog", enabled=False)
+        return self.opened(before, len(paths))
+
+    def dialog(self):
+        """The input for which a dialog was opened, by the browser's own word, or None."""
+        for entry in self.driver.get_log("performance"):
+            word = json.loads(entry["message"])["message"]
+            if word["method"] == "Page.fileChooserOpened":
+                return word["params"]["backendNodeId"]
+        return None
 
     def opened(self, before, count):
         """Waits for new films, and gives their numbers."""

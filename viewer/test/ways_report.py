@@ -349,14 +349,13 @@ return {text: document.getElementById('report-sheet').innerText, others: seen.fi
 
 
 def by_keyboard_alone(person, films):
-    """From opening a film to a printed report without a pointer: o, line, region, marks, p and Enter."""
+    """From opening a film to a printed report without a pointer: o and the browser's own dialog, the edition, the pitch, a line, a
+    region and a mark, p and Enter."""
     film = films.sample
-    person.script("window.printed = 0; window.print = () => { window.printed++; };"
-                  "const input = document.getElementById('open-input'); window.asked = 0; input.click = () => { window.asked++; };")
-    person.keys("o")
-    same("films asked for", person.script("return window.asked"), 1)
-    person.show(film)
-    person.script("document.activeElement.blur()")
+    person.script("window.printed = 0; window.print = () => { window.printed++; };")
+    person.open_by_key("o", person.file(film.name, film.file()))
+    person.keys("e", "u", *"50", Keys.ENTER, Keys.ESCAPE)
+    same("the pitch", person.value("pitch"), "50")
     place(person, "l", 33, 5)
     place(person, "g", 12, 12)
     mark(person, 14, 9, "100", "a crack along the bead")
@@ -370,7 +369,7 @@ def by_keyboard_alone(person, films):
     pdf = base64.b64decode(person.tell("Page.printToPDF", printBackground=True)["data"])
     person.tell("Emulation.setEmulatedMedia", media="")
     for words in (film.name, expected.digest_of(film), "100 crack", "a crack along the bead", "not read off the rendered picture",
-                  "scanned greys", "as scanned", "rendered", "L 9"):
+                  "scanned greys", "as scanned", "rendered", "L 9", "1986", "50 µm", "mm"):
         hold(words in seen["text"], "the printed page does not say:", words)
     hold(seen["others"] in ([], ["HTML"]), "printed beside the report:", seen["others"][:5])
     hold(pdf.startswith(b"%PDF") and len(pdf) > 8000, "no PDF:", len(pdf))
