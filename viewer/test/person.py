@@ -143,7 +143,7 @@ class Person:
         before = {entry["number"] for entry in self.entries()}
         self.tell("Page.setInterceptFileChooserDialog", enabled=True)
         self.keys(key)
-        node = self.until("the browser's dialog for files", self.dialog, 20)
+        node = self.until("the browser's dialog for files", self.dialog)
         self.tell("DOM.setFileInputFiles", files=list(paths), backendNodeId=node)
         self.tell("Page.setInterceptFileChooserDialog", enabled=False)
         return self.opened(before, len(paths))

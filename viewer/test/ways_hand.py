@@ -100,7 +100,7 @@ def one_pixel(person, films):
     edge = person.sees(film, film.usual(), "1-4")
     left, top, _, _ = person.box("canvas-scanned")
     person.mouse("mouseMoved", left + edge[0] + 70, top + edge[1] + 41)
-    person.until("a reading", lambda: (person.text("at-column"), person.text("at-row")) == ("280", "164"), 10)
+    person.until("a reading", lambda: (person.text("at-column"), person.text("at-row")) == ("280", "164"))
     person.settled()
     means = [expected.cells(film, greys, "1-4")[2][41 * 128 + 70] for greys in (film.greys, film.rendered(film.usual()))]
     same("beneath the reading", person.text("at-dot"),
@@ -186,7 +186,7 @@ def folder(person, films):
     words["data"]["files"] = [empty]
     for kind in ("dragEnter", "dragOver", "drop"):
         person.tell("Input.dispatchDragEvent", type=kind, **words)
-    person.until("a message", lambda: "no film" in person.text("message"), 10)
+    person.until("a message", lambda: "no film" in person.text("message"))
     return ", ".join(names)
 
 

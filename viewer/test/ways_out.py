@@ -298,7 +298,7 @@ def too_deep_to_save(person, films):
     person.show(film)
     person.type("max", "4095")
     person.click("save-pgm")
-    person.until("a message", lambda: expected.sentences()[26] in person.text("message"), 10)
+    person.until("a message", lambda: expected.sentences()[26] in person.text("message"))
     hold(not person.canvas("rendered").blank(), "the picture is gone")
     return "refusal 26 in the foot"
 

@@ -41,7 +41,7 @@ def point_at(person, edge, x, y, size=4):
     dot = edge[0] + size * x + 1, edge[1] + size * y + 1
     hold(0 <= dot[0] < width and 0 <= dot[1] < height, "the pixel %d, %d is not on the pane" % (x, y))
     person.mouse("mouseMoved", left + dot[0], top + dot[1])
-    person.until("a reading of %d, %d" % (x, y), lambda: (person.text("at-column"), person.text("at-row")) == (str(x), str(y)), 60)
+    person.until("a reading of %d, %d" % (x, y), lambda: (person.text("at-column"), person.text("at-row")) == (str(x), str(y)))
     person.settled()
 
 

@@ -117,6 +117,8 @@ def record_held(film, asked, value, output):
     limit, factor, used = expected.footer_of(film, asked)
     size = {"width": film.width, "height": film.height, "maxval": film.maxval}
     data = film.file()
+    with open(os.path.join(expected.TOP, "VERSION"), encoding="utf-8") as file:
+        same("made by", [value["program"], value["version"]], ["tzofnadir", file.read().strip()])
     same("input", value["input"], {"file": film.name, "sha256": hashlib.sha256(data).hexdigest(), "bytes": len(data), **size})
     same("output", value["output"], {"file": output["name"], "sha256": hashlib.sha256(output["data"]).hexdigest(),
                                      "bytes": len(output["data"]), **size})

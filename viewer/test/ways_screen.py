@@ -173,7 +173,7 @@ def read_turned(person, film, edge, mirrored, quarters):
     at = greys[y * columns + x]
     wanted = (str(at % film.width), str(at // film.width), str(film.greys[at]))
     person.until("the reading %s" % (wanted,),
-                 lambda: tuple(person.text("at-" + name) for name in ("column", "row", "scanned")) == wanted, 10)
+                 lambda: tuple(person.text("at-" + name) for name in ("column", "row", "scanned")) == wanted)
     person.settled()
 
 
@@ -195,7 +195,7 @@ def magnifier(person, films):
     left, top, _, _ = person.box("canvas-scanned")
     for x, y in ((211, 190), (2, 3)):
         person.mouse("mouseMoved", left + edge[0] + x, top + edge[1] + y)
-        person.until("a reading", lambda: (person.text("at-column"), person.text("at-row")) == (str(x), str(y)), 10)
+        person.until("a reading", lambda: (person.text("at-column"), person.text("at-row")) == (str(x), str(y)))
         person.settled()
         held_lens(person, film, x, y)
     person.click("lens")
@@ -282,10 +282,11 @@ def read_of_two(person, films):
         person.mouse("mouseMoved", left + edge[0] + 211, top + edge[1] + 190)
         wanted = ("film %d" % number, "211", "190", str(film.greys[190 * 512 + 211]), str(film.grey_at(211, 190, asked)))
         person.until("the reading %s" % (wanted,), lambda: tuple(person.text(name) for name in (
-            "pointer-film", "at-column", "at-row", "at-scanned", "at-rendered")) == wanted, 10)
+            "pointer-film", "at-column", "at-row", "at-scanned", "at-rendered")) == wanted)
         person.settled()
-        outlined = person.script("return [...document.querySelectorAll('.tile-mark')].map(each => each.style.display !== 'none')")
-        same("where the tile is outlined", outlined, [number == first, number == second])
+        outlined = person.script("return [...document.querySelectorAll('.glass')].map(glass => "
+                                 "[...glass.querySelectorAll('.tile-mark')].filter(each => each.style.display === 'block').length)")
+        same("tiles that are outlined", outlined, [int(number == first), int(number == second)])
         for lens, (own, own_asked) in zip(person.script(READ_LENS), sides):
             lens_held(lens, own, own.rendered(own_asked), 211, 190)
     person.keys("m")

@@ -338,7 +338,7 @@ def read_one(person, film, asked, zoom, edge, i):
     person.mouse("mouseMoved", left + x, top + y)
     column, row = (x - edge[0]) // dots * block, (y - edge[1]) // dots * block
     number, tile = film.tile_at(column, row, asked)
-    person.until("a reading of column %d" % column, lambda: person.text("at-column") == str(column), 5)
+    person.until("a reading of column %d" % column, lambda: person.text("at-column") == str(column))
     person.settled()
     seen = [person.text("at-" + name) for name in ("column", "row", "scanned", "rendered", "tile", "rectangle")]
     same("at dot %d, %d of %s at %s" % (x, y, which, zoom), seen, [
@@ -370,7 +370,7 @@ def plot_three(person, film):
     left, top, _, _ = person.box("canvas-scanned")
     for x, y in ((3, 5), (film.width * 3 // 5, film.height // 4), (film.width - 1, film.height - 1)):
         person.mouse("mouseMoved", left + edge[0] + x, top + edge[1] + y)
-        person.until("a reading", lambda: (person.text("at-column"), person.text("at-row")) == (str(x), str(y)), 5)
+        person.until("a reading", lambda: (person.text("at-column"), person.text("at-row")) == (str(x), str(y)))
         person.settled()
         plot = film.plot(x, y, asked)
         same("the plot of the tile at %d, %d" % (x, y), person.script(PLOTTED), plot)
