@@ -79,15 +79,18 @@ def axis_for(side, grid):
     return clahe.axis_of(side, grid) if 2 <= grid <= 16 else None
 
 
+def refusal_of_number(count, sets, number, buffer):
+    """40, then "38, draw or drop of a number that isn't stored", else 0."""
+    return refusal_of_room(count, sets, buffer) or (38 if place_of(sets, number) is None else 0)
+
+
 def draw(count, sets, number, width, height, picture, settings, window, buffer, output):
     """A film drawn "as if it alone had been prepared".  Answers 0 or the refusal: 40 and 38 first, and "a room draw gives
     no 11"."""
-    refusal = refusal_of_room(count, sets, buffer)
+    refusal = refusal_of_number(count, sets, number, buffer)
     if refusal:
         return refusal
     place = place_of(sets, number)
-    if place is None:
-        return 38
     entry = sets[place]
     start = start_of(sets, place)
     part = buffer[start:start + size_of(entry)]
@@ -103,13 +106,10 @@ def draw(count, sets, number, width, height, picture, settings, window, buffer, 
 def drop(count, sets, number, buffer):
     """A film dropped: "the later sets move down, so that all free room is at the end"; "entries behind the last set after
     a drop keep what they held".  Answers the refusal, or the sets that are left."""
-    refusal = refusal_of_room(count, sets, buffer)
+    refusal = refusal_of_number(count, sets, number, buffer)
     if refusal:
         return refusal
-    # "38, draw or drop of a number that isn't stored"
     place = place_of(sets, number)
-    if place is None:
-        return 38
     start, behind, end = start_of(sets, place), start_of(sets, place + 1), start_of(sets, len(sets))
     later = buffer[behind:end]
     buffer[start:start + len(later)] = later
