@@ -118,6 +118,16 @@ own-record film w h s c =
 
 -- ---- the settings, with bins 0 kept as 128
 
+-- the settings' rows read the bins so
+pub settings-kept : (s kept : Settings) → keptRows (keptOf s) kept ≡ keptRows s kept
+unfolding keptRows
+settings-kept s kept = rw (bins-kept s) refl
+
+-- and the edition's row does not look at them
+pub edition-kept : (s kept : Settings) → editionRows (keptOf s) kept ≡ editionRows s kept
+unfolding editionRows
+edition-kept s kept = refl
+
 -- 15 reads the bins so on both sides
 pub record-kept : (film w h : ℕ) (s : Settings) (r : MapRecord) → recordRows film w h (keptOf s) r ≡ recordRows film w h s r
 unfolding recordRows keptRows editionRows axisRows

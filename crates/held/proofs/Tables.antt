@@ -1,7 +1,7 @@
 -- The tables of 15, 16 and 17: their numbers, and what they tell where none of their rows applies.
 -- Assumes nothing.
 use Prim.Native.Nat.{ℕ, _+_, _*_, _≤_, _<_}
-use mathlib.Core.Bool.{false}
+use mathlib.Core.Bool.{true, false}
 use mathlib.Core.List.{[], _∷_, _++_}
 use mathlib.Core.Path.{_≡_, refl}
 use lib.Dec.{eqb}
@@ -15,6 +15,7 @@ use Rattle.grid.proofs.Axes.{same-axis-is}
 use Rattle.settings.specs.declared.Settings.{Settings}
 use Rattle.settings.specs.declared.MapRecord.{MapRecord}
 use Rattle.settings.specs.declared.Window.{Window}
+use Rattle.settings.specs.Settings.{binsOf, sameClip}
 use Rattle.settings.proofs.Editions.{same-edition-is}
 use Rattle.held.specs.Held.{filmRows, keptRows, editionRows, axisRows, recordRows, windowRows, Held}
 
@@ -75,28 +76,46 @@ window-numbered w h win room = rw (window-numbers w h win room) refl
 
 -- ---- what the tables tell
 
+-- none of the settings' rows: they are those that were kept
+pub kept-held : (s kept : Settings) → first (keptRows s kept) ≡ 0
+    → (s .across ≡ kept .across) × (s .down ≡ kept .down) × (binsOf s ≡ binsOf kept) × (s .min ≡ kept .min) × (s .max ≡ kept .max) × (sameClip (s .clip) (kept .clip) ≡ true)
+unfolding keptRows
+kept-held s kept e =
+    let k = first-none (keptRows s kept) (kept-numbered s kept) e in (
+      eqb-true _ _ (not-false _ (k .0)),
+      eqb-true _ _ (not-false _ (k .1 .0)),
+      eqb-true _ _ (not-false _ (k .1 .1 .0)),
+      eqb-true _ _ (not-false _ (k .1 .1 .1 .0)),
+      eqb-true _ _ (not-false _ (k .1 .1 .1 .1 .0)),
+      not-false _ (k .1 .1 .1 .1 .1 .0),
+    )
+
+-- nor the edition's: it is the one that was kept
+pub edition-held : (s kept : Settings) → first (editionRows s kept) ≡ 0 → s .edition ≡ kept .edition
+unfolding editionRows
+edition-held s kept e = same-edition-is _ _ (not-false _ (first-none (editionRows s kept) (edition-numbered s kept) e .0))
+
 -- none of the rows of 15: the record is this film's, with its edges and centres
 pub record-held : (film w h : ℕ) (s : Settings) (r : MapRecord) → first (recordRows film w h s r) ≡ 0 → Held film w h s r
-unfolding recordRows filmRows keptRows editionRows axisRows
+unfolding recordRows filmRows axisRows
 record-held film w h s r e =
     let both = first-both (filmRows film w h r) (keptRows s (r .settings) ++ (editionRows s (r .settings) ++ axisRows w h s r)) (film-numbered film w h r) e in
     let rest = first-both (keptRows s (r .settings)) (editionRows s (r .settings) ++ axisRows w h s r) (kept-numbered s (r .settings)) (both .1) in
     let last = first-both (editionRows s (r .settings)) (axisRows w h s r) (edition-numbered s (r .settings)) (rest .1) in
     let n = first-none (filmRows film w h r) (film-numbered film w h r) (both .0) in
-    let k = first-none (keptRows s (r .settings)) (kept-numbered s (r .settings)) (rest .0) in
-    let o = first-none (editionRows s (r .settings)) (edition-numbered s (r .settings)) (last .0) in
+    let k = kept-held s (r .settings) (rest .0) in
     let a = first-none (axisRows w h s r) (axis-numbered w h s r) (last .1) in
     record {
       number = eqb-true _ _ (not-false _ (n .0));
       wide = eqb-true _ _ (not-false _ (n .1 .0));
       high = eqb-true _ _ (not-false _ (n .1 .1 .0));
-      across = eqb-true _ _ (not-false _ (k .0));
-      down = eqb-true _ _ (not-false _ (k .1 .0));
-      bins = eqb-true _ _ (not-false _ (k .1 .1 .0));
-      least = eqb-true _ _ (not-false _ (k .1 .1 .1 .0));
-      most = eqb-true _ _ (not-false _ (k .1 .1 .1 .1 .0));
-      clip = not-false _ (k .1 .1 .1 .1 .1 .0);
-      edition = same-edition-is _ _ (not-false _ (o .0));
+      across = k .0;
+      down = k .1;
+      bins = k .2;
+      least = k .3;
+      most = k .4;
+      clip = k .5;
+      edition = edition-held s (r .settings) (last .0);
       columns = same-axis-is _ _ (not-false _ (a .0));
       rows = same-axis-is _ _ (not-false _ (a .1 .0));
     }

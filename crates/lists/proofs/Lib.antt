@@ -13,3 +13,4 @@ pub mod Inverses
 pub mod Steps
 pub mod Puts
 pub mod Sames
+pub mod Parts

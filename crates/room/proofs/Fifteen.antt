@@ -10,12 +10,10 @@ use Rattle.lists.specs.Lists.{all}
 use Rattle.refuse.specs.Refuse.{Row, row, first, numbersOf, Numbered}
 use Rattle.refuse.proofs.Walk.{front, behind, first-none, first-both, numbers-append}
 use Rattle.settings.specs.declared.Settings.{Settings}
-use Rattle.settings.specs.Settings.{binsOf, entriesOf, keptOf, sameClip, clipBad}
-use Rattle.settings.proofs.Editions.{same-edition-is}
-use Rattle.settings.proofs.Like.{bins-kept}
+use Rattle.settings.specs.Settings.{binsOf, entriesOf, keptOf, clipBad}
 use Rattle.held.specs.Held.{keptRows, editionRows}
-use Rattle.held.proofs.Tables.{kept-numbers, edition-numbers, kept-numbered, edition-numbered}
-use Rattle.held.proofs.Laws.{own-settings, own-edition}
+use Rattle.held.proofs.Tables.{kept-numbers, edition-numbers, kept-numbered, edition-numbered, kept-held, edition-held}
+use Rattle.held.proofs.Laws.{own-settings, own-edition, settings-kept, edition-kept}
 use Rattle.sets.specs.declared.Set.{Set}
 use Rattle.sets.specs.Sets.{setFor}
 use Rattle.room.specs.Room.{setRows, SetHeld}
@@ -38,25 +36,6 @@ set-numbered w h s r = rw (set-numbers w h s r) refl
 -- the two rows of the sizes
 abbrev sizesRows : ℕ → ℕ → Set → List Row
 sizesRows w h r = row 15 (not (eqb w (r .width))) ∷ row 15 (not (eqb h (r .height))) ∷ []
-
--- none of the settings' rows: they are those that were kept
-pub kept-held : (s kept : Settings) → first (keptRows s kept) ≡ 0
-    → (s .across ≡ kept .across) × (s .down ≡ kept .down) × (binsOf s ≡ binsOf kept) × (s .min ≡ kept .min) × (s .max ≡ kept .max) × (sameClip (s .clip) (kept .clip) ≡ true)
-unfolding keptRows
-kept-held s kept e =
-    let k = first-none (keptRows s kept) (kept-numbered s kept) e in (
-      eqb-true _ _ (not-false _ (k .0)),
-      eqb-true _ _ (not-false _ (k .1 .0)),
-      eqb-true _ _ (not-false _ (k .1 .1 .0)),
-      eqb-true _ _ (not-false _ (k .1 .1 .1 .0)),
-      eqb-true _ _ (not-false _ (k .1 .1 .1 .1 .0)),
-      not-false _ (k .1 .1 .1 .1 .1 .0),
-    )
-
--- nor the edition's: it is the one that was kept
-pub edition-held : (s kept : Settings) → first (editionRows s kept) ≡ 0 → s .edition ≡ kept .edition
-unfolding editionRows
-edition-held s kept e = same-edition-is _ _ (not-false _ (first-none (editionRows s kept) (edition-numbered s kept) e .0))
 
 -- none applies: the set was made for this size and these settings
 pub set-held : (w h : ℕ) (s : Settings) (r : Set) → first (setRows w h s r) ≡ 0 → SetHeld w h s r
@@ -115,16 +94,7 @@ module _ (w h : ℕ) (s : Settings) (r : Set) where
 
 -- ---- "Bins B: 2 to 4096. 0 means 128."
 
--- the settings' rows read the bins so
-kept-kept : (s kept : Settings) → keptRows (keptOf s) kept ≡ keptRows s kept
-unfolding keptRows
-kept-kept s kept = rw (bins-kept s) refl
-
--- and the edition's row does not look at them
-edition-kept : (s kept : Settings) → editionRows (keptOf s) kept ≡ editionRows s kept
-unfolding editionRows
-edition-kept s kept = refl
-
+-- the rows of 15 read the bins so
 pub set-bins : (w h : ℕ) (s : Settings) (r : Set) → setRows w h (keptOf s) r ≡ setRows w h s r
 unfolding setRows
-set-bins w h s r = rw (kept-kept s (r .settings), edition-kept s (r .settings)) refl
+set-bins w h s r = rw (settings-kept s (r .settings), edition-kept s (r .settings)) refl

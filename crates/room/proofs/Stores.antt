@@ -8,9 +8,9 @@ use mathlib.Core.Path.{_≡_, refl, sym, ap, _∙_}
 use native.Mathlib.Omega.{arith}
 use lib.Dec.{ltb, eqb}
 use lib.ListN.{length, take, drop, length-drop, take-append-drop}
-use borrow.Author.Tests.{lt-ltb, le-ltb, eq-eqb, ne-eqb, eqb-false}
+use borrow.Author.Tests.{lt-ltb, le-ltb, ltb-false, eq-eqb, ne-eqb, eqb-false}
 use Rattle.lists.specs.Lists.{all}
-use Rattle.refuse.specs.Refuse.{first, unless, numbersOf, Numbered}
+use Rattle.refuse.specs.Refuse.{Row, first, unless, numbersOf, Numbered}
 use Rattle.refuse.proofs.Walk.{front, behind, first-both, first-none, each-append, unless-refused}
 use Rattle.settings.specs.declared.Settings.{Settings}
 use Rattle.settings.specs.declared.Footer.{Footer}
@@ -23,7 +23,7 @@ use Rattle.sets.specs.declared.Room.{Room}
 use Rattle.sets.specs.Sets.{setFor, held, spanOf, among, before, fitRows, withSet}
 use Rattle.room.specs.declared.Stored.{Stored}
 use Rattle.room.specs.declared.Stored.the-variants as Stored
-use Rattle.room.specs.Room.{placeRows, enterRows, storeRows, Keeps, keeping, storedOf, storeOf}
+use Rattle.room.specs.Room.{placeRows, enterRows, storeRows, Keeps, keeping, storedOf, storeOf, instead}
 use Rattle.sets.proofs.Tables.{fit-numbered, fit-few, fit-forty}
 use Rattle.room.proofs.Drops.{there}
 use Rattle.room.proofs.Instead.{first-instead, none-instead}
@@ -85,6 +85,22 @@ unfolding storeRows
 storing room film w h pic s size scratch list e =
     let a = first-both (enterRows room film size) _ (enter-numbered room film size) e in
     record { enters = entering room film size refl (a .0); own = none-instead 11 37 _ refl refl (a .1) }
+
+-- and a store that nothing speaks against is done
+pub store-free : (room : Room) (film w h : ℕ) (pic : List ℕ) (s : Settings) (size scratch list : ℕ) → first (fitRows room size) ≡ 0 → among film (held room) ≡ false → room .count < 8
+    → first (prepareRows w h pic s (size - spanOf (held room)) scratch list) ≡ 0 → first (storeRows room film w h pic s size scratch list) ≡ 0
+unfolding storeRows
+store-free room film w h pic s size scratch list fits new few good =
+    sym (behind (enterRows room film size) (instead 11 37 rows) (enter-numbered room film size) entered refl (sym (first-instead 11 37 rows refl ∙ ap (λ n. cond (eqb n 11) 37 n) good)))
+  where
+    rows : List Row
+    rows = prepareRows w h pic s (size - spanOf (held room)) scratch list
+
+    none : room .count ≤ before film (held room)
+    none = ltb-false (before film (held room)) (room .count) (sym (there room film) ∙ new)
+
+    entered : 0 ≡ first (enterRows room film size)
+    entered = enter-well room film size (sym fits) refl refl none (λ q. omega (arith, q, few))
 
 -- ---- the endings
 

@@ -10,7 +10,7 @@ use native.Mathlib.Omega.{arith}
 use lib.ListN.{length, take, drop, getD, length-map, length-drop}
 use lib.Seq.{take-take, length-take-le}
 use Rattle.lists.proofs.Fills.{take-onto}
-use Rattle.sets.proofs.Parts.{take-map, getD-map}
+use Rattle.lists.proofs.Parts.{take-map, getD-map}
 use Rattle.refuse.specs.Refuse.{first, accepted}
 use Rattle.settings.specs.declared.Settings.{Settings}
 use Rattle.settings.specs.declared.Window.{Window}

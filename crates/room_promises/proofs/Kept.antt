@@ -13,7 +13,7 @@ use lib.Seq.{length-take-le, take-at, drop-at}
 use Rattle.lists.specs.Lists.{onto, over}
 use Rattle.lists.proofs.Tabs.{length-tab, map-append}
 use Rattle.lists.proofs.Fills.{take-onto, length-onto}
-use Rattle.sets.proofs.Parts.{take-map}
+use Rattle.lists.proofs.Parts.{take-map}
 use Rattle.refuse.specs.Refuse.{first}
 use Rattle.settings.specs.Settings.{binsOf, entriesOf, clipOne}
 use Rattle.settings.proofs.Like.{bins-kept}

@@ -1,20 +1,16 @@
 -- Document 02, order 11: "A set takes tiles times bins entries, at factor 1.0 too", and "all free room is at the end and is used again".
 -- Of every run of the calls by their contracts (Runs); a name with ′ is lent memory, or the room record, at the end.
 -- Assumes nothing.
-use Prim.Native.Nat.{ℕ, zero, suc, _+_, _-_, _*_, _≤_, _<_}
+use Prim.Native.Nat.{ℕ, _+_, _-_, _*_, _<_}
 use mathlib.Core.Bool.{true, false, cond}
-use mathlib.Core.List.{List, [], _∷_, _++_, map}
+use mathlib.Core.List.{List, _++_, map}
 use mathlib.Core.Path.{_≡_, refl, sym, ap, _∙_}
-use native.Mathlib.Nat.{not-suc-le-zero, le-of-suc-le-suc}
 use native.Mathlib.Omega.{arith}
-use lib.Dec.{eqb}
-use lib.ListN.{length, take, drop, getD, length-map, take-append-drop}
+use lib.ListN.{length, take, drop, length-map, take-append-drop}
 use lib.Seq.{drop-at, length-take-le}
-use borrow.Author.Tests.{ltb-false}
 use Rattle.lists.specs.Lists.{onto}
 use Rattle.lists.proofs.Fills.{take-onto}
-use Rattle.refuse.specs.Refuse.{Row, first, accepted, says}
-use Rattle.refuse.proofs.Walk.{behind}
+use Rattle.refuse.specs.Refuse.{first, accepted, says}
 use Rattle.settings.specs.declared.Settings.{Settings}
 use Rattle.settings.specs.declared.Footer.{Footer}
 use Rattle.settings.specs.Settings.{entriesOf, clipOne}
@@ -24,13 +20,13 @@ use Rattle.tiles.proofs.Films.{length-mappings}
 use Rattle.prepare.specs.Prepare.{prepareRows, preparedOf}
 use Rattle.sets.specs.declared.Set.{Set}
 use Rattle.sets.specs.declared.Room.{Room}
-use Rattle.sets.specs.Sets.{noSet, setFor, held, sizeOf, spanOf, among, before, setOf, fitRows}
+use Rattle.sets.specs.Sets.{setFor, held, sizeOf, spanOf, among, before, setOf}
 use Rattle.sets.proofs.Laid.{less}
-use Rattle.sets.proofs.Holds.{length-held, held-more, held-less}
-use Rattle.room.specs.Room.{enterRows, storeRows, storedSays, Keeps, storedOf, storeOf, droppedSays, Leaves, instead}
-use Rattle.room.proofs.Instead.{first-instead}
-use Rattle.room.proofs.Drops.{there, dropping}
-use Rattle.room.proofs.Stores.{enter-numbered, enter-well, Entering, storing}
+use Rattle.sets.proofs.Finds.{span-append}
+use Rattle.sets.proofs.Holds.{length-held, held-more, held-less, span-less}
+use Rattle.room.specs.Room.{storeRows, storedSays, Keeps, storedOf, storeOf, droppedSays, Leaves}
+use Rattle.room.proofs.Drops.{dropping}
+use Rattle.room.proofs.Stores.{Entering, storing, store-free}
 use Rattle.promises.proofs.Accepted.{table-accepted, table-done}
 use Rattle.room_promises.specs.Films.{Film, filmSet}
 use Rattle.room_promises.proofs.Runs.{StoreCall, Stores, store-ends, DropCall, Drops, drop-ends}
@@ -40,12 +36,6 @@ use Rattle.room_promises.proofs.Alone.{room-never-40}
 use Rattle.room_promises.proofs.Outcomes.{store-table, drop-table, store-says, store-leaves, drop-leaves}
 
 -- ---- a store, of any record
-
--- one set more
-span-more : (rs : List Set) (r : Set) → spanOf (rs ++ (r ∷ [])) ≡ spanOf rs + sizeOf r
-unfolding spanOf
-span-more [] r = omega arith
-span-more (s ∷ rs) r = omega (arith, span-more rs r)
 
 -- a store that is done
 module _ {c : StoreCall} {foot : Footer} (ran : Stores c) (done : storedSays (c .answer) ≡ accepted foot) where
@@ -74,7 +64,7 @@ module _ {c : StoreCall} {foot : Footer} (ran : Stores c) (done : storedSays (c 
   store-takes eight =
       ap (λ (r : Room). spanOf (held r)) (store-leaves ran done .0)
       ∙ ap spanOf (held-more (c .room) (setFor (c .film) (c .width) (c .height) (c .settings)) (omega (arith, enters .few, eight)))
-      ∙ span-more (held (c .room)) (setFor (c .film) (c .width) (c .height) (c .settings))
+      ∙ span-append (held (c .room)) (setFor (c .film) (c .width) (c .height) (c .settings))
       ∙ ap (λ b. a + c .settings .across * c .settings .down * b) (bins-kept (c .settings))
 
   -- "at factor 1.0 too": they are taken and not written
@@ -90,13 +80,6 @@ module _ {c : StoreCall} {foot : Footer} (ran : Stores c) (done : storedSays (c 
 
 -- ---- a drop, of any record
 
--- one set less
-span-less : (rs : List Set) (i : ℕ) → i < length rs → spanOf (less i rs) + sizeOf (getD rs i noSet) ≡ spanOf rs
-unfolding spanOf less
-span-less [] i l = absurd (not-suc-le-zero l)
-span-less (r ∷ rs) zero l = omega arith
-span-less (r ∷ rs) (suc i) l = let q = span-less rs i (le-of-suc-le-suc l) in omega (arith, q)
-
 -- a drop that is done frees the set's entries: the sets take as many less, and all behind them is free
 pub drop-frees : {c : DropCall} → Drops c → droppedSays (c .answer) ≡ accepted tt → spanOf (held (c .room′)) + sizeOf (setOf (c .film) (held (c .room))) ≡ spanOf (held (c .room))
 drop-frees {c} ran done =
@@ -107,22 +90,6 @@ drop-frees {c} ran done =
     ap (λ rs. spanOf rs + sizeOf (setOf (c .film) (held (c .room)))) gone ∙ span-less (held (c .room)) i (rw (length-held (c .room)) (known .here))
 
 -- ---- the free room
-
--- a store that nothing speaks against is done
-store-free : (room : Room) (film w h : ℕ) (pic : List ℕ) (s : Settings) (size scratch list : ℕ) → first (fitRows room size) ≡ 0 → among film (held room) ≡ false → room .count < 8
-    → first (prepareRows w h pic s (size - spanOf (held room)) scratch list) ≡ 0 → first (storeRows room film w h pic s size scratch list) ≡ 0
-unfolding storeRows
-store-free room film w h pic s size scratch list fits new few good =
-    sym (behind (enterRows room film size) (instead 11 37 rows) (enter-numbered room film size) entered refl (sym (first-instead 11 37 rows refl ∙ ap (λ n. cond (eqb n 11) 37 n) good)))
-  where
-    rows : List Row
-    rows = prepareRows w h pic s (size - spanOf (held room)) scratch list
-
-    none : room .count ≤ before film (held room)
-    none = ltb-false (before film (held room)) (room .count) (sym (there room film) ∙ new)
-
-    entered : 0 ≡ first (enterRows room film size)
-    entered = enter-well room film size (sym fits) refl refl none (λ q. omega (arith, q, few))
 
 -- "all free room is at the end and is used again": the sets take the entries of the films that are stored and not dropped, whatever was stored and dropped in between
 pub room-spans : {room : Room} {m : List ℕ} {fs : List Film} → History room m fs → spanOf (held room) ≡ filmSpans fs

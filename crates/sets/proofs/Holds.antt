@@ -210,6 +210,13 @@ pub before-cons : (n : ℕ) (r : Set) (rs : List Set) → before n (r ∷ rs) �
 unfolding before
 before-cons n r rs = refl
 
+-- one set less
+pub span-less : (rs : List Set) (i : ℕ) → i < length rs → spanOf (less i rs) + sizeOf (getD rs i noSet) ≡ spanOf rs
+unfolding spanOf less
+span-less [] i l = absurd (not-suc-le-zero l)
+span-less (r ∷ rs) zero l = omega arith
+span-less (r ∷ rs) (suc i) l = let q = span-less rs i (le-of-suc-le-suc l) in omega (arith, q)
+
 -- the entries of the sets of some films, each of the film's own size
 pub span-map : {A : Type 0} (size : A → ℕ) (Good : A → List ℕ → Type 0) (g : A → Set) → ((x : A) → sizeOf (g x) ≡ size x) → (xs : List A) → spanOf (map g xs) ≡ spans size Good xs
 unfolding spanOf spans

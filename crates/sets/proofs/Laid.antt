@@ -8,7 +8,7 @@ use native.Mathlib.Omega.{arith}
 use lib.ListN.{length, take, drop, getD, length-append, length-take, length-drop, take-append-drop}
 use lib.Seq.{length-take-le, take-take, drop-drop, take-add, take-at, drop-at}
 use Rattle.lists.specs.Lists.{over}
-use Rattle.sets.proofs.Parts.{over-front, over-behind}
+use Rattle.lists.proofs.Parts.{over-front, over-behind}
 
 module _ {A : Type 0} where
   -- the sets without the one at i

@@ -10,7 +10,7 @@ use borrow.Rule.Slice.PartMut.{putMid}
 use Rattle.lists.specs.Lists.{onto, over}
 use Rattle.lists.proofs.Fills.{length-over}
 use Rattle.lists.proofs.Overs.{over-nil, over-step, over-over}
-use Rattle.sets.proofs.Parts.{over-front, over-here, over-rest, over-later, over-behind-at}
+use Rattle.lists.proofs.Parts.{over-front, over-here, over-rest, over-later, over-behind-at}
 use Rattle.sets.specs.Sets.{movedDown}
 
 -- the entries of m from `from` up to i, at `to`

@@ -4,7 +4,7 @@ use mathlib.Core.Path.{ap, _∙_}
 use native.Mathlib.Omega.{arith}
 use lib.ListN.{length}
 use denote.Ref.{now}
-use Rattle.sets.proofs.Parts.{part-back, part-whole}
+use Rattle.lists.proofs.Parts.{part-back, part-whole}
 use Rattle.prepare.specs.Prepare.{prepareOf}
 use Rattle.sets.specs.Sets.{withSet}
 use Rattle.sets.proofs.Finds.{span-whole}
