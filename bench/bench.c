@@ -22,6 +22,7 @@
 #define BINS 128u
 #define WINDOW 1024u      /* the side of the window that is drawn, */
 #define SMALL_WINDOW 256u /* and of that which shows how drawing grows */
+#define FEW 3             /* rounds for the plain engine, which takes seconds */
 #define MANY(list) (sizeof(list) / sizeof(list)[0])
 
 static const uint32_t sides[] = {512, 2048, 4096};
@@ -37,7 +38,7 @@ static const struct reel {
 /* In the order in which they take turns: draw comes behind prepare, with whose mappings it draws. */
 enum call {
     ENHANCE, ENHANCE_BYTES, BY_1994, COPY, SCAN, UNCLIPPED, NEAR_ONE, OF_1986, PREPARE, DRAW, PREPARE_BYTES, DRAW_BYTES,
-    COUNT, MAP, TO_RAW, TO_PLAIN, WRITE, READ, STORE, ROOM_DRAW, DROP, MOVE, CALLS
+    COUNT, MAP, TO_RAW, TO_PLAIN, WRITE, READ, STORE, ROOM_DRAW, DROP, MOVE, DIRECT, CALLS
 };
 
 #define ONE(call) (1u << (call))
@@ -45,7 +46,7 @@ enum call {
 #define COUNTS (ONE(COUNT) | ONE(MAP)) /* in this order: mapping wants the counts */
 #define TEXT (ONE(TO_RAW) | ONE(TO_PLAIN)) /* for films that were laid down as text */
 #define ROOM (ONE(STORE) | ONE(ROOM_DRAW) | ONE(DROP) | ONE(MOVE)) /* in this order: draw and drop want the store */
-#define ALL ((ONE(CALLS) - 1) & ~BYTES & ~COUNTS & ~TEXT & ~ROOM & ~ONE(NEAR_ONE) & ~ONE(OF_1986))
+#define ALL ((ONE(CALLS) - 1) & ~BYTES & ~COUNTS & ~TEXT & ~ROOM & ~ONE(DIRECT) & ~ONE(NEAR_ONE) & ~ONE(OF_1986))
 
 static const struct {
     void (*before)(struct bench *);
@@ -60,7 +61,7 @@ static const struct {
     [DRAW_BYTES] = {NULL, call_draw_bytes},
     [TO_RAW] = {NULL, call_to_raw},      [TO_PLAIN] = {NULL, call_to_plain},
     [STORE] = {lay_but_one, call_store}, [ROOM_DRAW] = {lay_all, call_room_draw},
-    [DROP] = {lay_all, call_drop},       [MOVE] = {NULL, call_move},
+    [DROP] = {lay_all, call_drop},       [MOVE] = {NULL, call_move},           [DIRECT] = {NULL, call_direct},
 };
 
 /* What was measured of a film: the best turn of each call, in nanoseconds. */
@@ -104,28 +105,36 @@ static double share_of(const struct bench *b)
     return film_share(b->film, b->of.width, b->of.height, b->settings.bins, b->settings.max + 1);
 }
 
-/* Measures the calls of the set `which` on a film, when its check is passed. */
+/* What the calls of the set `which` want besides, and their checks. */
+static void check_calls(struct bench *b, unsigned which)
+{
+    check(b);
+    if ((which & ONE(DIRECT)) != 0)
+        check_direct(b);
+    if ((which & ONE(NEAR_ONE)) != 0)
+        check_near_one(b);
+    if ((which & ONE(OF_1986)) != 0)
+        check_of_1986(b);
+    if ((which & COUNTS) != 0)
+        check_counts(b);
+    if ((which & TEXT) != 0) {
+        open_plain(b);
+        check_plain(b);
+    }
+    if ((which & ROOM) != 0) {
+        open_room(b);
+        check_room(b);
+    }
+}
+
+/* Measures the calls of the set `which` on a film, when its checks are passed. */
 static struct result measure(const struct subject *of, unsigned which)
 {
     struct bench b;
     open_bench(&b, of);
-    check(&b);
-    if ((which & ONE(NEAR_ONE)) != 0)
-        check_near_one(&b);
-    if ((which & ONE(OF_1986)) != 0)
-        check_of_1986(&b);
-    if ((which & COUNTS) != 0)
-        check_counts(&b);
-    if ((which & TEXT) != 0) {
-        open_plain(&b);
-        check_plain(&b);
-    }
-    if ((which & ROOM) != 0) {
-        open_room(&b);
-        check_room(&b);
-    }
+    check_calls(&b, which);
     struct result r = {.pixels = (double)b.pixels, .area = (double)b.area, .share = share_of(&b)};
-    for (int i = rounds(of->height); i > 0; i--)
+    for (int i = (which & ONE(DIRECT)) != 0 ? FEW : rounds(of->height); i > 0; i--)
         for (int c = 0; c < CALLS; c++)
             if ((which & ONE(c)) != 0)
                 take_turn(&b, (enum call)c, &r.best[c]);
@@ -513,6 +522,33 @@ static void room_table(void)
     drop_row(16, 1024);
 }
 
+/* ---- the plain engine ---- */
+
+/* It counts four tiles for each pixel. */
+static void direct_row(uint32_t side, uint32_t grid, uint32_t bins)
+{
+    struct subject of = {NOISY, side, side, 12, grid, bins, SMALL_WINDOW};
+    struct result r = measure(&of, ONE(ENHANCE) | ONE(DIRECT));
+    double direct = r.best[DIRECT], counted = 4 * r.pixels * r.pixels / (grid * grid);
+    printf("| %4u | %u by %u | %4u | %8.1f | %8.1f | %8.0f | %7.2f | %6.3f |\n", (unsigned)side, (unsigned)grid,
+           (unsigned)grid, (unsigned)bins, r.best[ENHANCE] / 1e3, direct / 1e6, direct / r.best[ENHANCE],
+           direct / r.pixels / 1e3, direct / counted);
+    fflush(stdout);
+}
+
+static void direct_table(void)
+{
+    static const uint32_t lengths[] = {64, 128, 256}, grids[] = {8, 2}, bins[] = {128, 1024};
+    printf("\n### The plain engine\n\n"
+           "Direct beside enhance on the same noisy film of 12 bits; the best of %d rounds.\n\n", FEW);
+    printf("| side | grid | bins | enhance, µs | direct, ms | direct of enhance | direct, µs a pixel | ns a pixel counted |\n"
+           "|---|---|---|---|---|---|---|---|\n");
+    for (size_t k = 0; k < MANY(bins); k++)
+        for (size_t j = 0; j < MANY(grids); j++)
+            for (size_t i = 0; i < MANY(lengths); i++)
+                direct_row(lengths[i], grids[j], bins[k]);
+}
+
 /* ---- odd sides ---- */
 
 /* Prints a film's times, and gives the time of enhance. */
@@ -613,6 +649,7 @@ static void run(const char *opencv, const char *netpbm)
     counts_table();
     text_table(netpbm);
     room_table();
+    direct_table();
     sides_table();
     growth_table();
 }

@@ -272,6 +272,12 @@ long call_move(struct bench *b)
     return 0;
 }
 
+long call_direct(struct bench *b)
+{
+    return tzofnadir_direct(b->of.width, b->of.height, b->film, b->pixels, &b->settings, b->drawn, b->pixels, b->scratch,
+                            tz_scratch_entries(&b->settings), &b->footer);
+}
+
 /* ---- the check ---- */
 
 static void must(const char *call, long answer)
@@ -431,6 +437,16 @@ void check_room(struct bench *b)
     if (memcmp(b->shelf, wanted, 2 * entries) != 0)
         end("a drop is not one move of what lies behind it", b->of.width);
     free(wanted);
+}
+
+void check_direct(struct bench *b)
+{
+    lay_out(b);
+    must("enhance", call_enhance(b));
+    tz_footer footer = b->footer;
+    must("direct", call_direct(b));
+    if (memcmp(b->drawn, b->picture, 2 * b->pixels) != 0 || memcmp(&b->footer, &footer, sizeof footer) != 0)
+        end("the plain engine's picture or footer is not enhance's", b->of.width);
 }
 
 void check_plain(struct bench *b)

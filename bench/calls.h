@@ -81,6 +81,7 @@ void lay_out_bytes(struct bench *b);
  * to raw:    the plain file read, and written as raw; to plain the other way round. They want open_plain before them.
  * store:     the film stored as the last of eight; room draw draws it from there; drop takes the first one out, so that
  *            seven move down, and move is what memmove takes for these. They want open_room before them.
+ * direct:    the plain engine, into `drawn`.
  */
 long call_enhance(struct bench *b);
 long call_prepare(struct bench *b);
@@ -104,6 +105,7 @@ long call_store(struct bench *b);
 long call_room_draw(struct bench *b);
 long call_drop(struct bench *b);
 long call_move(struct bench *b);
+long call_direct(struct bench *b);
 
 /*
  * What is measured is worth nothing if it is wrong. Ends the program where a film written and read back is another, a
@@ -116,6 +118,9 @@ void check(struct bench *b);
  * not leave what memmove leaves.
  */
 void check_room(struct bench *b);
+
+/* Ends the program where the plain engine's picture or footer is not enhance's. */
+void check_direct(struct bench *b);
 
 /* Ends the program where a film moved from raw to plain and back, or from plain to raw, is not the same bytes. */
 void check_plain(struct bench *b);

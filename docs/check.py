@@ -23,6 +23,7 @@ REACHED.update({name: {"grid"} for name in ("film_lines", "abi", "abi_bytes", "b
 REACHED["abi_counts"] = {"grid", "prepare"}
 # a set of a room holds settings, whose clip and edition are `limit`'s
 REACHED.update({"room": {"limit"}, "abi_room": {"limit"}})
+REACHED.update({"direct": {"limit"}, "direct_films": {"grid"}})
 
 
 def read(path):

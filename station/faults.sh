@@ -86,7 +86,7 @@ try() { # WHAT WANTED WORDS..
     shift 2
     cp before "$out"
     case ${1:-} in
-    enhance | window | raw | plain) over "$@" >wrote 2>said ;;
+    enhance | window | direct | raw | plain) over "$@" >wrote 2>said ;;
     *) timeout 120 "$tz" "$@" >wrote 2>said ;;
     esac
     judge "$what" "$wanted" $?
@@ -362,6 +362,7 @@ fi
 . "$top/station/faults/options.sh"
 . "$top/station/faults/verify.sh"
 . "$top/station/faults/edition.sh"
+. "$top/station/faults/direct.sh"
 . "$top/station/faults/plain.sh"
 . "$top/station/faults/batch.sh"
 

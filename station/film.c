@@ -6,6 +6,8 @@
 #include <unistd.h>
 
 #include "bins.h"
+#include "check.h"
+#include "direct.h"
 #include "messages.h"
 #include "outputs.h"
 #include "png.h"
@@ -165,14 +167,10 @@ static int limits_differ(const struct run *run)
 /* All settings, as words that give the same film again. */
 static void tell_settings(const struct run *run, const char *name, const char *mark)
 {
-    const tz_settings *s = &run->settings;
-    char clip[32] = "off";
-    if (s->clip)
-        snprintf(clip, sizeof clip, "%.9g", (double)s->factor);
-    tell("%s%s%u by %u pixels, maxval %u: --grid %ux%u --bins %u --range %u:%u --clip %s%s%s", name, mark,
-         (unsigned)run->sizes.width, (unsigned)run->sizes.height, (unsigned)run->sizes.maxval, (unsigned)s->across,
-         (unsigned)s->down, (unsigned)tz_bins_of(s), (unsigned)s->min, (unsigned)s->max, clip,
-         s->edition == TZ_OURS ? "" : " --edition 1986", run->film != NULL ? " --bytes" : "");
+    char words[SETTINGS_TEXT];
+    settings_words(&run->settings, words);
+    tell("%s%s%u by %u pixels, maxval %u: %s%s", name, mark, (unsigned)run->sizes.width, (unsigned)run->sizes.height,
+         (unsigned)run->sizes.maxval, words, run->film != NULL ? " --bytes" : "");
 }
 
 /* What was chosen, and what clipping did; of several films behind each one's name. */
@@ -327,6 +325,34 @@ static int window(struct run *run)
     return refusal == TZ_DONE ? write_film(run, run->drawn, &sizes) : refuse(refusal, run);
 }
 
+/* ---- the plain engine ---- */
+
+/* Nothing of the fast engine is asked but, for a record, what it lists of the tiles. */
+static int direct(struct run *run)
+{
+    tz_record record;
+    int code = begin(run);
+    if (code != 0)
+        return code;
+    run->drawn = calloc(run->pixels, sizeof *run->drawn);
+    if (run->drawn == NULL)
+        return no_memory();
+    struct painting p = painting_of(run, run->drawn);
+    uint32_t refusal = run->task.record != NULL ? prepare(run, &record) : TZ_DONE;
+    if (refusal == TZ_DONE) {
+        tell_time(&p);
+        refusal = paint(&p);
+    }
+    run->footer = p.footer;
+    return refusal == TZ_DONE ? write_film(run, run->drawn, &run->sizes) : refuse(refusal, run);
+}
+
+static int check(struct run *run)
+{
+    int code = begin(run);
+    return code == 0 ? check_engines(run) : code;
+}
+
 /* ---- the other form ---- */
 
 static const char *form(int plain) { return plain ? "plain" : "raw"; }
@@ -466,7 +492,8 @@ static void let_go(struct run *run)
 int run_film(const struct job *job, const struct task *task)
 {
     static int (*const commands[])(struct run *) = {
-        [ENHANCE] = enhance, [WINDOW] = window, [LISTING] = listing, [INFO] = info, [RAW] = move, [PLAIN] = move};
+        [ENHANCE] = enhance, [WINDOW] = window, [LISTING] = listing, [INFO] = info,
+        [RAW] = move,        [PLAIN] = move,    [DIRECT] = direct,   [CHECK] = check};
     struct run run = {.job = job, .task = *task, .settings = job->settings};
     int code = commands[job->command](&run);
     end_progress();

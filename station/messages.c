@@ -24,6 +24,8 @@ void end_progress(void)
     shown = 0;
 }
 
+int progress_stands(void) { return shown; }
+
 /* A name may hold bytes that steer a terminal: those below 32 and 127, and the characters U+0080 to U+009F. */
 static int steers(const unsigned char *at, const unsigned char *before)
 {

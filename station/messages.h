@@ -13,7 +13,8 @@ enum {
     NO_MEMORY = 71,
     CANNOT_CREATE = 73, /* OUT, or the new file beside it */
     IO_FAULT = 74,      /* reading or writing failed on the way */
-    NOT_AS_RECORDED = 76 /* scan, settings or rendering are not those of the record */
+    NOT_AS_RECORDED = 76, /* scan, settings or rendering are not those of the record */
+    ENGINES_DIFFER = 77   /* the fast engine and the plain one leave different things */
 };
 
 /* What help prints. */
@@ -30,6 +31,9 @@ __attribute__((format(printf, 1, 2))) void tell(const char *form, ...);
 /* What is being done. The line is gone before anything else is written, and at the end. */
 __attribute__((format(printf, 1, 2))) void progress(const char *form, ...);
 void end_progress(void);
+
+/* Whether such a line stands there. */
+int progress_stands(void);
 
 /* Copies text, a byte that could steer a terminal as \ooo; it is cut to the room. */
 void escape(const char *text, char *to, size_t room);

@@ -63,7 +63,7 @@ char *record_text(const struct run *run, const tz_sizes *sizes, const uint8_t *f
     if (t.at == NULL)
         return NULL;
     add(&t, "{\n  \"program\": \"tzofnadir\",\n  \"version\": \"%s\",\n  \"command\": \"%s\",\n", TZ_VERSION,
-        run->job->command == WINDOW ? "window" : "enhance");
+        run->job->command == WINDOW ? "window" : run->job->command == DIRECT ? "direct" : "enhance");
     add_file(&t, "input", run->task.in, run->digest, run->input.len, &run->sizes);
     sha256_text(file, count, digest);
     add_file(&t, "output", run->task.out, digest, count, sizes);

@@ -14,6 +14,15 @@ struct span span_of(const uint16_t *picture, size_t pixels)
     return s;
 }
 
+void settings_words(const tz_settings *s, char text[SETTINGS_TEXT])
+{
+    char clip[32] = "off";
+    if (s->clip)
+        snprintf(clip, sizeof clip, "%.9g", (double)s->factor);
+    snprintf(text, SETTINGS_TEXT, "--grid %ux%u --bins %u --range %u:%u --clip %s%s", (unsigned)s->across, (unsigned)s->down,
+             (unsigned)tz_bins_of(s), (unsigned)s->min, (unsigned)s->max, clip, s->edition == TZ_OURS ? "" : " --edition 1986");
+}
+
 /* Refusals 5 and 6, the other way round. */
 static int fits(uint32_t side, uint32_t tiles) { return side >= tiles; }
 

@@ -36,7 +36,7 @@ struct run {
     uint8_t *byte_map;
     uint32_t *scratch;
     uint64_t *looks; /* of each tile, its excess and the looks of its leftover walk */
-    uint16_t *drawn; /* the window's pixels */
+    uint16_t *drawn; /* the window's pixels, or the plain engine's */
     uint8_t *byte_drawn;
     uint8_t *file; /* the output */
     char *record; /* or what is printed of the film */
@@ -49,6 +49,10 @@ struct span {
 };
 
 struct span span_of(const uint16_t *picture, size_t pixels);
+
+/* Settings as words that give the same film again. */
+#define SETTINGS_TEXT 160
+void settings_words(const tz_settings *s, char text[SETTINGS_TEXT]);
 
 /* The numbers of tiles that fit a side of this many pixels, as text. */
 void grids_that_fit(uint32_t side, char *text, size_t room);

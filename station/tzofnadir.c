@@ -6,8 +6,10 @@
  *   films.c, verify.c           several films; a record held to its scan
  *   inputs.c, jobs.c            where they come from, and several at once
  *   film.c                      one film through the calls
+ *   check.c                     the fast engine held to the plain one
  *   guard.c                     no scan is overwritten
  *   refuse.c, record.c, png.c   what is said of a film, written down of it, and made of it
+ *   direct.c, watch.c           the plain engine; how long it takes, and how far it is
  *   run.c, front.c              what a film's run holds; a file's header and samples, read for a message
  *   outputs.c, parts.c          files put away whole
  *   files.c, places.c           bytes and names

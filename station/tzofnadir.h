@@ -33,7 +33,7 @@ extern "C" {
 #endif
 
 /* The edition of this header and of the library, as in the file VERSION. */
-#define TZ_VERSION "4.11.0"
+#define TZ_VERSION "4.12.0"
 
 /* The functions with bodies are compiled into what includes this header. station/structs.c, which is a part of the library,
    says otherwise, and so they have names in it as well. */
@@ -77,7 +77,7 @@ enum tz_refusal {
     TZ_PIXEL_OUTSIDE = 13,   /* a pixel outside Min to Max */
     TZ_RECORD = 15,          /* record differs in film number, size or any setting, the edition too, or in an edge or centre */
     TZ_WINDOW = 16,          /* window empty or not inside the film */
-    TZ_OUTPUT_LENGTH = 17,   /* output length is not the window's area */
+    TZ_OUTPUT_LENGTH = 17,   /* output length is not the window's area, or not the film's */
     TZ_MAP_OUTSIDE = 18,     /* a map entry outside Min to Max */
     TZ_HEADER = 20,          /* not the header of a PGM of this form, raw (P5) or plain (P2) */
     TZ_COMMENT = 21,         /* # in the header */
@@ -120,7 +120,7 @@ TZ_FUNCTION const char *tz_refusal_text(uint32_t refusal)
         "There is no refusal of this number.",
         "The mappings are those of another film, another size, other settings, another edition or other tiles.",
         "The window is empty or does not lie inside the film.",
-        "The output's length is not the window's area.",
+        "The output's length is not the window's area, or not the film's.",
         "An entry of the mappings lies outside the grey range.",
         "There is no refusal of this number.",
         "The file does not begin with the header of a PGM of this form.",
@@ -240,6 +240,12 @@ uint32_t tz_enhance(uint32_t width, uint32_t height, uint16_t *picture, size_t p
                     uint32_t clip, float factor,
                     uint16_t *map, size_t map_len, uint32_t *scratch, size_t scratch_len,
                     uint32_t *limit, float *asked, double *used, uint32_t edition);
+
+uint32_t tz_direct(uint32_t width, uint32_t height, const uint16_t *picture, size_t picture_len,
+                   uint32_t across, uint32_t down, uint32_t bins, uint32_t min, uint32_t max,
+                   uint32_t clip, float factor,
+                   uint16_t *target, size_t target_len, uint32_t *scratch, size_t scratch_len,
+                   uint32_t *limit, float *asked, double *used, uint32_t edition);
 
 uint32_t tz_draw(uint32_t film, uint32_t width, uint32_t height,
                  const uint16_t *picture, size_t picture_len,
@@ -473,6 +479,35 @@ TZ_FUNCTION uint32_t tzofnadir_enhance(uint32_t width, uint32_t height, uint16_t
     uint32_t refusal = tz_enhance(width, height, picture, picture_len, s->across, s->down, s->bins, s->min, s->max,
                                   s->clip, s->factor, map, map_len, scratch, scratch_len, &limit, &asked, &used,
                                   s->edition);
+    if (refusal == TZ_DONE)
+        *footer = tz_footer_of(limit, asked, used);
+    return refusal;
+}
+
+/*
+ * Direct: the whole film by the plain engine, which checks the fast one and is not for films of a station. For each pixel it
+ * counts the tiles of the pixel's rule straight from `picture`, clips and sums them; it keeps no mappings, and wants no map
+ * buffer. `picture` stays as it is; `target` then holds the very greys that enhance leaves in place, on every film that is
+ * accepted, and scratch and footer are as enhance leaves them. At factor 1.0 the target is the film, and scratch stays.
+ *
+ * Each pixel costs its four tiles' pixels, 0.6 to 0.9 ns each, and four times the bins, 2 ns each (docs/BENCHMARK.md). So with
+ * 128 bins and grid 8 by 8 a film 64 square takes 5 ms, 256 square 0.2 s, 512 square 3 s, 1024 square 40 s, 2048 square 14
+ * minutes and 4096 square 4 hours. Grid 2 by 2 takes up to 16 times as long, 4096 square three days.
+ *
+ * Sizes: picture_len and target_len are width x height; scratch_len at least tz_scratch_entries.
+ * Refusals, the first that applies: 1 to 9 upward, 31, 10, 12, 17 (the target's length), 13. 11 and 32 are never given: what
+ * enhance refuses with 11 alone is done here.
+ */
+TZ_FUNCTION uint32_t tzofnadir_direct(uint32_t width, uint32_t height, const uint16_t *picture, size_t picture_len,
+                                      const tz_settings *s, uint16_t *target, size_t target_len,
+                                      uint32_t *scratch, size_t scratch_len, tz_footer *footer)
+{
+    uint32_t limit = 0;
+    float asked = 0;
+    double used = 0;
+    uint32_t refusal = tz_direct(width, height, picture, picture_len, s->across, s->down, s->bins, s->min, s->max,
+                                 s->clip, s->factor, target, target_len, scratch, scratch_len, &limit, &asked, &used,
+                                 s->edition);
     if (refusal == TZ_DONE)
         *footer = tz_footer_of(limit, asked, used);
     return refusal;

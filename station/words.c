@@ -113,7 +113,7 @@ static const struct option {
     {"--into", INTO, 1},       {"--jobs", JOBS, 1},   {"--records", RECORDS, 0}, {"--force", FORCE, 0},
     {"--output", OUTPUT, 1},   {"-o", OUTPUT, 1},     {"--quiet", QUIET, 0},     {"-q", QUIET, 0},
     {"--verbose", VERBOSE, 0}, {"-v", VERBOSE, 0},    {"--json", AS_JSON, 0},    {"--scan", SCAN, 1},
-    {"--edition", EDITION, 1},
+    {"--edition", EDITION, 1}, {"--whole", WHOLE, 0},
 };
 
 /* The option that a word names, alone or with `=value` behind it. */
@@ -131,12 +131,16 @@ static const struct option *option_of(const char *word)
 static unsigned taken(enum command command)
 {
     unsigned film = FORCE | OUTPUT | QUIET, several = INTO | JOBS;
-    unsigned settings = film | GRID | BINS | RANGE | CLIP | EDITION | BYTES | RECORD | VERBOSE;
+    unsigned settings = GRID | BINS | RANGE | CLIP | EDITION, rendering = film | settings | RECORD | VERBOSE;
     switch (command) {
     case ENHANCE:
-        return settings | several | RECORDS;
+        return rendering | BYTES | several | RECORDS;
     case WINDOW:
-        return settings | AT | SIZE;
+        return rendering | BYTES | AT | SIZE;
+    case DIRECT:
+        return rendering;
+    case CHECK:
+        return settings | WHOLE | QUIET;
     case RAW:
     case PLAIN:
         return film | several;
@@ -198,8 +202,8 @@ int ends_in(const char *word, const char *end)
 }
 
 /* The commands that write a film, and those of them that write several into a folder. */
-static int writes(enum command c) { return c == ENHANCE || c == WINDOW || c == RAW || c == PLAIN; }
-static int writes_many(enum command c) { return c != WINDOW && writes(c); }
+static int writes_many(enum command c) { return c == ENHANCE || c == RAW || c == PLAIN; }
+static int writes(enum command c) { return writes_many(c) || c == WINDOW || c == DIRECT; }
 
 int is_move(const struct job *job) { return job->command == RAW || job->command == PLAIN; }
 
@@ -242,7 +246,8 @@ static int asks(int argc, char **argv, enum command *command)
 
 static int command_of(const char *word, enum command *command)
 {
-    static const char *const names[] = {"enhance", "window", "listing", "info", "verify", "raw", "plain"};
+    static const char *const names[] = {"enhance", "window", "listing", "info", "verify",
+                                        "raw",     "plain",  "direct",  "check"};
     for (unsigned i = 0; i < sizeof names / sizeof names[0]; i++)
         if (strcmp(word, names[i]) == 0) {
             *command = (enum command)i;

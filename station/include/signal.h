@@ -12,9 +12,12 @@
 #define SIGTERM 15
 #define SIGXCPU 24
 #define SIGXFSZ 25
+#define SIGVTALRM 26
 #define SIG_BLOCK 0
+#define SIG_UNBLOCK 1
 #define SIG_SETMASK 2
 #define SA_RESETHAND 0x80000000u
+typedef int sig_atomic_t;
 typedef struct {
     unsigned long tz_bits[16];
 } sigset_t;

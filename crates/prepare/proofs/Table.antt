@@ -29,6 +29,11 @@ module _ (pic : List ℕ) (s : Settings) (scratch : ℕ) where
   unfolding numbersOf workRows
   work-numbers = refl
 
+  -- 12 is asked before 13
+  pub work-first : first (workRows pic s scratch) ≡ cond (ltb scratch (binsOf s)) 12 (cond (not (all (within (s .min) (s .max)) pic)) 13 0)
+  unfolding first workRows
+  work-first = refl
+
   module _ {b : ℕ} (n : b ≡ binsOf s) where
     -- 12 does not, and 13 decides
     pub work-greys : b ≤ scratch → (t : Bool) → t ≡ all (within (s .min) (s .max)) pic → cond t 0 13 ≡ first (workRows pic s scratch)

@@ -105,6 +105,16 @@ pub record Over : Type 0 where
 abbrev pub overing : Enhanced → List ℕ → List ℕ → List ℕ → Over
 overing r pic m t = record { answer = r; picture = pic; map = m; scratch = t }
 
+-- what a call leaves that writes "to a separate picture": the answer, which is enhance's, the target and the scratch
+pub record Painted : Type 0 where
+  pub answer : Enhanced
+  pub target : List ℕ
+  pub scratch : List ℕ
+
+-- the answer, the target and the scratch at the end, as such a call leaves them
+abbrev pub painting : Enhanced → List ℕ → List ℕ → Painted
+painting r o t = record { answer = r; target = o; scratch = t }
+
 -- "the same buffers and footer, and the picture rendered. Factor 1.0: nothing changes."
 unfoldable pub enhancedOf : ℕ → ℕ → List ℕ → Settings → List ℕ → List ℕ → Over
 enhancedOf w h pic s m t =

@@ -22,7 +22,7 @@ use Rattle.byte_promises.proofs.Runs.{EnhancesBytes}
 use Rattle.byte_promises.proofs.Calls.{DrawnFromBytes}
 use Rattle.count_promises.proofs.Runs.{MapCall}
 use Rattle.reach_promises.proofs.Rendered.{Film, enhances-film, prepares-film, maps-film, enhancedGrey, DrawnFromCounts, Rendered, by-enhance, by-draw, by-enhance-bytes, by-draw-bytes, by-counts}
-use Rattle.reach_promises.proofs.Shown.{rendered-seen}
+use Rattle.reach_promises.proofs.Shown.{Seen, rendered-seen}
 
 -- ---- any two ways
 
@@ -37,21 +37,29 @@ pub record Two (f f′ : Film) (x y : ℕ) : Type 0 where
   pub twins : Twins f f′
   pub alike : Alike (f .width) (f .height) (f .settings) (f .pixels) (f′ .pixels) x y
 
--- "then the rendered grey is the same in both", by whichever of the ways each was rendered
-pub rendered-local : {f f′ : Film} {x y g g′ : ℕ} → Rendered f x y g → Rendered f′ x y g′ → Two f f′ x y → g ≡ g′
-rendered-local {f} {f′} {x} {y} a b two =
-    rendered-seen a .shows
+-- what is shown of a pixel is the same in two films that are alike for it
+pub seen-local : {f f′ : Film} {x y g g′ : ℕ} → Seen f x y g → Seen f′ x y g′ → Two f f′ x y → g ≡ g′
+seen-local {f} {f′} {x} {y} a b two =
+    a .shows
     ∙ shown-local (f .width) (f .height) (f .pixels) (f′ .pixels) (f .settings) x y (two .alike)
     ∙ shown-like (f .width) (f .height) (f′ .pixels) (f .settings) (f′ .settings) x y (sym (two .twins .settings))
     ∙ ap₂ (λ w h. shownGrey w h (f′ .pixels) (f′ .settings) x y) (sym (two .twins .width)) (sym (two .twins .height))
-    ∙ sym (rendered-seen b .shows)
+    ∙ sym (b .shows)
+
+-- and of a pixel beyond the rectangle in which alone they differ
+pub seen-stays : {f f′ : Film} {x y g g′ : ℕ} → Seen f x y g → Seen f′ x y g′ → Twins f f′ → (r : Rect) → DifferIn (f .width) (f .height) (f .pixels) (f′ .pixels) r
+    → Beyond (f .width) (f .height) (f .settings) r x y → g ≡ g′
+seen-stays {f} {f′} a b twins r differ beyond =
+    seen-local a b (record { twins = twins; alike = rect-stays (a .tiled) (f .pixels) (f′ .pixels) (a .column) (a .row) r differ beyond })
+
+-- "then the rendered grey is the same in both", by whichever of the ways each was rendered
+pub rendered-local : {f f′ : Film} {x y g g′ : ℕ} → Rendered f x y g → Rendered f′ x y g′ → Two f f′ x y → g ≡ g′
+rendered-local a b two = seen-local (rendered-seen a) (rendered-seen b) two
 
 -- the films differ in a rectangle alone: the grey of every pixel beyond it is the same in both
 pub marked-stays : {f f′ : Film} {x y g g′ : ℕ} → Rendered f x y g → Rendered f′ x y g′ → Twins f f′ → (r : Rect) → DifferIn (f .width) (f .height) (f .pixels) (f′ .pixels) r
     → Beyond (f .width) (f .height) (f .settings) r x y → g ≡ g′
-marked-stays {f} {f′} a b twins r differ beyond =
-    let seen = rendered-seen a in
-    rendered-local a b (record { twins = twins; alike = rect-stays (seen .tiled) (f .pixels) (f′ .pixels) (seen .column) (seen .row) r differ beyond })
+marked-stays a b twins r differ beyond = seen-stays (rendered-seen a) (rendered-seen b) twins r differ beyond
 
 -- the tile in column i and row j of a film's grid
 abbrev pub tileIn : Film → ℕ → ℕ → Rect

@@ -6,6 +6,7 @@ use mathlib.Core.List.{List}
 use mathlib.Core.Path.{_≡_, refl, sym, ap, _∙_}
 use lib.ListN.{getD}
 use Rattle.scan.specs.Scan.{within}
+use Rattle.binning.specs.Binning.{binOf}
 use Rattle.tally.specs.declared.Rect.{Rect}
 use Rattle.tally.specs.Tally.{greysOf}
 use Rattle.tile.specs.Tile.{mappedOf, tileCounts, tileDivides}
@@ -13,6 +14,7 @@ use Rattle.settings.specs.declared.Settings.{Settings}
 use Rattle.settings.specs.Settings.{binsOf, keptOf, clipOne}
 use Rattle.settings.proofs.Like.{bins-kept}
 use Rattle.blend.specs.declared.Place.{Place}
+use Rattle.blend.specs.Blend.{greyOf}
 use Rattle.render.specs.Render.{columnPlace, rowPlace, renderedOf, Mapped}
 use Rattle.render.proofs.Laws.{rendered-by}
 use Rattle.render.proofs.Pixels.{tile-index}
@@ -49,6 +51,28 @@ pub grey-from : (w : ℕ) (pic : List ℕ) (s : Settings) (v : ℕ) {tile before
     → greyFrom w pic s tile column row v ≡ greyFrom w pic s before column′ row′ v
 unfolding greyFrom
 grey-from w pic s v same c r = rw (c, r) (simp same)
+
+-- ---- the tiles of a pixel
+
+-- the mapped value of a grey by a tile is that of its bin
+pub value-at : (w : ℕ) (pic : List ℕ) (s : Settings) (r : Rect) (v : ℕ) {k : ℕ} → k ≡ binOf (s .min) (s .max) (binsOf s) v
+    → mappedOf (s .min) (s .max)
+    (tileDivides (s .min) (s .max) (binsOf s) (s .edition) (s .clip) (greysOf pic w r))
+    (tileCounts (s .min) (s .max) (binsOf s) (s .edition) (s .clip) (greysOf pic w r))
+    k
+    ≡ tileValue w pic s r v
+unfolding tileValue
+value-at w pic s r v e = rw e refl
+
+-- a pixel's grey is that of the values of four tiles, the corners of its two places
+pub rule-corners : (w h : ℕ) (pic : List ℕ) (s : Settings) (x y : ℕ) {column row : Place} {a b c d : ℕ} → column ≡ columnPlace w s x → row ≡ rowPlace h s y
+    → a ≡ tileValue w pic s (tileOf w h s (row .lower * s .across + column .lower)) (getD pic (y * w + x) 0)
+    → b ≡ tileValue w pic s (tileOf w h s (row .lower * s .across + column .upper)) (getD pic (y * w + x) 0)
+    → c ≡ tileValue w pic s (tileOf w h s (row .upper * s .across + column .lower)) (getD pic (y * w + x) 0)
+    → d ≡ tileValue w pic s (tileOf w h s (row .upper * s .across + column .upper)) (getD pic (y * w + x) 0)
+    → greyOf column row a b c d ≡ ruleGrey w h pic s x y
+unfolding ruleGrey greyFrom
+rule-corners w h pic s x y p q ea eb ec ed = rw (ea, eb, ec, ed, p, q) refl
 
 -- ---- the settings
 

@@ -7,7 +7,7 @@ use mathlib.Core.Path.{_≡_, refl, sym}
 use native.Mathlib.Omega.{arith}
 use native.Mathlib.Nat.{mul-le-mul}
 use lib.Dec.{eqb, ltb}
-use borrow.Author.Tests.{le-ltb, ltb-false, leb-false, eqb-false, eqb-true, not-false}
+use borrow.Author.Tests.{lt-ltb, le-ltb, ltb-false, leb-false, eqb-false, eqb-true, not-false}
 use Rattle.lists.specs.Lists.{all}
 use Rattle.lists.proofs.Orders.{pos}
 use Rattle.refuse.specs.Refuse.{first, numbersOf, Numbered}
@@ -138,6 +138,11 @@ room-fits s room e = ltb-false _ _ (first-none _ refl e .0)
 pub fits-room : (s : Settings) (room : ℕ) → entriesOf s ≤ room → first (roomRows s room) ≡ 0
 unfolding first roomRows
 fits-room s room l = rw (le-ltb room (entriesOf s) l) refl
+
+-- and where they do not, it does
+pub short-room : (s : Settings) (room : ℕ) → room < entriesOf s → first (roomRows s room) ≡ 11
+unfolding first roomRows
+short-room s room l = rw (lt-ltb room (entriesOf s) l) refl
 
 -- none of the rows 1 to 9, 31 and 10 applies: what stands before 11
 pub setting-tiled : (w h size : ℕ) (s : Settings) → first (settingRows w h size s) ≡ 0 → Tiled w h s × (size ≡ w * h) × (clipBad (s .clip) ≡ false)

@@ -60,6 +60,11 @@ pub mapped-next : (lo hi n : ℕ) (cs : List ℕ) {s : ℕ} (k : ℕ) → k < le
 unfolding mappedOf
 mapped-next lo hi n cs {s} k h e = ap (λ t. lo + t * (hi - lo) / n) (ap (λ t. t + getD cs k 0) e ∙ sym (total-next cs k h))
 
+-- the sum up to bin k and with it
+pub mapped-through : (lo hi : ℕ) (cs : List ℕ) (k : ℕ) {s n t : ℕ} → s ≡ total (take (k + 1) cs) → n ≡ t → lo + s * (hi - lo) / n ≡ mappedOf lo hi t cs k
+unfolding mappedOf
+mapped-through lo hi cs k e q = rw (e, q) refl
+
 -- never below Min
 pub mapped-low : (lo hi n : ℕ) (cs : List ℕ) (k : ℕ) → lo ≤ mappedOf lo hi n cs k
 unfolding mappedOf

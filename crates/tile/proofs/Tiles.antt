@@ -199,6 +199,16 @@ pub tile-counts-off : (lo hi b : ℕ) (ed : Edition) (vs : List ℕ) → tileCou
 unfolding tileCounts clippedBy
 tile-counts-off lo hi b ed vs = refl
 
+-- they are its raw counts, clipped by the clip setting
+pub tile-counts-by : (lo hi b : ℕ) (ed : Edition) (clip : Clip) (vs : List ℕ) → tileCounts lo hi b ed clip vs ≡ clippedBy ed clip (length vs) (countsOf lo hi b vs)
+unfolding tileCounts
+tile-counts-by lo hi b ed clip vs = refl
+
+-- and divided by what that setting gives for them
+pub tile-divides-by : (lo hi b : ℕ) (ed : Edition) (clip : Clip) (vs : List ℕ) → tileDivides lo hi b ed clip vs ≡ dividedBy ed clip (length vs) (countsOf lo hi b vs)
+unfolding tileDivides
+tile-divides-by lo hi b ed clip vs = refl
+
 -- with a factor they are its raw counts, clipped at the limit
 pub tile-counts-factor : (lo hi b : ℕ) (ed : Edition) (f : Float) (vs : List ℕ) → tileCounts lo hi b ed (Factor f) vs ≡ clippedIn ed (limitOf f (length vs) b) (countsOf lo hi b vs)
 unfolding tileCounts clippedBy

@@ -1,0 +1,106 @@
+-- Document 02, order 12: a plain engine, "for each pixel it counts the tiles it needs straight from the film, clips and sums, and keeps no mappings between pixels".
+-- w and h are the film's width and height, pic its pixels, o the target and t the scratch as lent.
+-- Assumes nothing.
+use Prim.Native.Nat.{ℕ, _+_, _*_, _≤_, _<_}
+use mathlib.Core.Bool.{true, not, cond}
+use mathlib.Core.List.{List, [], _∷_, _++_}
+use mathlib.Core.Path.{_≡_}
+use lib.Dec.{ltb, eqb}
+use lib.ListN.{length, drop}
+use Rattle.lists.specs.Lists.{tab, joined, filled, all}
+use Rattle.refuse.specs.Refuse.{Row, row, first, unless}
+use Rattle.scan.specs.Scan.{within}
+use Rattle.tally.specs.Tally.{greysOf, Scale}
+use Rattle.tile.specs.Tile.{mappedOf, tileCounts, tileDivides}
+use Rattle.settings.specs.declared.Settings.{Settings}
+use Rattle.settings.specs.Settings.{binsOf, entriesOf, clipOne, settingRows}
+use Rattle.tiles.specs.Tiles.{tileOf, footOf, TilesAsk}
+use Rattle.prepare.specs.declared.Enhanced.the-variants as Enhanced
+use Rattle.prepare.specs.Prepare.{Painted, painting}
+use Rattle.rule.specs.Rule.{ruleGrey, shownGrey}
+
+-- ---- the refusals
+
+-- 12, 17 and 13: "17 if the target's length is not width x height, after 12"
+unfoldable pub workRows : ℕ → ℕ → List ℕ → Settings → ℕ → ℕ → List Row
+workRows w h pic s scratch target =
+    row 12 (ltb scratch (binsOf s)) ∷ row 17 (not (eqb target (w * h))) ∷ row 13 (not (all (within (s .min) (s .max)) pic)) ∷ []
+
+-- "its refusals .. equal too, but for 11, which it never gives, and its own 17"
+unfoldable pub directRows : ℕ → ℕ → List ℕ → Settings → ℕ → ℕ → List Row
+directRows w h pic s scratch target = settingRows w h (length pic) s ++ workRows w h pic s scratch target
+
+-- ---- what it leaves
+
+-- the film as it is shown, row by row
+unfoldable pub shownFilm : ℕ → ℕ → List ℕ → Settings → List ℕ
+shownFilm w h pic s = joined h (λ y. tab w (λ x. shownGrey w h pic s x y))
+
+-- the film by the rule, row by row
+unfoldable pub ruleRow : ℕ → ℕ → List ℕ → Settings → ℕ → List ℕ
+ruleRow w h pic s y = tab w (λ x. ruleGrey w h pic s x y)
+
+-- "It writes to a separate picture", with "only lent scratch for one tile's counts, left as enhance leaves it"
+unfoldable pub directedOf : ℕ → ℕ → List ℕ → Settings → List ℕ → Painted
+directedOf w h pic s t =
+    painting (Enhanced.Done (footOf w h s)) (shownFilm w h pic s) (cond (clipOne (s .clip)) t (filled (λ k. 0) t (binsOf s)))
+
+-- a refusal leaves all memory as it was
+unfoldable pub directOf : ℕ → ℕ → List ℕ → Settings → List ℕ → List ℕ → Painted
+directOf w h pic s o t =
+    unless (first (directRows w h pic s (length t) (length o))) (λ n. painting (Enhanced.Refused n) o t) (directedOf w h pic s t)
+
+-- ---- what the functions ask and leave
+
+-- the mapped value of bin k by the tile in row j and column i
+unfoldable pub cornerValue : ℕ → ℕ → List ℕ → Settings → ℕ → ℕ → ℕ → ℕ
+cornerValue w h pic s j i k =
+    let r = tileOf w h s (j * s .across + i) in
+    mappedOf (s .min) (s .max)
+    (tileDivides (s .min) (s .max) (binsOf s) (s .edition) (s .clip) (greysOf pic w r))
+    (tileCounts (s .min) (s .max) (binsOf s) (s .edition) (s .clip) (greysOf pic w r))
+    k
+
+-- what painting asks: what `map_tiles` asks, but no map buffer; the room is just enough for it
+abbrev pub PaintAsks : ℕ → ℕ → List ℕ → Settings → ℕ → Type 0
+PaintAsks w h pic s scratch = TilesAsk w h pic s (entriesOf s) scratch
+
+-- what `tile_value` asks: that, of a tile and a bin
+pub record CornerAsks (w h : ℕ) (pic : List ℕ) (s : Settings) (j i k scratch : ℕ) : Type 0 where
+  pub film : PaintAsks w h pic s scratch
+  pub row : j < s .down
+  pub column : i < s .across
+  pub bin : k < binsOf s
+
+-- what `bin_at` asks
+pub record BinAsks (pic : List ℕ) (s : Settings) (at : ℕ) : Type 0 where
+  pub scale : Scale (s .min) (s .max) (binsOf s)
+  pub greys : all (within (s .min) (s .max)) pic ≡ true
+  pub inside : at < length pic
+
+-- what `pixel` asks: that, of a column and a row of the film
+pub record PixelAsks (w h : ℕ) (pic : List ℕ) (s : Settings) (x y scratch : ℕ) : Type 0 where
+  pub film : PaintAsks w h pic s scratch
+  pub column : x < w
+  pub row : y < h
+
+-- what `paint_row` asks
+pub record PaintRowAsks (w h : ℕ) (pic : List ℕ) (s : Settings) (y out scratch : ℕ) : Type 0 where
+  pub film : PaintAsks w h pic s scratch
+  pub row : y < h
+  pub room : out ≡ w
+
+-- what `paint` asks
+pub record FilmAsks (w h : ℕ) (pic : List ℕ) (s : Settings) (target scratch : ℕ) : Type 0 where
+  pub film : PaintAsks w h pic s scratch
+  pub room : target ≡ w * h
+
+-- the scratch while it is worked in: what lies behind its first B entries is as it was
+pub record Behind (s : Settings) (t₀ t : List ℕ) : Type 0 where
+  pub behind : drop (binsOf s) t ≡ drop (binsOf s) t₀
+  pub size : length t ≡ length t₀
+
+-- what `pixel` leaves beside it: the rule's grey
+pub record Greyed (w h : ℕ) (pic : List ℕ) (s : Settings) (x y r : ℕ) : Type 0 where
+  pub grey : r ≡ ruleGrey w h pic s x y
+  pub most : r ≤ 4095
