@@ -38,7 +38,7 @@ static const struct reel {
 /* In the order in which they take turns: draw comes behind prepare, with whose mappings it draws. */
 enum call {
     ENHANCE, ENHANCE_BYTES, BY_1994, COPY, SCAN, UNCLIPPED, NEAR_ONE, OF_1986, PREPARE, DRAW, PREPARE_BYTES, DRAW_BYTES,
-    COUNT, MAP, TO_RAW, TO_PLAIN, WRITE, READ, STORE, ROOM_DRAW, DROP, MOVE, DIRECT, CALLS
+    COUNT, MAP, TO_RAW, TO_PLAIN, WRITE, READ, STORE, ROOM_DRAW, DROP, MOVE, DIRECT, AROUND, CALLS
 };
 
 #define ONE(call) (1u << (call))
@@ -46,7 +46,8 @@ enum call {
 #define COUNTS (ONE(COUNT) | ONE(MAP)) /* in this order: mapping wants the counts */
 #define TEXT (ONE(TO_RAW) | ONE(TO_PLAIN)) /* for films that were laid down as text */
 #define ROOM (ONE(STORE) | ONE(ROOM_DRAW) | ONE(DROP) | ONE(MOVE)) /* in this order: draw and drop want the store */
-#define ALL ((ONE(CALLS) - 1) & ~BYTES & ~COUNTS & ~TEXT & ~ROOM & ~ONE(DIRECT) & ~ONE(NEAR_ONE) & ~ONE(OF_1986))
+#define ALL \
+    ((ONE(CALLS) - 1) & ~BYTES & ~COUNTS & ~TEXT & ~ROOM & ~ONE(DIRECT) & ~ONE(AROUND) & ~ONE(NEAR_ONE) & ~ONE(OF_1986))
 
 static const struct {
     void (*before)(struct bench *);
@@ -62,6 +63,7 @@ static const struct {
     [TO_RAW] = {NULL, call_to_raw},      [TO_PLAIN] = {NULL, call_to_plain},
     [STORE] = {lay_but_one, call_store}, [ROOM_DRAW] = {lay_all, call_room_draw},
     [DROP] = {lay_all, call_drop},       [MOVE] = {NULL, call_move},           [DIRECT] = {NULL, call_direct},
+    [AROUND] = {NULL, call_around},
 };
 
 /* What was measured of a film: the best turn of each call, in nanoseconds. */
@@ -549,6 +551,64 @@ static void direct_table(void)
                 direct_row(lengths[i], grids[j], bins[k]);
 }
 
+/* ---- around each pixel ---- */
+
+/* A run takes so long that its memory is there and its caches are warm from its own front: two of them serve, and the better
+   one counts. */
+static double around_ns(struct bench *b)
+{
+    double first = run_once(b, AROUND);
+    check_around(b);
+    double second = run_once(b, AROUND);
+    double best = (first < second ? first : second) / (double)b->pixels;
+    close_bench(b);
+    return best;
+}
+
+/* Where there is an aim it stands beside the time. */
+static void around_row(uint32_t bins, uint32_t region, uint32_t edition, const char *aim)
+{
+    struct bench b;
+    struct subject of = {NOISY, 4096, 256, 12, GRID, bins, WINDOW};
+    open_bench(&b, &of);
+    b.region = region;
+    b.settings.edition = edition;
+    printf("| %4u | %2u | %-4s | %8.1f | %s |\n", (unsigned)bins, (unsigned)region, edition == TZ_OURS ? "ours" : "1986",
+           around_ns(&b), aim);
+    fflush(stdout);
+}
+
+/* The greys and the width of a bin stay, and the range grows with the bins: all that are more are empty. The factor grows too,
+   so that the limit stays, and the bins that are not empty are clipped alike. */
+static void empty_row(uint32_t times)
+{
+    struct bench b;
+    struct subject of = {NOISY, 4096, 256, 8, GRID, BINS * times, WINDOW};
+    open_bench(&b, &of);
+    b.region = 31;
+    b.settings.max = 256 * times - 1;
+    b.settings.factor = 3.0f * (float)times;
+    printf("| %4u | %4u | %8.1f |\n", (unsigned)b.settings.bins, (unsigned)(BINS * (times - 1)), around_ns(&b));
+    fflush(stdout);
+}
+
+static void around_table(void)
+{
+    printf("\n### Around each pixel\n\n"
+           "Nanoseconds a pixel of a noisy film of 4096 by 256 and 12 bits, by the bins and the region's side.\n\n");
+    printf("| bins | side | edition | ns a pixel | aim |\n|---|---|---|---|---|\n");
+    around_row(128, 7, TZ_OURS, "-");
+    around_row(128, 31, TZ_OURS, "150");
+    around_row(128, 63, TZ_OURS, "250");
+    around_row(1024, 31, TZ_OURS, "below 300");
+    around_row(1024, 63, TZ_OURS, "below 300");
+    around_row(128, 31, TZ_1986, "-");
+    printf("\nThe same greys of 8 bits in bins of the same width, side 31, with more and more bins that are empty:\n\n");
+    printf("| bins | empty in every region, at least | ns a pixel |\n|---|---|---|\n");
+    for (uint32_t times = 1; times <= 16; times *= 2)
+        empty_row(times);
+}
+
 /* ---- odd sides ---- */
 
 /* Prints a film's times, and gives the time of enhance. */
@@ -650,6 +710,7 @@ static void run(const char *opencv, const char *netpbm)
     text_table(netpbm);
     room_table();
     direct_table();
+    around_table();
     sides_table();
     growth_table();
 }

@@ -51,7 +51,7 @@ void open_bench(struct bench *b, const struct subject *of)
     b->picture = room(2 * b->pixels);
     b->drawn = room(2 * b->pixels);
     b->map = room(2 * tz_map_entries(&b->settings));
-    b->scratch = room(4 * tz_scratch_entries(&b->settings));
+    b->scratch = room(4 * tz_around_scratch(&b->settings));
     b->list = room(8 * tz_looks_entries(&b->settings));
     b->counts = room(4 * tz_counts_entries(&b->settings));
     b->mapped = room(2 * tz_map_entries(&b->settings));
@@ -177,6 +177,12 @@ long call_draw(struct bench *b)
 {
     return tzofnadir_draw(FILM, b->of.width, b->of.height, b->film, b->pixels, &b->settings, &b->record, &b->window,
                           b->map, tz_map_entries(&b->settings), b->drawn, b->area);
+}
+
+long call_around(struct bench *b)
+{
+    return tzofnadir_around(b->of.width, b->of.height, b->film, b->pixels, b->region, &b->settings, b->drawn, b->pixels,
+                            b->scratch, tz_around_scratch(&b->settings), &b->footer);
 }
 
 long call_write(struct bench *b)
@@ -366,6 +372,48 @@ void check_counts(struct bench *b)
     if (call_map(b) != TZ_COUNTS_SUM)
         end("counts that do not add up are not refused", b->of.width);
     b->counts[0]--;
+}
+
+/* The bin of a grey: as many of the range's greys below it as there are times the bins, over all of them. */
+static uint32_t bin_of(const struct bench *b, size_t at)
+{
+    const tz_settings *s = &b->settings;
+    return (b->film[at] - s->min) * s->bins / (s->max - s->min + 1);
+}
+
+/* The region around a pixel counted anew, four times over: as the tiles of a grid of 2 by 2. */
+static tz_window count_region(struct bench *b, uint32_t x, uint32_t y)
+{
+    uint32_t half = b->region / 2, left = x - least(x, half), top = y - least(y, half), bins = b->settings.bins;
+    uint32_t right = least(x + half + 1, b->of.width), bottom = least(y + half + 1, b->of.height);
+    memset(b->counts, 0, 4 * 4 * (size_t)bins);
+    for (uint32_t row = top; row < bottom; row++)
+        for (uint32_t column = left; column < right; column++)
+            b->counts[bin_of(b, (size_t)row * b->of.width + column)]++;
+    for (uint32_t tile = 1; tile < 4; tile++)
+        memcpy(b->counts + (size_t)tile * bins, b->counts, 4 * (size_t)bins);
+    return (tz_window){left, top, right - left, bottom - top};
+}
+
+/* Mapping is told of a film whose four tiles are as large as the region. */
+static void check_pixel(struct bench *b, uint32_t x, uint32_t y)
+{
+    size_t at = (size_t)y * b->of.width + x;
+    tz_window region = count_region(b, x, y);
+    tz_settings s = b->settings;
+    s.across = s.down = 2;
+    must("mapping a region", tzofnadir_map(FILM, 2 * region.width, 2 * region.height, &s, b->counts, tz_counts_entries(&s),
+                                           b->mapped, tz_map_entries(&s), b->scratch, tz_scratch_entries(&s), &b->record,
+                                           &b->footer, b->list, tz_looks_entries(&s)));
+    if (b->drawn[at] != b->mapped[bin_of(b, at)])
+        end("a grey around a pixel is another, pixel", (long)at);
+}
+
+void check_around(struct bench *b)
+{
+    for (uint32_t i = 0; i <= 8; i++)
+        for (uint32_t k = 0; k <= 8; k++)
+            check_pixel(b, (b->of.width - 1) * i / 8, (b->of.height - 1) * k / 8);
 }
 
 /* The largest level from the limit down for which what stands above it fits beside the others. */

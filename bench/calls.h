@@ -39,6 +39,7 @@ struct bench {
     size_t file_len;
     uint8_t *text; /* and as plain PGM, where open_plain made room for it */
     size_t text_len;
+    uint32_t region; /* the side of the region around a pixel, for around */
     uint16_t *shelf; /* a room's buffer, where open_room made it, with eight films like this one stored; `map` is its end */
     tz_room all, but_one; /* its record with all of them, and without the last */
     tz_room room;         /* the one that the calls change */
@@ -78,6 +79,7 @@ void lay_out_bytes(struct bench *b);
  * near one:  prepare at the factor 1.0001, and so is its record not that of the settings.
  * of 1986:   prepare by the clip rule of 1986, and so is its record not that of the settings.
  * map:       mapping from the counts. It wants counting before it; the mappings go to `mapped`.
+ * around:    the film rendered into `drawn`, with a region of the side `region` around each pixel.
  * to raw:    the plain file read, and written as raw; to plain the other way round. They want open_plain before them.
  * store:     the film stored as the last of eight; room draw draws it from there; drop takes the first one out, so that
  *            seven move down, and move is what memmove takes for these. They want open_room before them.
@@ -92,6 +94,7 @@ long call_of_1986(struct bench *b);
 long call_count(struct bench *b);
 long call_map(struct bench *b);
 long call_draw(struct bench *b);
+long call_around(struct bench *b);
 long call_write(struct bench *b);
 long call_read(struct bench *b);
 long call_to_raw(struct bench *b);
@@ -121,6 +124,12 @@ void check_room(struct bench *b);
 
 /* Ends the program where the plain engine's picture or footer is not enhance's. */
 void check_direct(struct bench *b);
+
+/*
+ * Behind around: ends the program where the grey that it left for a pixel is not the one that mapping gives for the counts of the
+ * pixel's region, counted anew. Corners, borders and some pixels inside are looked at.
+ */
+void check_around(struct bench *b);
 
 /* Ends the program where a film moved from raw to plain and back, or from plain to raw, is not the same bytes. */
 void check_plain(struct bench *b);

@@ -1,7 +1,8 @@
 """The worked numbers of document 01, "Numbers to check by hand", one by one,
 as document 02's orders 2 and 3 change them, the profile of its order 1, the
 counting and mapping of its order 5, the films of any size of its order 6, the
-looks of its order 7, and the clip rule of 1986 of its order 8.
+looks of its order 7, the clip rule of 1986 of its order 8, and the regions of
+its order 13.
 
 Run: python3 second/test_worked.py   (prints the number of checks)
 """
@@ -12,6 +13,7 @@ import sys
 
 sys.dont_write_bytecode = True
 
+import around
 import clahe
 import listing
 import pgm
@@ -781,6 +783,31 @@ def larges():
             same(stored["%d by %d pixels%s: %s" % (side, side, where, how)], str(wanted))
 
 
+def regions():
+    """Order 13: side 3 on the 4 by 4 film of the listing, 4 bins, range 0 to
+    15, factor 2, worked by hand: N, L, the counts, the clipped counts and the
+    grey of three pixels, in both editions."""
+    film = [0, 0, 0, 4, 0, 0, 8, 12, 15, 15, 0, 0, 15, 15, 15, 15]
+    for x, y, pixels, limit, counts, ours, grey, olders_, older_grey in (
+            (0, 0, 4, 2, [4, 0, 0, 0], [2, 1, 1, 0], 7, [2, 1, 1, 1], 6),
+            (1, 1, 9, 4, [6, 0, 1, 2], [4, 1, 2, 2], 6, [4, 1, 2, 3], 6),
+            (2, 1, 9, 4, [5, 1, 1, 2], [4, 2, 1, 2], 11, [4, 2, 2, 3], 10)):
+        own = around.region(4, 4, 3, x, y)
+        settings = clahe.Settings(0, 0, 4, 0, 15, f32(2.0))
+        same(clahe.pixels_of(own), pixels)
+        same(clahe.limit_of(f32(2.0), pixels, 4), limit)
+        same(clahe.tile_counts(film, 4, own, settings), counts)
+        same(clahe.clipped(counts, limit)[0], ours)
+        same(clahe.older(counts, limit), olders_)
+        same(around.grey(4, 4, film, 3, settings, x, y), grey)
+        same(around.grey(4, 4, film, 3, settings._replace(edition=clahe.OF_1986), x, y), older_grey)
+    # "The footer shows the region of column 0, row 0", cut off on two sides.
+    same(around.footer_of(4, 4, 3, clahe.Settings(0, 0, 4, 0, 15, f32(2.0))),
+         clahe.Footer(2, f32(2.0), clahe.f64_bits(2.0)))
+    # "39, side even or not 3 to 63"
+    same([side for side in range(70) if around.refusal_of_side(side) == 0], list(range(3, 64, 2)))
+
+
 if __name__ == "__main__":
     limits()
     clips()
@@ -801,4 +828,5 @@ if __name__ == "__main__":
     sizes()
     fitted()
     larges()
+    regions()
     print("%d checks hold" % checks)

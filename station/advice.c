@@ -40,8 +40,14 @@ static int sparse(const struct run *run) { return 2 * run->seen.distinct < tz_bi
 
 static int unheld(const struct run *run)
 {
+    return !factor_holds(&run->settings, judged_pixels(run), tz_bins_of(&run->settings));
+}
+
+/* Around each pixel: so many bins that patches show. */
+static int patchy(const struct run *run)
+{
     const tz_settings *s = &run->settings;
-    return !factor_holds(s, least_tile(s, run->sizes.width, run->sizes.height), tz_bins_of(s));
+    return is_around(run) && s->clip && s->factor > 1.0f && tz_bins_of(s) > most_around(judged_pixels(run));
 }
 
 static uint32_t least(uint32_t a, uint32_t b) { return a < b ? a : b; }
@@ -51,7 +57,7 @@ static uint32_t least(uint32_t a, uint32_t b) { return a < b ? a : b; }
 /* A bin for each grey that occurs, where these stand evenly apart, and else no more than twice as many as there are. */
 static uint32_t most_bins(const struct run *run, const tz_settings *better)
 {
-    uint32_t most = least(greys_in(better), 1024), gap = run->seen.gap;
+    uint32_t most = least(greys_in(better), is_around(run) ? most_around(judged_pixels(run)) : 1024), gap = run->seen.gap;
     if (!sparse(run) || flat(run))
         return most;
     most = least(most, least((greys_in(better) + gap - 1) / gap, 2 * run->seen.distinct));
@@ -78,6 +84,10 @@ static tz_settings better_settings(const struct run *run)
         better.max = run->seen.greatest;
     }
     uint32_t most = most_bins(run, &better), tiles = TZ_MOST_GRID;
+    if (is_around(run)) {
+        better.bins = bins_that_hold(&better, judged_pixels(run), most);
+        return better;
+    }
     while (tiles >= TZ_LEAST_GRID && !with_tiles(run, tiles, most, &better))
         tiles--;
     if (tiles < TZ_LEAST_GRID)
@@ -96,7 +106,9 @@ static void words_for(const struct run *run, const tz_settings *better, char *te
     if (better->across != s->across || better->down != s->down)
         at += (size_t)snprintf(text + at, room - at, " --grid %ux%u", (unsigned)better->across, (unsigned)better->down);
     int asked = (run->job->given & (BINS | BYTES)) != 0 && better->bins != tz_bins_of(s);
-    if (asked || better->bins != chosen_bins(better, run->sizes.width, run->sizes.height))
+    uint32_t anyway = is_around(run) ? chosen_around(better, run->job->side, run->sizes.width, run->sizes.height)
+                                     : chosen_bins(better, run->sizes.width, run->sizes.height);
+    if (asked || better->bins != anyway)
         at += (size_t)snprintf(text + at, room - at, " --bins %u", (unsigned)better->bins);
     if (at > 0 && (run->job->given & BYTES) != 0)
         snprintf(text + at, room - at, ", without --bytes");
@@ -120,19 +132,27 @@ static void warn_of_greys(const struct run *run, const char *name, const char *m
              (unsigned)tz_bins_of(&run->settings));
 }
 
+static void warn_of_bins(const struct run *run, const char *name, const char *mark)
+{
+    unsigned bins = (unsigned)tz_bins_of(&run->settings), pixels = (unsigned)judged_pixels(run);
+    if (unheld(run))
+        tell("%s%swarning: the factor used is %.3g, and %.9g was asked: a %s has %u pixels and %u bins", name, mark,
+             is_around(run) ? factor_used(&run->settings, pixels, bins) : run->footer.used, (double)run->footer.asked,
+             is_around(run) ? "region" : "tile", pixels, bins);
+    if (patchy(run))
+        tell("%s%swarning: a region has %u pixels and %u bins: so many show patches that are not in the film", name, mark, pixels,
+             bins);
+}
+
 void advise(const struct run *run)
 {
     char text[128];
     int named = (run->job->given & INTO) != 0;
     const char *name = named ? run->task.in : "", *mark = named ? ": " : "";
-    if (!thin(run) && !sparse(run) && !unheld(run))
+    if (!thin(run) && !sparse(run) && !unheld(run) && !patchy(run))
         return;
     warn_of_greys(run, name, mark);
-    if (unheld(run))
-        tell("%s%swarning: the factor used is %.3g, and %.9g was asked: a tile has %u pixels and %u bins", name, mark,
-             run->footer.used, (double)run->footer.asked,
-             (unsigned)least_tile(&run->settings, run->sizes.width, run->sizes.height),
-             (unsigned)tz_bins_of(&run->settings));
+    warn_of_bins(run, name, mark);
     tz_settings better = better_settings(run);
     words_for(run, &better, text, sizeof text);
     if (text[0] != '\0')

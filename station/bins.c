@@ -3,6 +3,10 @@
 /* The most bins that are taken where none are asked for. More were measured to bring nothing. */
 #define MOST_CHOSEN_BINS 1024u
 
+/* The same around each pixel, where every bin costs time at every pixel, and the number below which bins get too wide. */
+#define MOST_BINS_AROUND 256u
+#define LEAST_BINS_AROUND 64u
+
 /* A refused factor clips nothing, and neither does 1.0. */
 static int clips(const tz_settings *s) { return s->clip && s->factor > 1.0f && s->factor <= 1024.0f; }
 
@@ -10,6 +14,19 @@ uint32_t least_tile(const tz_settings *s, uint32_t width, uint32_t height)
 {
     uint32_t wide = s->across == 0 ? width : width / s->across, high = s->down == 0 ? height : height / s->down;
     return wide == 0 || high == 0 ? 1 : wide * high;
+}
+
+static uint32_t least(uint32_t a, uint32_t b) { return a < b ? a : b; }
+
+uint32_t whole_region(uint32_t side, uint32_t width, uint32_t height)
+{
+    return side == 0 ? 1 : least(side, width) * least(side, height);
+}
+
+uint32_t most_around(uint32_t pixels)
+{
+    uint32_t eighth = pixels / 8;
+    return eighth < LEAST_BINS_AROUND ? LEAST_BINS_AROUND : least(eighth, MOST_BINS_AROUND);
 }
 
 static uint32_t rounded_up(uint32_t a, uint32_t b) { return a / b + (a % b != 0); }
@@ -23,6 +40,8 @@ static double counted(const tz_settings *s, uint32_t pixels, uint32_t bins)
     uint32_t room = rounded_up(pixels, bins);
     return (double)(limit > room ? limit : room) * bins;
 }
+
+double factor_used(const tz_settings *s, uint32_t pixels, uint32_t bins) { return counted(s, pixels, bins) / pixels; }
 
 /* How far the factor used is above the one asked, in pixels of the tile. */
 static double above(const tz_settings *s, uint32_t pixels, uint32_t bins)
@@ -74,6 +93,12 @@ uint32_t bins_that_hold(const tz_settings *s, uint32_t pixels, uint32_t most)
 uint32_t chosen_bins(const tz_settings *s, uint32_t width, uint32_t height)
 {
     return bins_that_hold(s, least_tile(s, width, height), bins_by_range(s));
+}
+
+uint32_t chosen_around(const tz_settings *s, uint32_t side, uint32_t width, uint32_t height)
+{
+    uint32_t pixels = whole_region(side, width, height);
+    return bins_that_hold(s, pixels, least(bins_by_range(s), most_around(pixels)));
 }
 
 uint32_t chosen_byte_bins(const tz_settings *s, uint32_t width, uint32_t height)

@@ -5,9 +5,9 @@
 #include <string.h>
 #include <unistd.h>
 
-#include "direct.h"
 #include "messages.h"
 #include "outputs.h"
+#include "painting.h"
 #include "refuse.h"
 #include "watch.h"
 
@@ -221,7 +221,7 @@ static int compare_parts(const struct run *run, const tz_window *part)
 static int print_verdict(const struct run *run, const char *where, const char *more)
 {
     char words[SETTINGS_TEXT], text[1024];
-    settings_words(&run->settings, words);
+    settings_words(run, words);
     if ((run->job->given & QUIET) != 0)
         return 0;
     int count = snprintf(text, sizeof text, "both engines agree%s: %u by %u pixels, %s\n%s", where, (unsigned)run->sizes.width,

@@ -86,7 +86,7 @@ try() { # WHAT WANTED WORDS..
     shift 2
     cp before "$out"
     case ${1:-} in
-    enhance | window | direct | raw | plain) over "$@" >wrote 2>said ;;
+    enhance | window | around | direct | raw | plain) over "$@" >wrote 2>said ;;
     *) timeout 120 "$tz" "$@" >wrote 2>said ;;
     esac
     judge "$what" "$wanted" $?
@@ -363,6 +363,7 @@ fi
 . "$top/station/faults/verify.sh"
 . "$top/station/faults/edition.sh"
 . "$top/station/faults/direct.sh"
+. "$top/station/faults/around.sh"
 . "$top/station/faults/plain.sh"
 . "$top/station/faults/batch.sh"
 

@@ -7,9 +7,9 @@
 
 #include "bins.h"
 #include "check.h"
-#include "direct.h"
 #include "messages.h"
 #include "outputs.h"
+#include "painting.h"
 #include "png.h"
 #include "record.h"
 #include "refuse.h"
@@ -113,6 +113,15 @@ static void settle_own_range(struct run *run)
     run->settings.max = flat ? run->sizes.maxval : greys.greatest;
 }
 
+static uint32_t chosen(const struct run *run)
+{
+    const tz_settings *s = &run->settings;
+    uint32_t width = run->sizes.width, height = run->sizes.height;
+    if (is_around(run))
+        return chosen_around(s, run->job->side, width, height);
+    return (run->job->given & BYTES) != 0 ? chosen_byte_bins(s, width, height) : chosen_bins(s, width, height);
+}
+
 /* Settles by the film what the words leave open. */
 static void settle(struct run *run)
 {
@@ -124,8 +133,7 @@ static void settle(struct run *run)
     if ((run->job->given & OWN_RANGE) != 0)
         settle_own_range(run);
     if ((run->job->given & BINS) == 0)
-        s->bins = (run->job->given & BYTES) != 0 ? chosen_byte_bins(s, run->sizes.width, run->sizes.height)
-                                                 : chosen_bins(s, run->sizes.width, run->sizes.height);
+        s->bins = chosen(run);
 }
 
 /* Reads the film, settles the settings and lends map and scratch. */
@@ -145,7 +153,7 @@ static int begin(struct run *run)
         run->byte_map = calloc(entries, sizeof *run->byte_map);
     else
         run->map = calloc(entries, sizeof *run->map);
-    run->scratch = calloc(tz_scratch_entries(s) + 1, sizeof *run->scratch);
+    run->scratch = calloc(tz_around_scratch(s) + 1, sizeof *run->scratch); /* what any of the calls takes */
     run->looks = calloc(tz_looks_entries(s) + 1, sizeof *run->looks);
     return (run->map == NULL && run->byte_map == NULL) || run->scratch == NULL || run->looks == NULL ? no_memory() : 0;
 }
@@ -157,18 +165,23 @@ static void widen(const uint8_t *from, size_t count, uint16_t *to)
         to[i] = from[i];
 }
 
-/* Whether clipping had limits that may differ: by their pixels, where not all tiles have as many. */
-static int limits_differ(const struct run *run)
+/* Whose limit it is, where clipping had limits that may differ: by their pixels, where not all tiles or regions have as many. */
+static const char *whose_limit(const struct run *run)
 {
     const tz_settings *s = &run->settings;
-    return run->footer.limit > 0 && (run->sizes.width % s->across != 0 || run->sizes.height % s->down != 0);
+    uint32_t width = run->sizes.width, height = run->sizes.height, half = run->job->side / 2;
+    if (run->footer.limit == 0)
+        return "";
+    if (is_around(run))
+        return width > half + 1 || height > half + 1 ? " (of the region of column 0, row 0; others are larger)" : "";
+    return width % s->across != 0 || height % s->down != 0 ? " (of tile 0, 0; some tiles are larger)" : "";
 }
 
 /* All settings, as words that give the same film again. */
 static void tell_settings(const struct run *run, const char *name, const char *mark)
 {
     char words[SETTINGS_TEXT];
-    settings_words(&run->settings, words);
+    settings_words(run, words);
     tell("%s%s%u by %u pixels, maxval %u: %s%s", name, mark, (unsigned)run->sizes.width, (unsigned)run->sizes.height,
          (unsigned)run->sizes.maxval, words, run->film != NULL ? " --bytes" : "");
 }
@@ -184,11 +197,11 @@ static void tell_footer(const struct run *run)
     if ((run->job->given & OWN_RANGE) != 0)
         tell("%s%srange %u to %u, the film's own", name, mark, (unsigned)run->settings.min, (unsigned)run->settings.max);
     if ((run->job->given & BINS) == 0)
-        tell("%s%sbins %u, chosen by the range %u to %u and tiles of %u pixels", name, mark,
+        tell("%s%sbins %u, chosen by the range %u to %u and %s of %u pixels", name, mark,
              (unsigned)run->settings.bins, (unsigned)run->settings.min, (unsigned)run->settings.max,
-             (unsigned)least_tile(&run->settings, run->sizes.width, run->sizes.height));
+             is_around(run) ? "regions" : "tiles", (unsigned)judged_pixels(run));
     tell("%s%slimit %u, factor asked %.9g, factor used %.17g%s%s", name, mark, (unsigned)footer->limit,
-         (double)footer->asked, footer->used, limits_differ(run) ? " (of tile 0, 0; some tiles are larger)" : "",
+         (double)footer->asked, footer->used, whose_limit(run),
          run->settings.edition == TZ_OURS ? "" : ", edition of 1986");
 }
 
@@ -325,10 +338,10 @@ static int window(struct run *run)
     return refusal == TZ_DONE ? write_film(run, run->drawn, &sizes) : refuse(refusal, run);
 }
 
-/* ---- the plain engine ---- */
+/* ---- pixel by pixel ---- */
 
-/* Nothing of the fast engine is asked but, for a record, what it lists of the tiles. */
-static int direct(struct run *run)
+/* Direct and around. Nothing of the fast engine is asked but, for a record of direct, what it lists of the tiles. */
+static int by_pixels(struct run *run)
 {
     tz_record record;
     int code = begin(run);
@@ -338,7 +351,7 @@ static int direct(struct run *run)
     if (run->drawn == NULL)
         return no_memory();
     struct painting p = painting_of(run, run->drawn);
-    uint32_t refusal = run->task.record != NULL ? prepare(run, &record) : TZ_DONE;
+    uint32_t refusal = run->task.record != NULL && !is_around(run) ? prepare(run, &record) : TZ_DONE;
     if (refusal == TZ_DONE) {
         tell_time(&p);
         refusal = paint(&p);
@@ -493,7 +506,8 @@ int run_film(const struct job *job, const struct task *task)
 {
     static int (*const commands[])(struct run *) = {
         [ENHANCE] = enhance, [WINDOW] = window, [LISTING] = listing, [INFO] = info,
-        [RAW] = move,        [PLAIN] = move,    [DIRECT] = direct,   [CHECK] = check};
+        [RAW] = move,        [PLAIN] = move,    [DIRECT] = by_pixels, [CHECK] = check,
+        [AROUND] = by_pixels};
     struct run run = {.job = job, .task = *task, .settings = job->settings};
     int code = commands[job->command](&run);
     end_progress();

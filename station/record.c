@@ -18,12 +18,16 @@ static void add_file(struct text *t, const char *what, const char *name, const c
         digest, count, (unsigned)sizes->width, (unsigned)sizes->height, (unsigned)sizes->maxval);
 }
 
-/* All settings as used: bins 0 stands as 128, and a factor that does not count as null. */
+/* All settings as used: a grid or the side of regions; bins 0 stands as 128, and a factor that does not count as null. */
 static void add_settings(struct text *t, const struct run *run)
 {
     const tz_settings *s = &run->settings;
-    add(t, "  \"settings\": {\n    \"across\": %u,\n    \"down\": %u,\n    \"bins\": %u,\n    \"min\": %u,\n    \"max\": %u,\n",
-        (unsigned)s->across, (unsigned)s->down, (unsigned)tz_bins_of(s), (unsigned)s->min, (unsigned)s->max);
+    add(t, "  \"settings\": {\n");
+    if (is_around(run))
+        add(t, "    \"side\": %u,\n", (unsigned)run->job->side);
+    else
+        add(t, "    \"across\": %u,\n    \"down\": %u,\n", (unsigned)s->across, (unsigned)s->down);
+    add(t, "    \"bins\": %u,\n    \"min\": %u,\n    \"max\": %u,\n", (unsigned)tz_bins_of(s), (unsigned)s->min, (unsigned)s->max);
     add(t, "    \"clip\": %s,\n    \"factor\": ", s->clip ? "true" : "false");
     if (s->clip)
         add(t, "%.9g", (double)s->factor);
@@ -54,6 +58,22 @@ static void add_tiles(struct text *t, const struct run *run, const char *what, s
     add(t, "]%s\n", end);
 }
 
+/* Both numbers of all tiles. Regions are as many as pixels, and none are listed. */
+static void add_lists(struct text *t, const struct run *run)
+{
+    if (is_around(run))
+        return;
+    add(t, ",\n  \"tiles\": {\n");
+    add_tiles(t, run, "excess", 0, ",");
+    add_tiles(t, run, "looks", 1, "");
+    add(t, "  }");
+}
+
+static const char *command_name(enum command command)
+{
+    return command == WINDOW ? "window" : command == DIRECT ? "direct" : command == AROUND ? "around" : "enhance";
+}
+
 char *record_text(const struct run *run, const tz_sizes *sizes, const uint8_t *file, size_t count)
 {
     char digest[SHA256_TEXT];
@@ -63,16 +83,15 @@ char *record_text(const struct run *run, const tz_sizes *sizes, const uint8_t *f
     if (t.at == NULL)
         return NULL;
     add(&t, "{\n  \"program\": \"tzofnadir\",\n  \"version\": \"%s\",\n  \"command\": \"%s\",\n", TZ_VERSION,
-        run->job->command == WINDOW ? "window" : run->job->command == DIRECT ? "direct" : "enhance");
+        command_name(run->job->command));
     add_file(&t, "input", run->task.in, run->digest, run->input.len, &run->sizes);
     sha256_text(file, count, digest);
     add_file(&t, "output", run->task.out, digest, count, sizes);
     add_settings(&t, run);
     add_window(&t, run);
-    add(&t, "  \"limit\": %u,\n  \"factor_asked\": %.9g,\n  \"factor_used\": %.17g,\n  \"tiles\": {\n",
-        (unsigned)run->footer.limit, (double)run->footer.asked, run->footer.used);
-    add_tiles(&t, run, "excess", 0, ",");
-    add_tiles(&t, run, "looks", 1, "");
-    add(&t, "  }\n}\n");
+    add(&t, "  \"limit\": %u,\n  \"factor_asked\": %.9g,\n  \"factor_used\": %.17g", (unsigned)run->footer.limit,
+        (double)run->footer.asked, run->footer.used);
+    add_lists(&t, run);
+    add(&t, "\n}\n");
     return t.at;
 }

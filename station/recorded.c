@@ -74,6 +74,20 @@ static const char *read_edition(struct json settings, tz_settings *out)
     return NULL;
 }
 
+/* A grid, or in its place the side of the region around each pixel; a record that has both is none. */
+static const char *read_place(struct json settings, struct recorded *out)
+{
+    struct json value;
+    tz_settings *to = &out->settings;
+    out->is_around = json_member(settings, "side", &value);
+    if (out->is_around && (json_member(settings, "across", &value) || json_member(settings, "down", &value)))
+        return "side";
+    if (out->is_around)
+        return whole_member(settings, "side", &out->side);
+    const char *missing = whole_member(settings, "across", &to->across);
+    return missing != NULL ? missing : whole_member(settings, "down", &to->down);
+}
+
 static const char *read_settings(struct json record, struct recorded *out)
 {
     struct json s, value;
@@ -81,9 +95,12 @@ static const char *read_settings(struct json record, struct recorded *out)
     const struct {
         const char *name;
         uint32_t *to;
-    } rows[] = {{"across", &to->across}, {"down", &to->down}, {"bins", &to->bins}, {"min", &to->min}, {"max", &to->max}};
+    } rows[] = {{"bins", &to->bins}, {"min", &to->min}, {"max", &to->max}};
     if (!json_member(record, "settings", &s))
         return "settings";
+    const char *place = read_place(s, out);
+    if (place != NULL)
+        return place;
     for (unsigned i = 0; i < sizeof rows / sizeof rows[0]; i++)
         if (whole_member(s, rows[i].name, rows[i].to) != NULL)
             return rows[i].name;
@@ -98,6 +115,8 @@ static const char *read_window(struct json record, struct recorded *out)
     tz_window *to = &out->window;
     if (!json_member(record, "window", &w) || json_is(w, "null"))
         return NULL;
+    if (out->is_around) /* no part alone is rendered so */
+        return "window";
     out->has_window = 1;
     return whole_member(w, "left", &to->left) != NULL || whole_member(w, "top", &to->top) != NULL ||
                    whole_member(w, "width", &to->width) != NULL || whole_member(w, "height", &to->height) != NULL

@@ -17,6 +17,8 @@ struct recorded {
     char version[32];
     struct recorded_file scan, rendering;
     tz_settings settings;
+    int is_around; /* by regions of this side, and it has no grid */
+    uint32_t side;
     int by_bytes;
     int has_window;
     tz_window window;

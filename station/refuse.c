@@ -48,12 +48,16 @@ static void way_by_range(const struct run *run, struct span greys)
 static void more_settings(const struct run *run)
 {
     const tz_settings *s = &run->settings;
-    char clip[32] = "off";
+    char by[48], clip[32] = "off";
+    if (is_around(run))
+        snprintf(by, sizeof by, "--side %u", (unsigned)run->job->side);
+    else
+        snprintf(by, sizeof by, "--grid %ux%u", (unsigned)s->across, (unsigned)s->down);
     if (s->clip)
         snprintf(clip, sizeof clip, "%.9g", (double)s->factor);
-    say_more("The settings were --grid %ux%u --bins %u --range %u:%u (%u greys) --clip %s --edition %s.",
-             (unsigned)s->across, (unsigned)s->down, (unsigned)tz_bins_of(s), (unsigned)s->min, (unsigned)s->max,
-             s->max >= s->min ? (unsigned)(s->max - s->min) + 1u : 0u, clip, s->edition == TZ_OURS ? "ours" : "1986");
+    say_more("The settings were %s --bins %u --range %u:%u (%u greys) --clip %s --edition %s.", by, (unsigned)tz_bins_of(s),
+             (unsigned)s->min, (unsigned)s->max, s->max >= s->min ? (unsigned)(s->max - s->min) + 1u : 0u, clip,
+             s->edition == TZ_OURS ? "ours" : "1986");
 }
 
 static void more_profile(const struct run *run)
@@ -91,6 +95,18 @@ static void more_sides(const struct run *run)
     if (across >= TZ_LEAST_GRID && down >= TZ_LEAST_GRID)
         say_more("--grid %ux%u%s is the nearest that fits.", (unsigned)across, (unsigned)down,
                  (run->job->given & BYTES) != 0 ? " without --bytes" : "");
+}
+
+/* A side that is even lies between two that are taken, or at an end. */
+static void more_side(const struct run *run)
+{
+    uint32_t side = run->job->side, end = side < TZ_LEAST_REGION ? TZ_LEAST_REGION : TZ_MOST_REGION;
+    say_more("Asked was a side of %u; odd ones from %u to %u are taken, so that the pixel is in the region's middle.",
+             (unsigned)side, TZ_LEAST_REGION, TZ_MOST_REGION);
+    if (side > TZ_LEAST_REGION && side < TZ_MOST_REGION)
+        say_more("--side %u and --side %u are the nearest.", (unsigned)side - 1, (unsigned)side + 1);
+    else
+        say_more("--side %u is the nearest.", end);
 }
 
 static void more_range(const struct run *run)
@@ -331,7 +347,7 @@ static more_function more_of(uint32_t refusal)
         [TZ_PIXEL_OUTSIDE] = more_pixel, [TZ_WINDOW] = more_window,      [TZ_HEADER] = more_header,
         [TZ_COMMENT] = more_comment,     [TZ_FILE_SIZE] = more_size,     [TZ_MAXVAL] = more_maxval,
         [TZ_RASTER_SHORT] = more_short,  [TZ_RASTER_LONG] = more_long,   [TZ_SAMPLE] = more_sample,
-        [TZ_BINS_UNREACHED] = more_bins, [TZ_PROFILE] = more_profile,
+        [TZ_BINS_UNREACHED] = more_bins, [TZ_PROFILE] = more_profile,    [TZ_REGION_SIDE] = more_side,
     };
     more_function found = refusal < sizeof more / sizeof more[0] ? more[refusal] : NULL;
     return found != NULL ? found : more_settings;

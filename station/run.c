@@ -2,6 +2,8 @@
 
 #include <stdio.h>
 
+#include "bins.h"
+
 struct span span_of(const uint16_t *picture, size_t pixels)
 {
     struct span s = {picture[0], picture[0]};
@@ -14,13 +16,26 @@ struct span span_of(const uint16_t *picture, size_t pixels)
     return s;
 }
 
-void settings_words(const tz_settings *s, char text[SETTINGS_TEXT])
+int is_around(const struct run *run) { return run->job->command == AROUND; }
+
+uint32_t judged_pixels(const struct run *run)
 {
-    char clip[32] = "off";
+    return is_around(run) ? whole_region(run->job->side, run->sizes.width, run->sizes.height)
+                          : least_tile(&run->settings, run->sizes.width, run->sizes.height);
+}
+
+void settings_words(const struct run *run, char text[SETTINGS_TEXT])
+{
+    const tz_settings *s = &run->settings;
+    char by[48], clip[32] = "off";
+    if (is_around(run))
+        snprintf(by, sizeof by, "--side %u", (unsigned)run->job->side);
+    else
+        snprintf(by, sizeof by, "--grid %ux%u", (unsigned)s->across, (unsigned)s->down);
     if (s->clip)
         snprintf(clip, sizeof clip, "%.9g", (double)s->factor);
-    snprintf(text, SETTINGS_TEXT, "--grid %ux%u --bins %u --range %u:%u --clip %s%s", (unsigned)s->across, (unsigned)s->down,
-             (unsigned)tz_bins_of(s), (unsigned)s->min, (unsigned)s->max, clip, s->edition == TZ_OURS ? "" : " --edition 1986");
+    snprintf(text, SETTINGS_TEXT, "%s --bins %u --range %u:%u --clip %s%s", by, (unsigned)tz_bins_of(s), (unsigned)s->min,
+             (unsigned)s->max, clip, s->edition == TZ_OURS ? "" : " --edition 1986");
 }
 
 /* Refusals 5 and 6, the other way round. */

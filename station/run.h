@@ -36,7 +36,7 @@ struct run {
     uint8_t *byte_map;
     uint32_t *scratch;
     uint64_t *looks; /* of each tile, its excess and the looks of its leftover walk */
-    uint16_t *drawn; /* the window's pixels, or the plain engine's */
+    uint16_t *drawn; /* the window's pixels, or those that were worked out one by one */
     uint8_t *byte_drawn;
     uint8_t *file; /* the output */
     char *record; /* or what is printed of the film */
@@ -50,9 +50,15 @@ struct span {
 
 struct span span_of(const uint16_t *picture, size_t pixels);
 
+/* Whether each pixel has a region of its own, in the place of the grid. */
+int is_around(const struct run *run);
+
+/* The pixels by which a factor and bins are judged: those of the least tile, or of a whole region, as nearly all have it. */
+uint32_t judged_pixels(const struct run *run);
+
 /* Settings as words that give the same film again. */
 #define SETTINGS_TEXT 160
-void settings_words(const tz_settings *s, char text[SETTINGS_TEXT]);
+void settings_words(const struct run *run, char text[SETTINGS_TEXT]);
 
 /* The numbers of tiles that fit a side of this many pixels, as text. */
 void grids_that_fit(uint32_t side, char *text, size_t room);

@@ -9,7 +9,7 @@
  *   check.c                     the fast engine held to the plain one
  *   guard.c                     no scan is overwritten
  *   refuse.c, record.c, png.c   what is said of a film, written down of it, and made of it
- *   direct.c, watch.c           the plain engine; how long it takes, and how far it is
+ *   painting.c, watch.c         films painted pixel by pixel; how long that takes, and how far it is
  *   run.c, front.c              what a film's run holds; a file's header and samples, read for a message
  *   outputs.c, parts.c          files put away whole
  *   files.c, places.c           bytes and names
@@ -35,7 +35,7 @@ static int print(const char *text)
 
 int main(int argc, char **argv)
 {
-    struct job job = {.settings = {.across = 8, .down = 8, .clip = 1, .factor = 3.0f}};
+    struct job job = {.side = 31, .settings = {.across = 8, .down = 8, .clip = 1, .factor = 3.0f}};
     if (hold_streams() != 0)
         return IO_FAULT;
     watch_signals();

@@ -33,7 +33,7 @@ extern "C" {
 #endif
 
 /* The edition of this header and of the library, as in the file VERSION. */
-#define TZ_VERSION "4.12.0"
+#define TZ_VERSION "4.13.0"
 
 /* The functions with bodies are compiled into what includes this header. station/structs.c, which is a part of the library,
    says otherwise, and so they have names in it as well. */
@@ -54,6 +54,8 @@ const char *tz_version(void);
 #define TZ_MOST_BINS 4096u
 #define TZ_USUAL_BINS 128u    /* what bins 0 means */
 #define TZ_ROOM_SETS 8u       /* the films that one room holds */
+#define TZ_LEAST_REGION 3u    /* the side of the region around a pixel, which is odd */
+#define TZ_MOST_REGION 63u
 #define TZ_WRITE_HEADER 18u   /* the longest header that tz_write lays down: "P5\n4096 4096\n4095\n" */
 #define TZ_PLAIN_SAMPLE 5u    /* the longest sample that tz_write_plain lays down: "4095\n" */
 #define TZ_LISTING_BYTES 512u /* what tz_listing wants lent */
@@ -73,7 +75,7 @@ enum tz_refusal {
     TZ_BINS = 9,             /* bins 1 or above 4096 */
     TZ_FACTOR = 10,          /* factor NaN, infinite, below 1.0 or above 1024.0 */
     TZ_MAP_SHORT = 11,       /* map buffer shorter than (grid across) x (grid down) x B */
-    TZ_SCRATCH_SHORT = 12,   /* scratch shorter than B */
+    TZ_SCRATCH_SHORT = 12,   /* scratch shorter than B; around: than 2 x B */
     TZ_PIXEL_OUTSIDE = 13,   /* a pixel outside Min to Max */
     TZ_RECORD = 15,          /* record differs in film number, size or any setting, the edition too, or in an edge or centre */
     TZ_WINDOW = 16,          /* window empty or not inside the film */
@@ -96,6 +98,7 @@ enum tz_refusal {
     TZ_ROOM_FULL = 36,       /* store: eight films are stored */
     TZ_ROOM_SHORT = 37,      /* store: the free entries of the room's buffer are fewer than the set needs */
     TZ_NOT_STORED = 38,      /* a room's draw or drop: the film's number is not stored */
+    TZ_REGION_SIDE = 39,     /* around: side even or not 3 to 63 */
     TZ_ROOM_RECORD = 40      /* a room record with over eight sets, a number twice, or sets that end to end exceed the buffer */
 };
 
@@ -115,7 +118,7 @@ TZ_FUNCTION const char *tz_refusal_text(uint32_t refusal)
         "The number of bins is 1 or above 4096.",
         "The clip factor is not a number from 1.0 to 1024.0.",
         "The map buffer is shorter than the grid across times the grid down times the bins.",
-        "The scratch buffer is shorter than the bins.",
+        "The scratch buffer is shorter than the bins, or, around each pixel, than twice the bins.",
         "A pixel of the film lies outside the grey range.",
         "There is no refusal of this number.",
         "The mappings are those of another film, another size, other settings, another edition or other tiles.",
@@ -142,7 +145,7 @@ TZ_FUNCTION const char *tz_refusal_text(uint32_t refusal)
         "Eight films are stored in the room, and it holds no more.",
         "The free entries of the room's buffer are fewer than this film needs.",
         "No film of this number is stored in the room.",
-        "There is no refusal of this number.",
+        "The side of the region around a pixel is even or not 3 to 63.",
         "The room's record has more than eight films, a number twice, or films that end to end exceed the buffer.",
     };
     return refusal < sizeof text / sizeof text[0] ? text[refusal] : text[19];
@@ -244,6 +247,11 @@ uint32_t tz_enhance(uint32_t width, uint32_t height, uint16_t *picture, size_t p
 uint32_t tz_direct(uint32_t width, uint32_t height, const uint16_t *picture, size_t picture_len,
                    uint32_t across, uint32_t down, uint32_t bins, uint32_t min, uint32_t max,
                    uint32_t clip, float factor,
+                   uint16_t *target, size_t target_len, uint32_t *scratch, size_t scratch_len,
+                   uint32_t *limit, float *asked, double *used, uint32_t edition);
+
+uint32_t tz_around(uint32_t width, uint32_t height, const uint16_t *picture, size_t picture_len, uint32_t side,
+                   uint32_t bins, uint32_t min, uint32_t max, uint32_t clip, float factor,
                    uint16_t *target, size_t target_len, uint32_t *scratch, size_t scratch_len,
                    uint32_t *limit, float *asked, double *used, uint32_t edition);
 
@@ -351,6 +359,12 @@ TZ_FUNCTION uint32_t tz_bins_of(const tz_settings *s)
 TZ_FUNCTION size_t tz_scratch_entries(const tz_settings *s)
 {
     return tz_bins_of(s) < TZ_MOST_BINS ? tz_bins_of(s) : TZ_MOST_BINS;
+}
+
+/* Entries of the scratch buffer of around: twice the bins. Never above 8192, for the same reason. */
+TZ_FUNCTION size_t tz_around_scratch(const tz_settings *s)
+{
+    return 2 * tz_scratch_entries(s);
 }
 
 /* Entries of the map buffer. Never above 16 x 16 x 4096, for the same reason. */
@@ -508,6 +522,41 @@ TZ_FUNCTION uint32_t tzofnadir_direct(uint32_t width, uint32_t height, const uin
     uint32_t refusal = tz_direct(width, height, picture, picture_len, s->across, s->down, s->bins, s->min, s->max,
                                  s->clip, s->factor, target, target_len, scratch, scratch_len, &limit, &asked, &used,
                                  s->edition);
+    if (refusal == TZ_DONE)
+        *footer = tz_footer_of(limit, asked, used);
+    return refusal;
+}
+
+/*
+ * Around: the whole film with a window around each pixel. Every pixel has a region of its own in the place of tiles: the
+ * square of `side` pixels whose middle it is, cut off at the film's border. `target` then holds, for each pixel, the mapping of
+ * its own bin by the counts of its region, with a limit by the pixels that are left of it; nothing is blended. `picture` stays
+ * as it is. `footer` is that of the region of column 0, row 0, which is cut off on two sides and has the fewest pixels. The first
+ * (2 x bins) entries of `scratch` are 0, all others keep their contents. At factor 1.0 the target is the film, and scratch stays.
+ *
+ * A pixel's grey hangs on its region alone: a part of the film with a margin of half a side, or up to the film's border, shows
+ * the same greys in it. So a film may be rendered in strips, on several threads.
+ *
+ * Each pixel costs the bins, 2 ns each, and the rows of its region, 4.5 ns each (docs/BENCHMARK.md). So with 128 bins and side 31 a
+ * film 512 square takes 0.1 s and 4096 square 6.5 s, with 1024 bins 38 s. With many more bins than one
+ * for eight pixels of a region patches show that are not in the film (docs/STATION.md).
+ *
+ * `side` is odd, 3 to 63, and may be above the film's own sides. across and down are not looked at: a film of one pixel is
+ * taken. Nothing is kept, so there is no record and nothing to draw from.
+ *
+ * Sizes: picture_len and target_len are width x height; scratch_len at least tz_around_scratch.
+ * Refusals, the first that applies: 1, 2, 39, 7 to 9, 31, 10, 12 (twice the bins), 17 (the target's length), 13. 3 to 6, 11 and
+ * 32 are never given.
+ */
+TZ_FUNCTION uint32_t tzofnadir_around(uint32_t width, uint32_t height, const uint16_t *picture, size_t picture_len,
+                                      uint32_t side, const tz_settings *s, uint16_t *target, size_t target_len,
+                                      uint32_t *scratch, size_t scratch_len, tz_footer *footer)
+{
+    uint32_t limit = 0;
+    float asked = 0;
+    double used = 0;
+    uint32_t refusal = tz_around(width, height, picture, picture_len, side, s->bins, s->min, s->max, s->clip, s->factor,
+                                 target, target_len, scratch, scratch_len, &limit, &asked, &used, s->edition);
     if (refusal == TZ_DONE)
         *footer = tz_footer_of(limit, asked, used);
     return refusal;

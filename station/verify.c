@@ -111,7 +111,8 @@ static int hold_to_record(struct run *run, const tz_sizes *sizes, size_t count)
 static int render_again(struct verdict *v)
 {
     const struct recorded *r = v->record;
-    struct job job = {.command = r->has_window ? WINDOW : ENHANCE, .settings = r->settings, .window = r->window,
+    struct job job = {.command = r->has_window ? WINDOW : r->is_around ? AROUND : ENHANCE, .side = r->side,
+                      .settings = r->settings, .window = r->window,
                       .given = GRID | BINS | RANGE | CLIP | (r->by_bytes ? BYTES : 0)};
     struct task task = {.in = v->scan_name, .out = r->rendering.name, .which = 1, .of = 1, .keep = hold_to_record, .judge = v};
     int code = run_film(&job, &task);

@@ -86,6 +86,8 @@ static int value(enum given which, const char *word, struct job *job)
         return pair(word, ',', &w->left, &w->top);
     case SIZE:
         return pair(word, 'x', &w->width, &w->height);
+    case SIDE:
+        return whole(word, &job->side);
     case JOBS:
         return whole(word, &job->jobs) && job->jobs >= 1;
     case OUTPUT:
@@ -113,7 +115,7 @@ static const struct option {
     {"--into", INTO, 1},       {"--jobs", JOBS, 1},   {"--records", RECORDS, 0}, {"--force", FORCE, 0},
     {"--output", OUTPUT, 1},   {"-o", OUTPUT, 1},     {"--quiet", QUIET, 0},     {"-q", QUIET, 0},
     {"--verbose", VERBOSE, 0}, {"-v", VERBOSE, 0},    {"--json", AS_JSON, 0},    {"--scan", SCAN, 1},
-    {"--edition", EDITION, 1}, {"--whole", WHOLE, 0},
+    {"--edition", EDITION, 1}, {"--whole", WHOLE, 0}, {"--side", SIDE, 1},
 };
 
 /* The option that a word names, alone or with `=value` behind it. */
@@ -139,6 +141,8 @@ static unsigned taken(enum command command)
         return rendering | BYTES | AT | SIZE;
     case DIRECT:
         return rendering;
+    case AROUND:
+        return (rendering & ~(unsigned)GRID) | SIDE | several | RECORDS;
     case CHECK:
         return settings | WHOLE | QUIET;
     case RAW:
@@ -151,6 +155,20 @@ static unsigned taken(enum command command)
     default:
         return QUIET;
     }
+}
+
+/* A grid and a side take each other's place. */
+static int is_other_place(const struct option *option, enum command command)
+{
+    return option != NULL && ((option->which == GRID && command == AROUND) ||
+                              (option->which == SIDE && (taken(command) & GRID) != 0));
+}
+
+static int in_its_place(enum given which)
+{
+    if (which == GRID)
+        return bad_words("around has no tiles, as each pixel has a region of its own: --side takes the place of --grid", "");
+    return bad_words("--side goes with around, where each pixel has a region of its own; tiles have --grid", "");
 }
 
 /* It may be meant as a file's name. */
@@ -167,7 +185,7 @@ static int take_option(char **argv, int *at, struct job *job)
 {
     const struct option *option = option_of(argv[*at]);
     if (option == NULL || (option->which & taken(job->command)) == 0)
-        return no_option(argv[*at]);
+        return is_other_place(option, job->command) ? in_its_place(option->which) : no_option(argv[*at]);
     if ((option->which & job->given) != 0)
         return bad_words("this option is given twice", option->name);
     job->given |= option->which;
@@ -202,7 +220,7 @@ int ends_in(const char *word, const char *end)
 }
 
 /* The commands that write a film, and those of them that write several into a folder. */
-static int writes_many(enum command c) { return c == ENHANCE || c == RAW || c == PLAIN; }
+static int writes_many(enum command c) { return c == ENHANCE || c == AROUND || c == RAW || c == PLAIN; }
 static int writes(enum command c) { return writes_many(c) || c == WINDOW || c == DIRECT; }
 
 int is_move(const struct job *job) { return job->command == RAW || job->command == PLAIN; }
@@ -247,7 +265,7 @@ static int asks(int argc, char **argv, enum command *command)
 static int command_of(const char *word, enum command *command)
 {
     static const char *const names[] = {"enhance", "window", "listing", "info", "verify",
-                                        "raw",     "plain",  "direct",  "check"};
+                                        "raw",     "plain",  "direct",  "check", "around"};
     for (unsigned i = 0; i < sizeof names / sizeof names[0]; i++)
         if (strcmp(word, names[i]) == 0) {
             *command = (enum command)i;

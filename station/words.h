@@ -4,13 +4,13 @@
 
 #include "tzofnadir.h"
 
-enum command { ENHANCE, WINDOW, LISTING, INFO, VERIFY, RAW, PLAIN, DIRECT, CHECK, HELP, VERSION };
+enum command { ENHANCE, WINDOW, LISTING, INFO, VERIFY, RAW, PLAIN, DIRECT, CHECK, AROUND, HELP, VERSION };
 
 /* The options, each a bit; OWN_RANGE is a value of --range. */
 enum given {
     GRID = 1, BINS = 2, RANGE = 4, CLIP = 8, AT = 16, SIZE = 32, BYTES = 64, RECORD = 128, INTO = 256, RECORDS = 512,
     QUIET = 1024, FORCE = 2048, JOBS = 4096, OUTPUT = 8192, VERBOSE = 16384, AS_JSON = 32768, SCAN = 65536,
-    OWN_RANGE = 131072, EDITION = 262144, WHOLE = 524288
+    OWN_RANGE = 131072, EDITION = 262144, WHOLE = 524288, SIDE = 1048576
 };
 
 struct job {
@@ -20,6 +20,7 @@ struct job {
     int plain_from; /* from this one on, behind `--`, a name is no list */
     const char *out, *into, *record, *scan;
     uint32_t jobs;
+    uint32_t side; /* of the region around a pixel */
     tz_settings settings;
     tz_window window;
     unsigned given; /* which options were there */

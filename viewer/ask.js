@@ -10,6 +10,7 @@ export const asking = {
   under: null, // the request under way
   last: 0, // its number
   timer: 0,
+  isSlow: false, // whether the sign of progress stays up until the next answer
   sources: [], // functions that give the next request or null, the most urgent first
   due: new Set(), // numbers that are being typed
   painting: 0, // answers that are drawn and not yet painted
@@ -31,7 +32,7 @@ function tellSlow(text) {
 
 function send(request) {
   asking.under = request;
-  asking.timer = setTimeout(() => tellSlow(request.slow), SLOW);
+  if (!asking.isSlow) asking.timer = setTimeout(() => tellSlow(request.slow), SLOW);
   asking.worker.postMessage({...request.message, id: ++asking.last}, request.transfer || []);
 }
 
@@ -42,17 +43,27 @@ export function pump() {
     const request = source();
     if (request) send(request);
   }
+  if (!asking.under) tellPart(null);
   tellBusy();
 }
 
+// What is answered in part: how much of it is there, from 0 to 1. The sign stays up while the rest is asked for.
+function tellPart(request, share) {
+  asking.isSlow = Boolean(request);
+  tellSlow(request ? `${request.slow}: ${Math.floor(100 * share)} %` : '');
+}
+
+// An answer that is there in part is asked for again, unless something newer is wished by then: a request has a way for that,
+// `again`, beside `done`.
 function answered(answer) {
   const request = asking.under;
   if (!request || answer.id !== asking.last) return;
+  const isPart = answer.unfinished !== undefined;
   clearTimeout(asking.timer);
-  tellSlow('');
+  tellPart(isPart ? request : null, answer.unfinished);
   asking.under = null;
   try {
-    request.done(answer);
+    (isPart ? request.again : request.done)(answer);
   } finally {
     pump(); // whatever happened to this answer, the next wish is not kept waiting
   }

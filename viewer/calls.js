@@ -8,6 +8,9 @@ export const MOST_GRID = 16;
 export const MOST_BINS = 4096;
 export const USUAL_BINS = 128; // what bins 0 means
 export const MOST_ENTRIES = MOST_GRID * MOST_GRID * MOST_BINS;
+export const LEAST_REGION = 3; // a region's side is odd, from this on up to the next
+export const MOST_REGION = 63;
+export const MOST_SCRATCH = 2 * MOST_BINS; // what regions of their own take
 const MEMORY_PAGE = 65536;
 
 // The editions of the clip rule by the words that records and people have for them; their places are the numbers for the calls.
@@ -88,6 +91,8 @@ function makeRoom(exports, ledger) {
       top = at + bytes;
       return at;
     },
+    // What was lent last, from there on, is lent no more.
+    takeBack(at) { top = at; },
     // A place behind everything lent, with that many bytes from there on; the next such place is the same one.
     last(bytes) {
       const at = Math.ceil(top / 16) * 16;
@@ -146,19 +151,24 @@ function fileCalls(exports, room, cells) {
   };
 }
 
-// The calls on films: count, map and draw.
+function footerIn(view) {
+  return {limit: view.getUint32(CELL.limit, true), asked: view.getFloat32(CELL.asked, true),
+    used: view.getFloat64(CELL.used, true)};
+}
+
+// The calls on films: count, map and draw; and around, of regions of their own.
 function filmCalls(exports, room, cells) {
   const axes = Object.keys(AXES).map(name => cells + CELL[name]);
   const axis = name => room.u32(cells + CELL[name], AXES[name]);
   return {
-    count(film, s) {
-      return exports.tz_count(...sizeOf(film), ...pictureOf(film), ...tilingOf(s), film.counts, BigInt(MOST_ENTRIES)) >>> 0;
+    count(film, s, counts = MOST_ENTRIES) {
+      return exports.tz_count(...sizeOf(film), ...pictureOf(film), ...tilingOf(s), film.counts, BigInt(counts)) >>> 0;
     },
     // With no counts lent nothing can be mapped: what the settings meet is given first, and 33 where they are in order.
     judge(film, s) { return this.map(film, s, 0).refusal; },
     map(film, s, counts = MOST_ENTRIES, maps = MOST_ENTRIES) {
       const refusal = exports.tz_map(film.number, ...sizeOf(film), ...settingsOf(s), film.counts, BigInt(counts),
-        film.map, BigInt(maps), film.scratch, BigInt(MOST_BINS), cells + CELL.record, cells + CELL.factor,
+        film.map, BigInt(maps), film.scratch, BigInt(MOST_SCRATCH), cells + CELL.record, cells + CELL.factor,
         cells + CELL.limit, cells + CELL.asked, cells + CELL.used, ...axes, cells + CELL.looks, BigInt(MOST_LOOKS),
         s.edition) >>> 0;
       const view = room.view(cells, CELL_BYTES);
@@ -166,8 +176,7 @@ function filmCalls(exports, room, cells) {
         refusal,
         record: {numbers: room.u32(cells + CELL.record, RECORD_NUMBERS).slice(), factor: view.getFloat32(CELL.factor, true),
           axes: Object.fromEntries(Object.keys(AXES).map(name => [name, axis(name).slice()]))},
-        footer: {limit: view.getUint32(CELL.limit, true), asked: view.getFloat32(CELL.asked, true),
-          used: view.getFloat64(CELL.used, true)},
+        footer: footerIn(view),
         // of each tile, tiles row by row, two numbers: no more than 2^45, so that JavaScript's numbers hold them; a refused grid has none
         looks: Array.from({length: refusal ? 0 : 2 * s.across * s.down}, (_, i) => Number(view.getBigUint64(CELL.looks + 8 * i, true))),
       };
@@ -179,6 +188,13 @@ function filmCalls(exports, room, cells) {
       return exports.tz_draw(film.number, ...sizeOf(film), ...pictureOf(film), ...settingsOf(s), cells + CELL.record,
         record.factor, w.left, w.top, w.width, w.height, film.map, BigInt(MOST_ENTRIES), out,
         BigInt(w.width * w.height), ...axes, s.edition) >>> 0;
+    },
+    // All of a film, or of a part of one that is lent as a film; each pixel by the region around it.
+    around(film, s, target, count) {
+      const refusal = exports.tz_around(...sizeOf(film), ...pictureOf(film), s.side, s.bins, s.min, s.max, s.clip, s.factor, target,
+        BigInt(count), film.scratch, BigInt(MOST_SCRATCH), cells + CELL.limit, cells + CELL.asked, cells + CELL.used,
+        s.edition) >>> 0;
+      return {refusal, footer: footerIn(room.view(cells, CELL_BYTES))};
     },
   };
 }

@@ -1,11 +1,12 @@
 // One film: opened from a file's bytes, settled for settings, drawn, probed and saved. Each film has an instance of the
 // module for itself, and its counts, mappings, record and footer stay with it until it is closed.
-import {MOST_BINS, MOST_ENTRIES, MOST_SIDE, USUAL_BINS, makeLibrary, settingsOf, tilingOf} from './calls.js';
+import {MOST_ENTRIES, MOST_SCRATCH, MOST_SIDE, USUAL_BINS, makeLibrary, settingsOf, tilingOf} from './calls.js';
 import {cellsOf, meanOf} from './cells.js';
 import {renderingName} from './names.js';
-import {isAsScanned, sidesOf, usedTiles} from './reach.js';
+import {isAsScanned, regionAbout, sidesOf, usedTiles} from './reach.js';
 import {recordText} from './record.js';
-import {isPlain, moreOfFile, moreOfRendering, moreOfSettings} from './refuse.js';
+import {isPlain, moreOfFile, moreOfRendering, moreOfSettings, refused} from './refuse.js';
+import {drawPiece, drawRegions, dropOwn, hideMissing, keptAt, regionMade, settleRegions} from './regions.js';
 
 // The largest film and 64 KiB for its header, as the command line reads it; of a plain film five digits and white space a sample.
 const MOST_RAW = 2 * MOST_SIDE * MOST_SIDE + 65536;
@@ -28,16 +29,12 @@ function isSettled(film, count, refusal, sizesOf) {
   return sizesOf(film.file, count + 1).refusal === 20;
 }
 
-function refused(film, refusal, more) {
-  return {refusal: {number: refusal, sentence: film.library.sentence(refusal), more}};
-}
-
 // Lends what the calls need: the largest settings' room at once, since memory that is not touched costs nothing.
 function lendRoom(film, bytes) {
   const room = film.library.room;
   film.counts = room.lend(4 * MOST_ENTRIES);
   film.map = room.lend(2 * MOST_ENTRIES);
-  film.scratch = room.lend(4 * MOST_BINS);
+  film.scratch = room.lend(4 * MOST_SCRATCH);
   // the written film is at most 18 bytes of header and the samples, which the file has too: a plain file has two bytes for each
   // but the last, and a header
   film.fileRoom = bytes.length + 18;
@@ -112,9 +109,18 @@ export function openFilm(module, ledger, number, input) {
 
 export function closeFilm(film) { film.library.room.giveBack(); }
 
+// Makes the film ready to be drawn with the settings, and its footer, record and looks theirs: of own regions there are neither
+// record nor looks.
+export function settle(film, s) {
+  const answer = s.around ? settleRegions(film, s) : settleTiles(film, s);
+  if (answer.refusal) return answer;
+  Object.assign(film, s.around ? {footer: film.own.footer, record: null, looks: []} : film.mapped);
+  return {};
+}
+
 // Makes the film's mappings those of the settings. A new factor or another edition alone maps the counts that are there; a
 // refusal leaves counts and mappings as they were, and they stay those of the settings that they were made for.
-export function settle(film, s) {
+function settleTiles(film, s) {
   const tiling = tilingOf(s).join();
   const all = [...settingsOf(s), s.edition].join();
   if (film.countedFor !== tiling) {
@@ -128,19 +134,34 @@ export function settle(film, s) {
   const answer = film.library.map(film, s);
   if (answer.refusal) return refused(film, answer.refusal, moreOfSettings(answer.refusal, film, s));
   film.mappedFor = all;
-  film.record = answer.record;
-  film.footer = answer.footer;
-  film.looks = answer.looks;
+  film.mapped = {record: answer.record, footer: answer.footer, looks: answer.looks};
   return {};
 }
 
-// The rendered greys of a window, and where they stand in the film's memory.
+// Own regions take seconds for a large window: a piece of it is drawn. Gives {unfinished: how much of it is there, from 0 to
+// 1}, and null where all of it is, or is soon drawn. What is asked for then is to be asked for once more.
+export function pieceOf(film, s, window) { return s.around && !settle(film, s).refusal ? drawPiece(film, s, window) : null; }
+
+export function wholeWindow(film) { return {left: 0, top: 0, width: film.width, height: film.height}; }
+
+// A place behind everything lent; where there is no room for it, own regions give up theirs.
+function roomFor(film, bytes) {
+  try {
+    return film.library.room.last(bytes);
+  } catch (fault) {
+    if (!film.own) throw fault;
+    dropOwn(film);
+    return film.library.room.last(bytes);
+  }
+}
+
+// Where the rendered greys of a window stand in the film's memory: the first one, how many a row has, and whether they are spent
+// where they are laid in cells. They are to be read before anything else is drawn.
 function drawWindow(film, s, w) {
-  const room = film.library.room;
-  const out = room.last(2 * w.width * w.height);
-  const refusal = film.library.draw(film, s, film.record, w, out);
-  if (refusal) return refused(film, refusal, moreOfSettings(refusal, film, s));
-  return {out, greys: room.u16(out, w.width * w.height)};
+  if (s.around) return drawRegions(film, s, w);
+  const at = roomFor(film, 2 * w.width * w.height);
+  const refusal = film.library.draw(film, s, film.record, w, at);
+  return refusal ? refused(film, refusal, moreOfSettings(refusal, film, s)) : {at, stride: w.width, isSpent: true};
 }
 
 export function scanCells(film, place, spare) {
@@ -148,18 +169,26 @@ export function scanCells(film, place, spare) {
   return cellsOf(film.library, {at, stride: film.width, isSpent: false}, place, spare);
 }
 
-// The cells of what was drawn, whose greys are not kept.
-function drawnCells(film, drawn, place, spare) {
-  return cellsOf(film.library, {at: drawn.out, stride: place.width, isSpent: true}, place, spare);
-}
-
 // Scanned and rendered side of a window as greys, in the cells of its zoom. place: where the film lies (place.js), and whether the
 // scanned side is there already, as it is while settings alone are moved; spare: buffers to write over.
 export function picture(film, s, place, spare = {}) {
   const drawn = drawWindow(film, s, place);
   if (drawn.refusal) return drawn;
-  const rendered = drawnCells(film, drawn, place, spare.rendered); // first: the scan's cells may be laid where it was drawn
+  const rendered = cellsOf(film.library, drawn, place, spare.rendered); // first: the scan's may be laid where it was drawn
   return {scanned: place.scannedIsThere ? null : scanCells(film, place, spare.scanned), rendered};
+}
+
+// The same of own regions that are not all drawn yet: what is missing is no cell. Below 1:1 the cells of a large film take as
+// long as a piece of it, so they are made where thrice that time was spent on drawing; else null.
+export function pictureSoFar(film, place, spare) {
+  const {own} = film;
+  if (own.drawn < 3 * own.shown) return null;
+  const start = performance.now();
+  const rendered = cellsOf(film.library, keptAt(film, place), place, spare.rendered);
+  hideMissing(own, place, new Uint16Array(rendered, 0, place.columns * place.rows));
+  const scanned = place.scannedIsThere ? null : scanCells(film, place, spare.scanned);
+  Object.assign(own, {drawn: 0, shown: performance.now() - start});
+  return {scanned, rendered};
 }
 
 // Both sides of a window, every pixel, for measuring and for reports.
@@ -169,7 +198,8 @@ export function greysOfWindow(film, s, window) {
   const drawn = drawWindow(film, s, window);
   if (drawn.refusal) return drawn;
   const place = {...window, zoom: {block: 1}, columns: window.width, rows: window.height};
-  return {scanned: scanCells(film, place), rendered: drawnCells(film, drawn, place), footer: film.footer};
+  const rendered = cellsOf(film.library, drawn, place);
+  return {scanned: scanCells(film, place), rendered, footer: film.footer};
 }
 
 // Of a film's tile columns or tile rows the one in which a column or row lies, by their edges.
@@ -211,33 +241,41 @@ function dotOf(film, s, {cell}) {
   const scan = film.library.room.u16(film.picture, film.width * film.height);
   return {dot: {width: cell.width, height: cell.height,
     scanned: meanOf(scan, cell.y * film.width + cell.x, film.width, cell.width, cell.height),
-    rendered: meanOf(drawn.greys, 0, cell.width, cell.width, cell.height)}};
+    rendered: meanOf(film.library.room.u16(drawn.at, (cell.height - 1) * drawn.stride + cell.width), 0, drawn.stride, cell.width,
+      cell.height)}};
 }
 
-// What is under the pointer, from the library's own numbers: greys, the counts, the limit and the mapping of the pixel's tile, and
-// the tiles that its rule uses.
+// Of the pixel's tile: its rectangle, counts, limit, mapping, excess and looks, and the tiles that the pixel's rule uses.
+function tileProbed(film, s, bins, {x, y}) {
+  const {room} = film.library;
+  const tile = tileOf(film, s, x, y);
+  const first = tile.index * bins;
+  return {tile, counts: room.u32(film.counts + 4 * first, bins).slice(), limit: limitOf(film, s, tile, bins),
+    mapping: room.u16(film.map + 2 * first, bins).slice(), used: usedTiles(sidesOf(film.record.axes, s), x, y),
+    excess: film.looks[2 * tile.index], looks: film.looks[2 * tile.index + 1]};
+}
+
+// Of the pixel's own region the same; its rule uses no tile.
+function regionProbed(film, s, bins, {x, y}) {
+  const region = regionAbout(film, s, {left: x, top: y, width: 1, height: 1});
+  return {tile: {...region, pixels: region.width * region.height}, used: [], ...regionMade(film, s, region)};
+}
+
+// What is under the pointer, from the library's own numbers: greys, and what its tile or its own region is.
 export function probe(film, s, at) {
   const {dot, refusal} = dotOf(film, s, at);
   if (refusal) return {refusal};
   const drawn = drawWindow(film, s, {left: at.x, top: at.y, width: 1, height: 1});
   if (drawn.refusal) return drawn;
-  const rendered = drawn.greys[0]; // read before anything else is laid where it stands
-  const room = film.library.room;
+  const {room} = film.library;
+  const [rendered] = room.u16(drawn.at, 1); // read before anything else is laid where it stands
+  const [scanned] = room.u16(film.picture + 2 * (at.y * film.width + at.x), 1);
   const bins = s.bins === 0 ? USUAL_BINS : s.bins;
-  const tile = tileOf(film, s, at.x, at.y);
-  const first = tile.index * bins;
-  // at factor 1.0 nothing is mapped, and the map buffer holds what an earlier factor left
-  const unmapped = isAsScanned(s);
-  return {
-    x: at.x, y: at.y, bins, tile, rendered, dot, edition: s.clip ? s.edition : 0,
-    scanned: room.u16(film.picture + 2 * (at.y * film.width + at.x), 1)[0],
-    counts: room.u32(film.counts + 4 * first, bins).slice(),
-    mapping: unmapped ? null : room.u16(film.map + 2 * first, bins).slice(),
-    limit: limitOf(film, s, tile, bins), min: s.min, max: s.max,
-    used: unmapped ? [] : usedTiles(sidesOf(film.record.axes, s), at.x, at.y),
-    // at factor 1.0 nothing is listed either
-    excess: unmapped ? null : film.looks[2 * tile.index], looks: unmapped ? null : film.looks[2 * tile.index + 1],
-  };
+  const probed = (s.around ? regionProbed : tileProbed)(film, s, bins, at);
+  // at factor 1.0 nothing is mapped or listed, and the map buffer holds what an earlier factor left
+  if (isAsScanned(s)) Object.assign(probed, {mapping: null, used: [], excess: null, looks: null});
+  return {x: at.x, y: at.y, bins, rendered, scanned, dot, edition: s.clip ? s.edition : 0, side: s.around ? s.side : 0, min: s.min,
+    max: s.max, ...probed};
 }
 
 // The digest of the film's file. It is long work for a large film, and only what is saved asks for it.
@@ -250,10 +288,10 @@ export function digestOf(film) {
 export function renderedFile(film, s) {
   const settled = settle(film, s);
   if (settled.refusal) return settled;
-  const drawn = drawWindow(film, s, {left: 0, top: 0, width: film.width, height: film.height});
+  const drawn = drawWindow(film, s, wholeWindow(film));
   if (drawn.refusal) return drawn;
   digestOf(film); // first: the file's own bytes stand where the rendering will be written
-  const written = film.library.write(drawn.out, film, film.file, film.fileRoom);
+  const written = film.library.write(drawn.at, film, film.file, film.fileRoom);
   if (written.refusal) return refused(film, written.refusal, moreOfRendering(film, s));
   return {at: film.file, count: written.count};
 }

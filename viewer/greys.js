@@ -25,10 +25,12 @@ export function filmDigest(film) { return asked(film, {kind: 'digest'}).then(({d
 export function dueGreys() {
   while (waits.length > 0 && waits[0].film.closed) waits.shift().failed(new Error('the film is closed'));
   if (waits.length === 0) return null;
-  const {film, message, done, failed} = waits.shift();
+  const wait = waits.shift();
+  const {film, message, done, failed} = wait;
   return {
     message: {...message, number: film.number},
     slow: `reading ${film.name}`,
+    again: () => waits.unshift(wait),
     done: answer => {
       if (answer.refusal) failed(new Error(`Refused, ${answer.refusal.number}: ${answer.refusal.sentence}`));
       else if (answer.fault) failed(new Error(answer.fault));

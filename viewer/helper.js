@@ -1,10 +1,12 @@
 // Two workers on one window. A large window is drawn in two parts: the upper one by the worker that has the film, the lower one
 // beside it by a second worker. That one has a copy of one film's pixels at a time, of the film that is looked at, in an instance of
 // the library of its own, and is handed the film's number, record and mappings with every part: so it draws by the same call,
-// which compares them, and a part of another film is refused like a whole window.
-import {MOST_ENTRIES, USUAL_BINS, makeLedger, makeLibrary} from './calls.js';
-import {picture, scanCells} from './film.js';
+// which compares them, and a part of another film is refused like a whole window. Own regions, which have neither record nor
+// mappings, are drawn from the first row down by the one worker and from the last one up by the other.
+import {MOST_ENTRIES, MOST_SCRATCH, USUAL_BINS, makeLedger, makeLibrary} from './calls.js';
+import {picture, pieceOf, scanCells, settle} from './film.js';
 import {cellEnd, cellStart} from './place.js';
+import {blockDrawn, keepDrawnBlock, lastBlock, restOf} from './regions.js';
 
 const SHARED_PIXELS = 1 << 20; // a smaller window is as soon drawn by one
 const ROOM = 4 * 1048576; // bytes beside the pixels: stack, mappings, and what is drawn of the smallest of these
@@ -75,7 +77,7 @@ function mapsOf(film, s) {
 
 // What film.js gives for a window, by both workers where it is large.
 export async function sharedPicture(film, s, place, spare) {
-  if (beside.number !== film.number || place.width * place.height < SHARED_PIXELS || place.rows < 2) {
+  if (s.around || beside.number !== film.number || place.width * place.height < SHARED_PIXELS || place.rows < 2) {
     return picture(film, s, place, spare);
   }
   const [upper, lower] = halvesOf(place);
@@ -92,11 +94,24 @@ export async function sharedPicture(film, s, place, spare) {
   return {scanned, rendered: rendered.buffer};
 }
 
+// What film.js gives for a piece of own regions, by both workers where there is enough to do.
+export async function sharedPiece(film, s, window) {
+  const isShared = s.around && beside.number === film.number && !settle(film, s).refusal;
+  const block = isShared ? lastBlock(film, s, window) : null;
+  if (!block) return pieceOf(film, s, window);
+  const other = askBeside({kind: 'block', settings: s, block});
+  const piece = pieceOf(film, s, window);
+  const {cells} = await other;
+  if (cells) keepDrawnBlock(film, block, cells);
+  return piece && restOf(film, s, window);
+}
+
 // ---- the second worker's side ----
 
 function copyHeld(module, {number, width, height, pixels}) {
   const film = {number, width, height, library: makeLibrary(module, makeLedger(Infinity))};
   film.map = film.library.room.lend(2 * MOST_ENTRIES);
+  film.scratch = film.library.room.lend(4 * MOST_SCRATCH);
   film.picture = film.library.room.lend(2 * width * height);
   film.library.room.u16(film.picture, width * height).set(new Uint16Array(pixels));
   return film;
@@ -118,6 +133,7 @@ export async function help({port, wasm}) {
     drop: () => { film = null; return {}; },
     hold: message => { film = copyHeld(module, message); return {}; },
     part: message => partOf(film, message),
+    block: ({settings, block}) => ({cells: film && blockDrawn(film, settings, block)}),
   };
   port.onmessage = ({data}) => {
     let answer;

@@ -44,6 +44,7 @@ export function dueLens() {
     return {
       message: {kind: 'greys', number: film.number, settings: wish.settings, window: wish.window},
       slow: `magnifying ${film.name}`,
+      again: () => {},
       done: answer => {
         lens.seen.set(film.number, {...wish, greys: answer.refusal || answer.fault ? null : answer});
         drawLens();

@@ -92,7 +92,7 @@ export function pairIsThere(other, film) {
   const kept = keptOf(other);
   const place = placeUnder(other, film);
   if (place.width === 0 || place.height === 0) return true;
-  return Boolean(kept) && isOfSettings(kept, other) && keptFits(kept, place) && covers(kept.place, place);
+  return Boolean(kept) && !kept.isPart && isOfSettings(kept, other) && keptFits(kept, place) && covers(kept.place, place);
 }
 
 // The cells are kept as greys with a margin around what is seen. So the film follows the hand in the same frame, a new level or
@@ -201,7 +201,7 @@ export function repaint(what, event) {
 // What was drawn for these settings and is still at hand is painted at once. Gives whether that is all that is wanted.
 export function paintKept(film) {
   const kept = keptOf(film);
-  if (!kept || !look.pane || film.refusal) return false;
+  if (!kept || kept.isPart || !look.pane || film.refusal) return false;
   return isOfSettings(kept, film) && keptFits(kept, placeNow(film)) && paintView(film);
 }
 
@@ -285,10 +285,10 @@ export function pixelOf(film, x, y) {
 
 // ---- what lies over the pictures ----
 
-// The tiles that are outlined: the one that the pixel lies in, or those that its rule uses.
+// The tiles that are outlined: the one that the pixel lies in, or those that its rule uses. Its own region is both.
 function tilesOutlined() {
   if (!state.probe || state.outlined === 'none') return [];
-  return state.outlined === 'tile' ? [state.probe.tile] : state.probe.used;
+  return state.outlined === 'tile' || state.probe.side ? [state.probe.tile] : state.probe.used;
 }
 
 // The same place in the other picture: a cross where the pointer is not, the outlines of tiles in both, and what other modules

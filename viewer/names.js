@@ -26,7 +26,8 @@ function clipName(s) { return s.clip ? `clip${printG(Math.fround(s.factor), 9)}`
 // Which rendering it is. film: its number and digest. The factor in nine digits tells any two 32-bit floats apart; bins 0 stands
 // as 128.
 function renderingWords(film, s) {
-  return `film${film.number}-${s.across}x${s.down}-${s.bins || USUAL_BINS}bins-${s.min}to${s.max}-${clipName(s)}-` +
+  const by = s.around ? `side${s.side}` : `${s.across}x${s.down}`;
+  return `film${film.number}-${by}-${s.bins || USUAL_BINS}bins-${s.min}to${s.max}-${clipName(s)}-` +
     `${EDITIONS[s.edition]}-${film.digest.slice(0, DIGEST_PIECE)}`;
 }
 

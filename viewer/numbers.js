@@ -3,6 +3,7 @@ import {exactOf} from './record.js';
 
 export const MOST_WHOLE = 4294967295;
 const MOST_CHOSEN_BINS = 1024;
+const MOST_BINS_AROUND = 256;
 
 // Digits only, and within 32 bits; else null.
 export function wholeOf(text) {
@@ -57,13 +58,27 @@ function factorHolds(whole, pixels, bins, greys) {
   return over > 0 ? 10 * over <= whole : -(bins === greys ? 4 : 10) * over <= whole;
 }
 
-// As the command line chooses: a bin for each grey of the range, up to 1024, and as many of them as hold the factor in the
-// least tile. A range that will be refused has no greys to go by, and a refused factor clips nothing.
+// The pixels of the least tile, or of a region that no border cuts off.
+function judgedPixels(s, film) {
+  const side = (length, tiles) => tiles === 0 ? length : Math.floor(length / tiles);
+  const pixels = s.around ? Math.min(s.side, film.width) * Math.min(s.side, film.height)
+    : side(film.width, s.across) * side(film.height, s.down);
+  return Math.max(1, pixels);
+}
+
+// Regions are small, and each bin costs time at every pixel: eight pixels a bin, up to 256 bins.
+function mostChosen(s, pixels) {
+  if (!s.around) return MOST_CHOSEN_BINS;
+  return pixels < 16 ? 2 : Math.min(Math.floor(pixels / 8), MOST_BINS_AROUND);
+}
+
+// As the command line chooses: a bin for each grey of the range, up to 1024, or of own regions to fewer, and as many of them
+// as hold the factor in the least tile, or in a whole region. A range that will be refused has no greys to go by, and a refused
+// factor clips nothing.
 export function chosenBins(s, film) {
   const greys = s.max - s.min + 1;
-  const most = Math.min(s.max > s.min ? greys : 128, MOST_CHOSEN_BINS);
-  const side = (length, tiles) => tiles === 0 ? length : Math.floor(length / tiles);
-  const pixels = Math.max(1, side(film.width, s.across) * side(film.height, s.down));
+  const pixels = judgedPixels(s, film);
+  const most = Math.min(s.max > s.min ? greys : 128, mostChosen(s, pixels));
   const factor = Math.fround(s.factor);
   const whole = factor * pixels;
   if (!s.clip || !(factor > 1 && factor <= 1024) || factorHolds(whole, pixels, most, greys)) return most;
@@ -115,6 +130,9 @@ export function nearestStep(list, value) {
 
 // The edition of the clip rule in words.
 export function editionWords(edition) { return edition ? 'edition of 1986' : 'our edition'; }
+
+// Own regions in words.
+export function regionWords({side}) { return `own regions of side ${side}`; }
 
 // A factor in at most five digits behind the point; all its digits stand in the record.
 export function shownFactor(x) { return Number.isFinite(x) ? String(Math.round(x * 1e5) / 1e5) : String(x); }

@@ -15,7 +15,8 @@ import {dueMeasures, wireMeasures} from './measure_panel.js';
 import {wireReach} from './reach_panel.js';
 import './overlay.js';
 import {dueOverview, wireOverview} from './overview.js';
-import {changeClip, changeEdition, fillPanel, forgetTyping, resetDisplay, setInvert, stepFactor, wirePanel} from './panel.js';
+import {changeAround, changeClip, changeEdition, fillPanel, forgetTyping, resetDisplay, setInvert, stepFactor, stepSide,
+  wirePanel} from './panel.js';
 import {addKey, parts} from './parts.js';
 import {STEPS} from './place.js';
 import {chooseTool, wirePointer} from './pointer.js';
@@ -59,9 +60,14 @@ addKey({keys: ['.'], what: 'factor up', act: event => stepFactor(1, event)});
 addKey({keys: ['c'], what: 'clip off, on', act: event => changeClip(!state.film.settings.clip, event)});
 addKey({keys: ['e'], what: 'edition of the clip rule: ours, 1986',
   act: onceEach(event => changeEdition(1 - state.film.settings.edition, event))});
+addKey({keys: ['a'], what: 'contrast by a grid, by own regions',
+  act: onceEach(event => changeAround(!state.film.settings.around, event))});
+addKey({keys: ['<'], what: 'side of own regions down', act: event => stepSide(-1, event)});
+addKey({keys: ['>'], what: 'side of own regions up', act: event => stepSide(1, event)});
 addKey({keys: ['i'], what: 'invert the display', act: event => setInvert(!state.film.display.invert, event)});
 addKey({keys: ['r'], what: 'reset the display', act: resetDisplay});
-addKey({keys: ['t'], what: 'outline the tile under the pointer; again: those used; again: none', bare: true, act: outlineNext});
+addKey({keys: ['t'], what: 'outline the tile (own region) under the pointer; again: those used; again: none', bare: true,
+  act: outlineNext});
 addKey({keys: ['ctrl+z'], what: 'undo: settings, display, marks', act: event => takeBack(undo, event)});
 addKey({keys: ['ctrl+y', 'ctrl+shift+z'], what: 'redo', act: event => takeBack(redo, event)});
 addKey({keys: ['?'], what: 'this list', bare: true, act: () => element('keys-panel').showModal()});

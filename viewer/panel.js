@@ -1,7 +1,7 @@
 // The panel: settings of the rendering, and the display. Boxes hand any number to the library as it is typed;
 // sliders stay within what it takes.
 import {asking, pump, tellBusy} from './ask.js';
-import {EDITIONS, USUAL_BINS} from './calls.js';
+import {EDITIONS, LEAST_REGION, MOST_REGION, USUAL_BINS} from './calls.js';
 import {element, setText} from './dom.js';
 import {canRedo, canUndo, keepStep} from './history.js';
 import {repaint} from './look.js';
@@ -15,12 +15,14 @@ import {fillCaptions} from './show.js';
 import {filmReady, state, want} from './state.js';
 
 const KEY_STEPS = 5;
+const USUAL_SIDE = 31; // of own regions, where none was chosen
 const TYPING = 400; // ms without a key until a typed number is taken; Enter takes it at once
-const SETTINGS = ['across', 'down', 'bins', 'min', 'max', 'factor'];
+const SETTINGS = ['side', 'across', 'down', 'bins', 'min', 'max', 'factor'];
 const DISPLAY = ['level', 'width'];
 const MAPPED = ['factor', 'clip', 'edition']; // what maps the counts that are there
-const SWITCHES = ['bins-chosen', 'clip', 'edition', 'invert', 'auto', 'reset']; // to and fro are two steps for undo, however quick
-const NAMES = {across: 'Grid across', down: 'Grid down', bins: 'Bins', min: 'Min', max: 'Max', factor: 'Factor',
+// To and fro are two steps for undo, however quick.
+const SWITCHES = ['around', 'bins-chosen', 'clip', 'edition', 'invert', 'auto', 'reset'];
+const NAMES = {side: 'Side', across: 'Grid across', down: 'Grid down', bins: 'Bins', min: 'Min', max: 'Max', factor: 'Factor',
   level: 'Level', width: 'Window'};
 
 const typing = new Map(); // timers of boxes that are being typed into
@@ -30,7 +32,7 @@ const typing = new Map(); // timers of boxes that are being typed into
 export function startSettings(film) {
   const across = nearestGrid(8, film.fits.across);
   const down = nearestGrid(8, film.fits.down);
-  film.settings = {across, down, bins: 0, min: 0, max: film.maxval, clip: 1, factor: 3, edition: 0};
+  film.settings = {around: 0, side: USUAL_SIDE, across, down, bins: 0, min: 0, max: film.maxval, clip: 1, factor: 3, edition: 0};
   film.binsChosen = true;
   chooseBins(film);
   film.notes = [];
@@ -99,6 +101,22 @@ function changeRange(min, max, event) {
 export function changeClip(on, event) {
   const film = filmReady();
   if (film) changeSettings(film, 'clip', event, settings => { settings.clip = on ? 1 : 0; });
+}
+
+// By the tiles of a grid, or by each pixel's own region. What was set of either stays for when it is chosen again.
+export function changeAround(on, event) {
+  const film = filmReady();
+  if (film && Boolean(film.settings.around) !== on) {
+    changeSettings(film, 'around', event, settings => { settings.around = on ? 1 : 0; });
+  }
+}
+
+// By the keys: the next odd side, smaller or larger.
+export function stepSide(way, event) {
+  const film = filmReady();
+  if (!film || !film.settings.around) return;
+  const side = film.settings.side + (film.settings.side % 2 ? 2 * way : way);
+  change('side', Math.max(LEAST_REGION, Math.min(MOST_REGION, side)), event);
 }
 
 // edition: its place in EDITIONS. The bins stay, so nothing is counted anew.
@@ -220,6 +238,7 @@ function boxKey(id, event) {
   if (value === null) return;
   stopTyping(id);
   if (id === 'factor') stepFactor(way, event);
+  else if (id === 'side') stepSide(way, event);
   else change(id, Math.max(0, Math.min(MOST_WHOLE, value + way)), event);
   tellBusy();
 }
@@ -247,6 +266,7 @@ function slid(id, event) {
   if (!film || !film.ready) return;
   const step = Number(element(`${id}-slider`).value);
   const ways = {
+    side: () => LEAST_REGION + 2 * step,
     across: () => film.fits.across[step],
     down: () => film.fits.down[step],
     bins: () => binSteps(mostBins(film))[step],
@@ -336,6 +356,7 @@ function emptyPanel() {
   for (const id of ['range-low', 'range-high']) element(id).style.display = 'none';
   element('typed-note').hidden = true;
   fillEdition(null);
+  fillAround(null);
   drawHistogram(null);
 }
 
@@ -373,6 +394,7 @@ function fillBoxes(film) {
     : 'let the range choose the bins');
   element('clip').checked = settings.clip === 1;
   fillEdition(settings.edition);
+  fillAround(settings.around);
   for (const id of ['factor', 'factor-slider', 'edition-set']) element(id).classList.toggle('idle', settings.clip === 0);
 }
 
@@ -395,6 +417,14 @@ function fillEdition(edition) {
   EDITIONS.forEach((name, i) => element(`edition-${name}`).setAttribute('aria-pressed', String(edition === i)));
 }
 
+// around: 1 for own regions, 0 for a grid, or null.
+function fillAround(around) {
+  element('by-grid').setAttribute('aria-pressed', String(around === 0));
+  element('by-region').setAttribute('aria-pressed', String(around === 1));
+  for (const row of document.querySelectorAll('.of-grid')) row.hidden = around === 1;
+  for (const row of document.querySelectorAll('.of-regions')) row.hidden = around !== 1;
+}
+
 // Which greys are black and white.
 export function endsOf(display) {
   const low = displayLow(display);
@@ -409,6 +439,8 @@ function fillSliders(film) {
     element(`${id}-slider`).disabled = fits[id].length === 0;
     element(`${id}-slider`).setAttribute('aria-valuetext', `${settings[id]} tiles`);
   }
+  setSlider('side', 0, (MOST_REGION - LEAST_REGION) / 2, Math.round((settings.side - LEAST_REGION) / 2));
+  element('side-slider').setAttribute('aria-valuetext', `side ${settings.side}`);
   const bins = binSteps(mostBins(film));
   setSlider('bins', 0, bins.length - 1, nearestStep(bins, settings.bins || USUAL_BINS));
   element('bins-slider').setAttribute('aria-valuetext', `${settings.bins} bins`);
@@ -442,9 +474,15 @@ function footerNote(footer, settings, film) {
   if (!settings.clip) return 'clip off: contrast is raised without a limit';
   if (footer.asked === 1) return 'factor 1.0: the film unchanged';
   const notes = [];
-  if (footer.used > footer.asked) notes.push('used is above asked: no lower limit holds a tile\'s pixels');
-  if (film.width % settings.across || film.height % settings.down) notes.push('tiles differ: L and used are the first one\'s');
-  return notes.join('; ');
+  const what = settings.around ? 'region' : 'tile';
+  if (footer.used > footer.asked) notes.push(`used is above asked: no lower limit holds a ${what}'s pixels`);
+  if (settings.around) notes.push(regionNote(settings, film));
+  else if (film.width % settings.across || film.height % settings.down) notes.push('tiles differ: L and used are the first one\'s');
+  return notes.filter(Boolean).join('; ');
+}
+
+function regionNote({side}, {width, height}) {
+  return Math.max(width, height) > (side >> 1) + 1 ? 'L and used are those of column 0, row 0' : '';
 }
 
 // ---- wiring ----
@@ -460,6 +498,8 @@ export function wirePanel() {
   element('bins-chosen').onchange = event => changeSettings(state.film, 'bins-chosen', event, () => {
     state.film.binsChosen = event.target.checked;
   });
+  element('by-grid').onclick = event => changeAround(false, event);
+  element('by-region').onclick = event => changeAround(true, event);
   element('clip').onchange = event => changeClip(event.target.checked, event);
   EDITIONS.forEach((name, i) => { element(`edition-${name}`).onclick = event => changeEdition(i, event); });
   element('range-all').onclick = event => changeRange(0, state.film.maxval, event);

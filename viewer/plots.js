@@ -1,4 +1,4 @@
-// The film's histogram beneath Min and Max, and the plot of a tile's counts, limit and mapping.
+// The film's histogram beneath Min and Max, and the plot of the counts, limit and mapping of a tile or of a pixel's own region.
 import {element} from './dom.js';
 import {mostLevel} from './panel.js';
 
@@ -110,7 +110,7 @@ function emptyTile(pen, box) {
   pen.fillStyle = INK.text;
   pen.textAlign = 'center';
   pen.textBaseline = 'middle';
-  pen.fillText('point at the film for its tile', box.x + box.width / 2, box.y + box.height / 2);
+  pen.fillText('point at the film for its tile or region', box.x + box.width / 2, box.y + box.height / 2);
 }
 
 function drawBars(pen, box, columns, most) {

@@ -1,5 +1,5 @@
-// What a pixel's rendered grey depends on, and how far a rectangle of the film reaches (docs/RULES.md, 4.3), by the edges and
-// centres in the library's own record. Numbers alone: nothing here knows the page.
+// What a pixel's rendered grey depends on, and how far a rectangle of the film reaches (docs/RULES.md, 4.3 and 4.4), by the
+// edges and centres in the library's own record, or by the side of own regions. Numbers alone: nothing here knows the page.
 //
 // A side is the film's columns or its rows: {grid, edges, centres}, as many tiles as the grid, each from its edge up to the next.
 
@@ -46,10 +46,21 @@ function spanReached({grid, edges, centres}, first, count) {
   return {from, count: (high === grid - 1 ? edges[grid] : centres[high + 1]) - from};
 }
 
-// All pixels that a rectangle can reach, which are a rectangle too: those that use a tile in which a part of it lies. Its own are
-// among them, and at factor 1.0 there are no others.
-export function reachOf(axes, s, {left, top, width, height}) {
+// A rectangle and half a side around it, cut off at the film's border: of a pixel its own region, of a window what its pixels
+// depend on, and of any rectangle the pixels in whose regions a part of it lies.
+export function regionAbout(film, {side}, {left, top, width, height}) {
+  const half = side >> 1;
+  const from = {left: Math.max(0, left - half), top: Math.max(0, top - half)};
+  return {...from, width: Math.min(film.width, left + width + half) - from.left,
+    height: Math.min(film.height, top + height + half) - from.top};
+}
+
+// All pixels that a rectangle can reach, which are a rectangle too: those that use a tile in which a part of it lies, or in
+// whose own region it does. Its own are among them, and at factor 1.0 there are no others. axes: of the film's record, where it
+// has one.
+export function reachOf(film, axes, s, {left, top, width, height}) {
   if (isAsScanned(s)) return {left, top, width, height};
+  if (s.around) return regionAbout(film, s, {left, top, width, height});
   const sides = sidesOf(axes, s);
   const columns = spanReached(sides.columns, left, width);
   const rows = spanReached(sides.rows, top, height);

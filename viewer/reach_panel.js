@@ -27,7 +27,7 @@ function rectangleNow(film, kind) {
 function reachNow(film, kind) {
   const box = film && film.ready ? rectangleNow(film, kind) : null;
   const kept = box && keptOf(film);
-  return kept ? reachOf(kept.axes, kept.settings, box) : null;
+  return kept ? reachOf(film, kept.axes, kept.settings, box) : null;
 }
 
 // One path for both, so that what both reach is not shaded twice.

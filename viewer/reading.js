@@ -57,6 +57,11 @@ function dotWords({dot}) {
     `rendered ${dot.rendered}` : '';
 }
 
+// Where it lies: the tile, or the region of its own.
+function tileWords({tile, side}) {
+  return side ? `${tile.width} by ${tile.height} pixels` : `${tile.across + 1} across, ${tile.down + 1} down`;
+}
+
 // What clipping took of the tile: what stood above its limit, and how many bins the walk that hands the rest out looks at.
 // The rule of 1986 has no such walk.
 function tileNote(probe) {
@@ -74,7 +79,7 @@ function fillUsed(probe) {
   for (const tile of used) {
     cells[2 * (tile.down - down) + tile.across - across] = `${tile.across + 1}, ${tile.down + 1}: ${tile.weight}`;
   }
-  if (used.length === 0) cells[0] = probe ? 'its own grey alone: factor 1.0' : '–';
+  if (used.length === 0) cells[0] = !probe ? '–' : probe.mapping ? 'its own region alone' : 'its own grey alone: factor 1.0';
   cells.forEach((text, i) => setText(`used-${i}`, text));
   setText('used-sum', used.length === 0 ? '' : `of ${used.reduce((sum, {weight}) => sum + weight, 0)}`);
 }
@@ -88,7 +93,8 @@ export function fillReading(probe) {
   const tile = state.tile;
   setText('pointer-film', probe && look.mode === 'pair' && state.at ? `film ${state.at.film.number}` : '');
   setText('at-dot', probe ? dotWords(probe) : '');
-  setText('at-tile', tile ? `${tile.across + 1} across, ${tile.down + 1} down` : '–');
+  setText('at-kind', probe && probe.side ? 'region' : 'tile');
+  setText('at-tile', tile ? tileWords(probe) : '–');
   setText('at-rectangle', tile ? `columns ${tile.left} to ${tile.left + tile.width - 1}, ` +
     `rows ${tile.top} to ${tile.top + tile.height - 1}` : '');
   fillUsed(probe);

@@ -62,12 +62,14 @@ function fileText(what, name, digest, bytes, film) {
     `    "width": ${film.width},\n    "height": ${film.height},\n    "maxval": ${film.maxval}\n  },\n`;
 }
 
-// All settings as used: bins 0 stands as 128, and a factor that does not count as null. isNamed: whether the edition is said.
+// All settings as used: of own regions their side and no grid; bins 0 stands as 128, and a factor that does not count as null.
+// isNamed: whether the edition is said.
 function settingsText(s, isNamed) {
   const bins = s.bins || USUAL_BINS;
   const factor = s.clip ? printG(Math.fround(s.factor), 9) : 'null';
   const edition = isNamed ? `    "edition": "${EDITIONS[s.edition]}",\n` : '';
-  return `  "settings": {\n    "across": ${s.across},\n    "down": ${s.down},\n    "bins": ${bins},\n    "min": ${s.min},\n` +
+  const by = s.around ? `    "side": ${s.side},\n` : `    "across": ${s.across},\n    "down": ${s.down},\n`;
+  return `  "settings": {\n${by}    "bins": ${bins},\n    "min": ${s.min},\n` +
     `    "max": ${s.max},\n    "clip": ${s.clip ? 'true' : 'false'},\n    "factor": ${factor},\n${edition}    "by_bytes": false\n  },\n`;
 }
 
@@ -77,15 +79,19 @@ function tilesText(what, which, s, looks) {
   return `    "${what}": [${listed.join(', ')}]`;
 }
 
+// Of own regions none are listed.
+function listsText(s, looks) {
+  return s.around ? '' : `,\n  "tiles": {\n${tilesText('excess', 0, s, looks)},\n${tilesText('looks', 1, s, looks)}\n  }`;
+}
+
 // made: what map made of the film with these settings, its footer and its list of looks. isNamed: whether the edition is said, as
 // it was not before there were two.
 export function recordText(version, film, output, s, made, isNamed = true) {
   const footer = made.footer;
-  return `{\n  "program": "tzofnadir",\n  "version": "${version}",\n  "command": "enhance",\n` +
+  return `{\n  "program": "tzofnadir",\n  "version": "${version}",\n  "command": "${s.around ? 'around' : 'enhance'}",\n` +
     fileText('input', film.name, film.digest, film.bytes, film) +
     fileText('output', output.name, output.digest, output.bytes, film) +
     settingsText(s, isNamed) +
     `  "window": null,\n  "limit": ${footer.limit},\n  "factor_asked": ${printG(footer.asked, 9)},\n` +
-    `  "factor_used": ${printG(footer.used, 17)},\n  "tiles": {\n` +
-    `${tilesText('excess', 0, s, made.looks)},\n${tilesText('looks', 1, s, made.looks)}\n  }\n}\n`;
+    `  "factor_used": ${printG(footer.used, 17)}${listsText(s, made.looks)}\n}\n`;
 }

@@ -1,7 +1,12 @@
 // What is told behind a refusal's sentence: this film's numbers and, where there is one, the way out. The same numbers as the
 // command line's messages have (station/refuse.c), in the words of the page. Messages alone hang on what is read here.
-import {EDITIONS, LEAST_GRID, MOST_GREY, MOST_GRID, MOST_SIDE, USUAL_BINS} from './calls.js';
+import {EDITIONS, LEAST_GRID, LEAST_REGION, MOST_GREY, MOST_GRID, MOST_REGION, MOST_SIDE, USUAL_BINS} from './calls.js';
 import {printG} from './record.js';
+
+// A refusal as it is told: its number, the header's sentence, and more.
+export function refused(film, refusal, more) {
+  return {refusal: {number: refusal, sentence: film.library.sentence(refusal), more}};
+}
 
 function isWhite(byte) { return byte === 32 || byte === 9 || byte === 13 || byte === 10; }
 function isDigit(byte) { return byte >= 48 && byte <= 57; }
@@ -267,6 +272,13 @@ function moreOfSides(film, s) {
   return lines;
 }
 
+// A side that is none: the odd one above it is taken, up to the largest.
+function moreOfRegion(film, s) {
+  const near = Math.max(LEAST_REGION, Math.min(MOST_REGION, s.side + 1 - s.side % 2));
+  return [`Asked was side ${s.side}; odd sides from ${LEAST_REGION} to ${MOST_REGION} are taken.`,
+    `Side ${near} is the nearest${s.side < MOST_REGION && s.side > LEAST_REGION ? ' above it' : ''}.`];
+}
+
 function wayByRange(film) {
   const flat = film.least === film.greatest;
   return `The film's least grey is ${film.least}, its greatest ${film.greatest}: Min ${flat ? 0 : film.least} and ` +
@@ -296,13 +308,14 @@ function moreOfBins(film, s) {
 
 function moreOfAll(film, s) {
   const clip = s.clip ? `factor ${printG(Math.fround(s.factor), 9)}` : 'clip off';
-  return [`The settings were grid ${s.across} by ${s.down}, ${s.bins === 0 ? USUAL_BINS : s.bins} bins, ` +
+  const by = s.around ? `own regions of side ${s.side}` : `grid ${s.across} by ${s.down}`;
+  return [`The settings were ${by}, ${s.bins === 0 ? USUAL_BINS : s.bins} bins, ` +
     `range ${s.min} to ${s.max} (${s.max >= s.min ? s.max - s.min + 1 : 0} greys), ${clip}, edition ${EDITIONS[s.edition]}.`];
 }
 
 export function moreOfSettings(refusal, film, s) {
   const ways = {3: moreOfGrid, 4: moreOfGrid, 5: moreOfSides, 6: moreOfSides, 7: moreOfRange, 8: moreOfRange,
-    13: moreOfPixel, 31: moreOfBins};
+    13: moreOfPixel, 31: moreOfBins, 39: moreOfRegion};
   return (ways[refusal] || moreOfAll)(film, s);
 }
 

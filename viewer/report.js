@@ -135,14 +135,16 @@ export function filmNamedIn(value) {
   return {film: {name: file, digest: sha256, bytes, width, height, maxval}};
 }
 
-// Settings that name no edition are of ours.
+// Settings that name no edition are of ours; those that name a side are of own regions, and have no grid.
 function settingsFrom(s) {
   const edition = s.edition === undefined ? 0 : EDITIONS.indexOf(s.edition);
-  const whole = ['across', 'down', 'bins', 'min', 'max'].every(name => Number.isInteger(s[name]) && s[name] >= 0);
+  const around = s.side === undefined ? 0 : 1;
+  const names = [...(around ? ['side'] : ['across', 'down']), 'bins', 'min', 'max'];
+  const whole = names.every(name => Number.isInteger(s[name]) && s[name] >= 0);
   const factor = s.clip === false ? s.factor === null : s.clip === true && typeof s.factor === 'number';
   if (!whole || !factor || edition < 0 || s.by_bytes !== false) return null;
-  const {across, down, bins, min, max} = s;
-  return {across, down, bins, min, max, clip: s.clip ? 1 : 0, factor: s.clip ? Math.fround(s.factor) : 3, edition};
+  return {around, ...Object.fromEntries(names.map(name => [name, s[name]])), clip: s.clip ? 1 : 0,
+    factor: s.clip ? Math.fround(s.factor) : 3, edition};
 }
 
 function displayFrom(display) {

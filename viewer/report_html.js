@@ -1,6 +1,7 @@
 // The report as one page for the browser's print. From the same values as the JSON, so that both say the same.
 import {EDITIONS} from './calls.js';
 import {kindText} from './marks.js';
+import {regionWords} from './numbers.js';
 
 function safeText(value) {
   return String(value).replace(/[&<>"']/g, c => ({'&': '&amp;', '<': '&lt;', '>': '&gt;', '"': '&quot;', "'": '&#39;'})[c]);
@@ -22,7 +23,8 @@ function fileRow(name, it, film) {
 function settingsRow(s, footer) {
   const clip = s.clip ? `clip factor ${safeText(footer.asked)} asked, ${safeText(footer.used)} used, L ${footer.limit}`
     : 'clip off';
-  return factRow('Settings', `grid ${s.across} by ${s.down}, ${s.bins || 128} bins, range ${s.min} to ${s.max}, ${clip}`);
+  const by = s.around ? regionWords(s) : `grid ${s.across} by ${s.down}`;
+  return factRow('Settings', `${by}, ${s.bins || 128} bins, range ${s.min} to ${s.max}, ${clip}`);
 }
 
 function displayRow(d) {

@@ -33,6 +33,7 @@ export function dueReport() {
   return {
     message: {kind: 'report', number: film.number, settings, reading},
     slow: `report of ${film.name}`,
+    again: () => { if (!film.closed) reporting.making.unshift(next); },
     done: answer => { if (state.film === film) showReport(next, answer); },
   };
 }
@@ -82,6 +83,7 @@ export function dueReading() {
   return {
     message: {kind: 'read-report', name: file.name, file, looked: state.film ? state.film.number : 0},
     slow: `reading ${file.name}`,
+    again: () => reporting.reading.unshift(file),
     done: answer => {
       if (answer.fault) return showFault('Not opened', answer.fault);
       const film = state.films.find(each => each.number === answer.read.number);
@@ -95,8 +97,8 @@ function applyReport(film, read, name) {
   const {settings, version, reading: {display, ...reading}} = read;
   if (state.film !== film) choose(film, null);
   changeReading(film, {...EMPTY_READING, ...reading});
-  film.settings = {...settings};
-  film.binsChosen = settings.bins === chosenBins(settings, film);
+  film.settings = {...film.settings, ...settings}; // what does not count, grid or side, stays
+  film.binsChosen = settings.bins === chosenBins(film.settings, film);
   film.display = {...film.display, ...display};
   film.lastMark = Math.max(film.lastMark || 0, ...reading.marks.map(mark => mark.number));
   keptSaved(film, 'settings', 'reading');

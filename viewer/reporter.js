@@ -1,6 +1,6 @@
 // The worker's part of measuring and reporting: what the scanned greys of an open film give, and reports made and read again.
 import {makeLibrary} from './calls.js';
-import {digestOf, picture, renderedFile} from './film.js';
+import {digestOf, picture, pieceOf, renderedFile, wholeWindow} from './film.js';
 import {boxOf, markPicture, measuredMark} from './marks.js';
 import {dipOf, distanceMm, distancePixels, profileOf, shownSamples} from './measure.js';
 import {renderingName} from './names.js';
@@ -138,6 +138,8 @@ function otherFilm(held, named, looked) {
 function madeAgain(film, text, value, named) {
   const found = readingFrom(named, value);
   if (found.fault) return found;
+  const piece = pieceOf(film, found.settings, wholeWindow(film));
+  if (piece) return piece;
   const made = makeReport(film, found.settings, found.reading, {version: found.version, input: named.name, output: found.output,
     form: found.form});
   if (made.refusal) return {fault: `its settings are refused, ${made.refusal.number}: ${made.refusal.sentence}`};
@@ -145,7 +147,7 @@ function madeAgain(film, text, value, named) {
   return {number: film.number, version: found.version, settings: found.settings, reading: found.reading};
 }
 
-// Gives {read} or {fault}; nothing is changed here, so nothing is half loaded.
+// Gives {read} or {fault}, or {unfinished} where it is to be asked for again; nothing is changed here, so nothing is half loaded.
 export async function readReport(held, message) {
   const not = fault => ({fault: `${message.name} is not opened as a report: ${fault}`});
   const file = await textOfFile(message.file);
@@ -155,5 +157,6 @@ export async function readReport(held, message) {
   const film = filmWith(held, report.named, message.looked);
   if (!film) return not(otherFilm(held, report.named, message.looked));
   const read = madeAgain(film, file.text, report.value, report.named);
+  if (read.unfinished !== undefined) return read;
   return read.fault ? not(read.fault) : {read};
 }

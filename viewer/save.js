@@ -6,7 +6,7 @@ import {filmDigest} from './greys.js';
 import {keptSaved} from './history.js';
 import {dividerDot, howShown, keptOf, look, pairFilm, partShown} from './look.js';
 import {viewName} from './names.js';
-import {editionWords, shownFactor} from './numbers.js';
+import {editionWords, regionWords, shownFactor} from './numbers.js';
 import {endsOf} from './panel.js';
 import {printG} from './record.js';
 import {displayOf} from './shades.js';
@@ -29,6 +29,7 @@ export function ask(what) {
 export function askView() {
   const film = state.film;
   if (!look.painted) return;
+  if (keptOf(film).isPart) return tell('The view is not all drawn yet: it can be saved when it is.');
   tell('');
   const {settings, footer} = keptOf(film);
   const other = look.mode === 'pair' ? pairFilm() : null;
@@ -51,6 +52,7 @@ export function dueSaving() {
   return {
     message: {kind: 'save', what, number: film.number, settings},
     slow: `saving ${film.name}`,
+    again: () => { if (!film.closed) saving.unshift(next); },
     done: answer => {
       if (answer.refusal || answer.fault) return tell(savedNot(film, answer));
       ways[what](next, answer);
@@ -123,8 +125,8 @@ export function settingsWords(s, footer) {
   const asked = footer ? `factor asked ${printG(footer.asked, 9)}, used ${shownFactor(footer.used)}, L ${footer.limit}`
     : `factor ${printG(Math.fround(s.factor), 9)}`;
   const clip = s.clip ? asked : 'clip off';
-  return `grid ${s.across} by ${s.down}, ${s.bins || USUAL_BINS} bins, range ${s.min} to ${s.max}, ${clip}, ` +
-    editionWords(s.edition);
+  const by = s.around ? regionWords(s) : `grid ${s.across} by ${s.down}`;
+  return `${by}, ${s.bins || USUAL_BINS} bins, range ${s.min} to ${s.max}, ${clip}, ${editionWords(s.edition)}`;
 }
 
 function displayWords(film, display) {

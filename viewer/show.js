@@ -4,7 +4,7 @@ import {element, setText} from './dom.js';
 import {listFilms} from './films.js';
 import {MARGIN_DOTS, clearPanes, keepDrawn, keptOf, look, paintView, pairFilm, pairIsThere, panes, placeNow,
   placeUnder} from './look.js';
-import {editionWords} from './numbers.js';
+import {editionWords, regionWords} from './numbers.js';
 import {fillFooter} from './panel.js';
 import {fillReading, forgetReading} from './reading.js';
 import {filmReady, state, want, wanted} from './state.js';
@@ -59,16 +59,22 @@ function showRequest(film, {place, seen}, spare, marks) {
     transfer: Object.values(spare),
     slow: `rendering ${film.name}`,
     done: answer => shown(film, {settings, place, seen}, answer, marks),
+    again: answer => shown(film, {settings, place, seen}, answer, marks),
   };
 }
 
 // An answer for a film that is no longer looked at paints nothing.
 function shown(film, asked, answer, marks) {
+  const isPart = answer.unfinished !== undefined;
+  if (isPart && state.film === film) { // the rest is wished for, or by then something newer
+    wanted.drawn = -1;
+    wanted.marks.unshift(...marks);
+  }
   const before = Boolean(film.refusal);
   film.refusal = answer.refusal || (answer.fault ? {number: null, sentence: answer.fault, more: []} : null);
   if (before !== Boolean(film.refusal)) listFilms();
   if (film.refusal) look.kept.delete(film.number);
-  else if (answer.picture && !film.closed) keepDrawn(film, {...asked, footer: answer.footer, axes: answer.axes}, answer.picture);
+  else if (answer.picture && !film.closed) keepDrawn(film, {...asked, ...madeOf(answer)}, answer.picture);
   if (state.film !== film) return besideShown(film, answer);
   showRefusal(film.refusal);
   fillFooter(film.refusal ? null : answer.footer, asked.settings, film);
@@ -81,8 +87,11 @@ function shown(film, asked, answer, marks) {
     if (isRead(film)) fillReading(answer.probe || null);
   }
   tellState();
-  keepTimes(marks);
+  if (!isPart) keepTimes(marks);
 }
+
+// What a picture was made with, and whether it is all there.
+function madeOf({footer, axes, unfinished}) { return {footer, axes, isPart: unfinished !== undefined}; }
 
 // The film beside the one that is looked at was drawn, refused or read.
 function besideShown(film, answer) {
@@ -122,7 +131,8 @@ export function fillCaptions() {
     const own = film && film.ready && film.display.auto ? ', by its own greys' : '';
     const refused = film && film.refusal && film !== state.film ? ', refused' : '';
     const edition = film && film.ready && film.settings.edition ? `, ${editionWords(film.settings.edition)}` : '';
-    const words = `${side === 'rendered' ? `rendered${edition}` : `as scanned${own}`}${refused}`;
+    const region = film && film.ready && film.settings.around ? `, ${regionWords(film.settings)}` : '';
+    const words = `${side === 'rendered' ? `rendered${region}${edition}` : `as scanned${own}`}${refused}`;
     const size = film && film.ready ? `${film.width} × ${film.height} · ` : '';
     const none = look.mode === 'pair' && i > 0 ? 'no second film' : words;
     fillLabel(label, film ? `film ${film.number} · ${size}${words}` : none, film ? film.name : '');

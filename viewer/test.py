@@ -107,11 +107,12 @@ def all_ways():
     import ways_measure
     import ways_out
     import ways_reach
+    import ways_regions
     import ways_report
     import ways_screen
     import ways_settings
     return (ways_films.WAYS + ways_settings.WAYS + ways_looking.WAYS + ways_screen.WAYS + ways_hand.WAYS + ways_out.WAYS
-            + ways_measure.WAYS + ways_marks.WAYS + ways_reach.WAYS + ways_report.WAYS + ways_load.WAYS)
+            + ways_measure.WAYS + ways_marks.WAYS + ways_reach.WAYS + ways_regions.WAYS + ways_report.WAYS + ways_load.WAYS)
 
 
 def begin(words, room):

@@ -1,8 +1,8 @@
 // The worker's messages. It holds all films; the page asks for one thing at a time and is answered once for each.
 import {NoMemory, makeLedger} from './calls.js';
-import {closeFilm, digestOf, greysOfWindow, mostBytes, openFilm, probe, saveFilm, saveRecord, saveView, scanCells,
-  settle} from './film.js';
-import {findHelp, forgetHelp, handOver, help, sharedPicture} from './helper.js';
+import {closeFilm, digestOf, greysOfWindow, mostBytes, openFilm, pictureSoFar, probe, saveFilm, saveRecord, saveView,
+  scanCells, settle, wholeWindow} from './film.js';
+import {findHelp, forgetHelp, handOver, help, sharedPicture, sharedPiece} from './helper.js';
 import {gridsThatFit} from './refuse.js';
 import {makeReport, measured, readReport} from './reporter.js';
 
@@ -49,35 +49,49 @@ function toClose(message) {
   return {};
 }
 
+// A window as far as it is drawn by now, and how far that is; with no picture where that would hold up the drawing.
+async function pictureNow(film, {settings, place, spare}) {
+  const piece = await sharedPiece(film, settings, place);
+  return piece ? {...piece, picture: pictureSoFar(film, place, spare)}
+    : {picture: await sharedPicture(film, settings, place, spare)};
+}
+
 // Settings, window and pointer in one: what the page wants to see now.
 async function toShow(message) {
   const film = held.films.get(message.number);
   const answer = settle(film, message.settings);
   if (answer.refusal) return answer;
   answer.footer = film.footer;
-  answer.axes = film.record.axes;
-  if (message.place) answer.picture = await sharedPicture(film, message.settings, message.place, message.spare);
+  answer.axes = film.record && film.record.axes;
+  if (message.place) Object.assign(answer, await pictureNow(film, message));
   if (answer.picture && answer.picture.refusal) return answer.picture;
   if (message.at) answer.probe = probe(film, message.settings, message.at);
   return answer.probe && answer.probe.refusal ? answer.probe : answer;
 }
 
-function toSave(message) {
+async function toSave(message) {
   const film = held.films.get(message.number);
   const ways = {film: saveFilm, record: saveRecord, view: saveView};
-  return ways[message.what](film, message.settings, held.version);
+  const piece = message.what === 'view' ? null : await sharedPiece(film, message.settings, wholeWindow(film));
+  return piece || ways[message.what](film, message.settings, held.version);
 }
 
 // The scan alone in the cells of a place: for the overview.
 function toScan(message) { return {scanned: scanCells(held.films.get(message.number), message.place)}; }
-function toGreys(message) { return greysOfWindow(held.films.get(message.number), message.settings, message.window); }
 function toDigest(message) { return {digest: digestOf(held.films.get(message.number))}; }
 
+async function toGreys(message) {
+  const film = held.films.get(message.number);
+  const piece = await sharedPiece(film, message.settings, message.window);
+  return piece || greysOfWindow(film, message.settings, message.window);
+}
 function toMeasure(message) { return measured(held.films.get(message.number), message.wish); }
 function toReadReport(message) { return readReport(held, message); }
 
-function toReport(message) {
-  return makeReport(held.films.get(message.number), message.settings, message.reading, {version: held.version});
+async function toReport(message) {
+  const film = held.films.get(message.number);
+  const piece = await sharedPiece(film, message.settings, wholeWindow(film));
+  return piece || makeReport(film, message.settings, message.reading, {version: held.version});
 }
 
 // The buffers that change hands instead of being copied.

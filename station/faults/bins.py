@@ -1,5 +1,5 @@
 """The bins that are chosen where none are given, read once more from docs/STATION.md, in fractions: what station/bins.c and
-viewer/numbers.js are held to.
+viewer/numbers.js are held to. A row has a grid, or in its place the side of the region around each pixel.
 
 Run: bins.py TABLE   prints each row of the table that says another number, and ends with 1 where there is one.
 """
@@ -18,11 +18,19 @@ def holds(factor, pixels, bins, greys):
     return least <= Fraction(limit * bins, pixels) <= factor * Fraction(11, 10)
 
 
-def chosen(width, height, across, down, low, high, factor):
+def judged(width, height, place):
+    """The pixels of the least tile, or of a whole region, and the most bins that serve there."""
+    if "x" in place:
+        across, down = (int(n) for n in place.split("x"))
+        return (width // across) * (height // down), MOST
+    pixels = min(width, int(place)) * min(height, int(place))
+    return pixels, min(256, max(64, pixels // 8))
+
+
+def chosen(pixels, most, low, high, factor):
     """The most bins that hold the factor, of those that some limit makes the best of; factor is None with clip off."""
     greys = high - low + 1
-    most = min(MOST, greys)
-    pixels = (width // across) * (height // down)
+    most = min(most, greys)
     if factor is None or not 1 < factor <= 1024:
         return most
     exact = Fraction(struct.unpack(">f", struct.pack(">f", factor))[0])
@@ -43,12 +51,12 @@ def rows(path):
 
 def main():
     wrong = 0
-    for size, grid, span, clip, bins in rows(sys.argv[1]):
-        (width, height), (across, down) = ([int(n) for n in word.split("x")] for word in (size, grid))
+    for size, place, span, clip, bins in rows(sys.argv[1]):
+        width, height = (int(n) for n in size.split("x"))
         low, high = (int(n) for n in span.split(":"))
-        found = chosen(width, height, across, down, low, high, None if clip == "off" else float(clip))
+        found = chosen(*judged(width, height, place), low, high, None if clip == "off" else float(clip))
         if found != int(bins):
-            print(size, grid, span, clip, bins, "and by the rule", found)
+            print(size, place, span, clip, bins, "and by the rule", found)
             wrong += 1
     return 1 if wrong else 0
 

@@ -221,6 +221,10 @@ print(*(library.tz_room_entries(ctypes.byref(s), films) for s in settings for fi
     saw=$?
     if [ "$saw" -eq 0 ]; then ok=yes; else ok=no; fi
     report "$ok" "the plain engine over the library: enhance's picture, footer, scratch and answers, but for 11 and 17" "status $saw: $(cat wrote)$(tail -n 1 said)"
+    python3 -B "$top/station/faults/arounds.py" "$top/examples" "$prefix/lib/libtzofnadir.so" >wrote 2>said
+    saw=$?
+    if [ "$saw" -eq 0 ]; then ok=yes; else ok=no; fi
+    report "$ok" "a window around each pixel over the library: the second program's, in parts too, and refusals that keep all" "status $saw: $(cat wrote)$(tail -n 1 said)"
     python3 -B "$top/station/faults/threads.py" "$top/examples" "$prefix/lib/libtzofnadir.so" film.pgm >wrote 2>said
     saw=$?
     if [ "$saw" -eq 0 ]; then ok=yes; else ok=no; fi

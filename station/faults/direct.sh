@@ -211,7 +211,7 @@ mkdir -p wrong_engine
 bad=''
 for source in $(cd "$top" && station/sources) station/faults/wrong.c; do
     name=''
-    [ "$source" != station/direct.c ] || name=-Dtz_direct=wrong_direct
+    [ "$source" != station/painting.c ] || name=-Dtz_direct=wrong_direct
     "$top/toolchain/compile" x86_64 "$top/$source" "wrong_engine/$(basename "$source" .c).o" -O2 ${name:+"$name"} 2>>said || bad=yes
 done
 "$top/toolchain/link" x86_64 wrong_engine/tzofnadir.x86-64 wrong_engine/*.o "$(cd "$top" && toolchain/library | sed "s|^|$top/|")" 2>>said || bad=yes

@@ -13,6 +13,7 @@ import sys
 
 sys.path.insert(0, os.path.join(os.path.dirname(os.path.abspath(__file__)), "../../second"))
 sys.dont_write_bytecode = True
+import around  # noqa: E402
 import clahe  # noqa: E402
 import pgm  # noqa: E402
 
@@ -48,8 +49,12 @@ def judge(film, out, record):
     s, width, height, maxval, greys = told["settings"], *read(film)
     clip = bits(">f", s["factor"]) if s["clip"] else None
     edition = {"ours": clahe.OURS, "1986": clahe.OF_1986}[s["edition"]]
-    settings = clahe.Settings(s["across"], s["down"], s["bins"], s["min"], s["max"], clip, edition)
-    footer = clahe.enhance(width, height, greys, settings, [0] * clahe.entries_of(settings), [0] * s["bins"])
+    settings = clahe.Settings(s.get("across", 0), s.get("down", 0), s["bins"], s["min"], s["max"], clip, edition)
+    if "side" in s:
+        scanned, greys = greys, [0] * (width * height)
+        footer = around.around(width, height, scanned, s["side"], settings, greys, [0] * (2 * s["bins"]))
+    else:
+        footer = clahe.enhance(width, height, greys, settings, [0] * clahe.entries_of(settings), [0] * s["bins"])
     window = told["window"] or {"left": 0, "top": 0, "width": width, "height": height}
     rows = range(window["top"], window["top"] + window["height"])
     part = [grey for y in rows for grey in greys[y * width + window["left"]:][:window["width"]]]

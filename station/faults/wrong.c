@@ -1,5 +1,5 @@
 /*
- * A plain engine that is wrong in one thing, to be linked in the true one's place: what WRONG names. station/direct.c is
+ * A plain engine that is wrong in one thing, to be linked in the true one's place: what WRONG names. station/painting.c is
  * compiled to call it, so that check can be seen to find what differs.
  */
 #include <stddef.h>

@@ -80,7 +80,7 @@ function cells() {
 }
 
 /** A window's means, pixel by pixel, by the definition of a cell. */
-function meansOf(greys, { zoom, cellX, cellY, columns, rows, left, top, width, film }) {
+export function meansOf(greys, { zoom, cellX, cellY, columns, rows, left, top, width, film }) {
   const cell = (first, k, side) => [cellStart(zoom, first + k), cellEnd(zoom, first + k, side)];
   return Uint16Array.from({ length: columns * rows }, (_, i) => {
     const [x0, x1] = cell(cellX, i % columns, film.width), [y0, y1] = cell(cellY, Math.floor(i / columns), film.height);

@@ -35,9 +35,9 @@ function caseAgrees(module, one) {
     same(`${name}: used by ${x}, ${y}`, found, used);
   }
   for (const [box, reach] of one.boxes) {
-    same(`${name}: reached by ${box}`, reachOf(axes, s, boxFrom(box)), boxFrom(reach));
-    same(`${name}: without clipping`, reachOf(axes, { ...s, clip: 0, factor: 1 }, boxFrom(box)), boxFrom(reach));
-    same(`${name}: at factor 1.0`, reachOf(axes, { ...s, factor: 1 }, boxFrom(box)), boxFrom(box));
+    same(`${name}: reached by ${box}`, reachOf(one, axes, s, boxFrom(box)), boxFrom(reach));
+    same(`${name}: without clipping`, reachOf(one, axes, { ...s, clip: 0, factor: 1 }, boxFrom(box)), boxFrom(reach));
+    same(`${name}: at factor 1.0`, reachOf(one, axes, { ...s, factor: 1 }, boxFrom(box)), boxFrom(box));
   }
   return one.pixels.length;
 }

@@ -23,10 +23,10 @@ const ODD = [
     s: { across: 7, down: 13, bins: 100, clip: 1, factor: 1.25, edition: 1 } },
 ];
 
-/** What `tzofnadir enhance` writes of a film, and its record. */
-export function commandLine(room, film, words) {
+/** What `tzofnadir enhance` or another command writes of a film, and its record. */
+export function commandLine(room, film, words, command = 'enhance') {
   const out = `${room}/out.pgm`, record = `${room}/out.json`;
-  execFileSync('target/station/tzofnadir', ['enhance', film, out, '--quiet', '--force', '--record', record, ...words]);
+  execFileSync('target/station/tzofnadir', [command, film, out, '--quiet', '--force', '--record', record, ...words]);
   return { file: readFileSync(out), record: JSON.parse(readFileSync(record, 'utf8')) };
 }
 

@@ -7,6 +7,7 @@ import { helpers } from './helpers.mjs';
 import { modules } from './modules.mjs';
 import { measuring } from './measuring.mjs';
 import { reaching } from './reaching.mjs';
+import { regions } from './regions.mjs';
 import { reporting } from './reporting.mjs';
 
 const [room, ...programs] = process.argv.slice(2);
@@ -42,6 +43,7 @@ renderings(wasm, room, trial);
 helpers(wasm, trial);
 modules(wasm, room, trial);
 reaching(wasm, trial);
+regions(wasm, room, trial);
 measuring(trial);
 reporting(trial);
 console.log(`${tried} tried, ${good} as expected`);

@@ -2,6 +2,7 @@
 library, the command line or the page."""
 
 import base64
+import collections
 import hashlib
 import os
 import random
@@ -13,11 +14,16 @@ TOP = os.path.dirname(os.path.dirname(os.path.dirname(os.path.abspath(__file__))
 sys.path.insert(0, os.path.join(TOP, "second"))
 sys.path.insert(0, os.path.join(TOP, "station", "faults"))
 
+import around  # noqa: E402
 import bins  # noqa: E402
 import clahe  # noqa: E402
 import pgm  # noqa: E402
 
 ZOOMS = {"1-4": (1, 4), "1-2": (1, 2), "1-1": (1, 1), "2-1": (2, 1), "4-1": (4, 1), "8-1": (8, 1)}
+
+
+# Settings of own regions: their side, and settings of the second program whose grid is not looked at.
+Regions = collections.namedtuple("Regions", "side settings")
 
 
 class Film:
@@ -79,11 +85,22 @@ class Film:
             self.kept[key] = maps, answer[1], listed
         return self.kept[key]
 
+    def region_plot(self, x, y, asked):
+        """The same of a pixel's own region, and its rectangle: left, right, top, bottom, the second and fourth not inside."""
+        own = around.region(self.width, self.height, asked.side, x, y)
+        pixels, bins = clahe.pixels_of(own), clahe.bin_count(asked.settings.bins)
+        counts = clahe.tile_counts(self.greys, self.width, own, asked.settings)
+        mapping, (excess, looks) = clahe.tile_mapping(counts, asked.settings, pixels)
+        return own, {"pixels": pixels, "counts": counts, "limit": clahe.limit_of(asked.settings.clip, pixels, bins),
+                     "mapping": mapping, "excess": excess, "looks": looks}
+
     def grey_at(self, x, y, asked):
         """One rendered grey."""
         grey = self.greys[y * self.width + x]
-        if clahe.factor_is_one(asked.clip):
+        if clahe.factor_is_one(asked.settings.clip if isinstance(asked, Regions) else asked.clip):
             return grey
+        if isinstance(asked, Regions):
+            return around.grey(self.width, self.height, self.greys, asked.side, asked.settings, x, y)
         return clahe.grey_at(x, y, grey, self.width, self.height, asked, self.mappings(asked)[0])
 
     def rendered(self, asked):
@@ -109,17 +126,20 @@ def factor_of(asked):
 
 def footer_of(film, asked):
     """L, the factor asked and the factor used."""
-    footer = clahe.footer_of(film.width, film.height, asked)
+    footer = around.footer_of(film.width, film.height, *asked) if isinstance(asked, Regions) else clahe.footer_of(
+        film.width, film.height, asked)
     return (footer.limit, struct.unpack(">f", struct.pack(">I", footer.asked))[0],
             struct.unpack(">d", struct.pack(">Q", footer.used))[0])
 
 
 def rendering_words(film, number, asked, data=None):
     """What tells a rendering: no other film, number or setting has it."""
+    by = "side%d" % asked.side if isinstance(asked, Regions) else "%dx%d" % (asked.across, asked.down)
+    asked = asked.settings if isinstance(asked, Regions) else asked
     factor = factor_of(asked)
     clip = "clipoff" if factor is None else "clip%.9g" % factor
-    return "film%d-%dx%d-%dbins-%dto%d-%s-%s-%s" % (number, asked.across, asked.down, asked.bins or 128, asked.min, asked.max, clip,
-                                                    EDITIONS[asked.edition], digest_of(film, data)[:12])
+    return "film%d-%s-%dbins-%dto%d-%s-%s-%s" % (number, by, asked.bins or 128, asked.min, asked.max, clip, EDITIONS[asked.edition],
+                                                 digest_of(film, data)[:12])
 
 
 def saved_name(film, number, asked, data=None):

@@ -14,14 +14,14 @@ PROGRAM = os.path.join(expected.TOP, "station/render")
 MOST_OFF = 16  # shades
 
 
-def rendered_by_the_station(person, name, words, base):
-    """Has station/render render a film with the page's names, and gives the film's and the record's bytes."""
+def rendered_by_the_station(person, name, words, base, program=(PROGRAM,)):
+    """Has station/render, or another program, render a film with the page's names, and gives the film's and the record's bytes."""
     room = person.folder("station")
     with open(os.path.join(person.room, name), "rb") as file, open(os.path.join(room, name), "wb") as copy:
         copy.write(file.read())
     out, record = base + ".pgm", base + ".json"
-    done = subprocess.run([PROGRAM, name, out, "--record", record, "--force", *words], cwd=room, capture_output=True, check=False)
-    hold(done.returncode == 0, "station/render:", done.stderr.decode())
+    done = subprocess.run([*program, name, out, "--record", record, "--force", *words], cwd=room, capture_output=True, check=False)
+    hold(done.returncode == 0, "%s:" % " ".join(program), done.stderr.decode())
     return [open(os.path.join(room, each), "rb").read() for each in (out, record)]
 
 
@@ -164,13 +164,14 @@ return dots;
 def caption(film, number, asked, display, part):
     """What has to stand beneath a view."""
     limit, factor, used = expected.footer_of(film, asked)
+    by, own = ("own regions of side %d" % asked.side, asked.settings) if isinstance(asked, expected.Regions) else (
+        "grid %d by %d" % (asked.across, asked.down), asked)
     return " ".join([
         "%s, film %d: %d × %d pixels, maxval %d" % (film.name, number, film.width, film.height, film.maxval),
         "SHA-256 " + expected.digest_of(film),
-        "Rendering by Tzofnadir %s: grid %d by %d, %d bins, range %d to %d, factor asked %.9g, used %s, L %d, %s" % (
-            open(os.path.join(expected.TOP, "VERSION"), encoding="utf-8").read().strip(), asked.across, asked.down, asked.bins,
-            asked.min, asked.max, factor, ("%.5f" % used).rstrip("0").rstrip("."), limit,
-            "edition of 1986" if asked.edition else "our edition"),
+        "Rendering by Tzofnadir %s: %s, %d bins, range %d to %d, factor asked %.9g, used %s, L %d, %s" % (
+            open(os.path.join(expected.TOP, "VERSION"), encoding="utf-8").read().strip(), by, own.bins, own.min, own.max, factor,
+            ("%.5f" % used).rstrip("0").rstrip("."), limit, "edition of 1986" if own.edition else "our edition"),
         display, part, "Film density is not read off the rendered picture."])
 
 

@@ -2,7 +2,7 @@
 -- Assumes nothing.
 use Prim.Native.Nat.{ℕ}
 use mathlib.Core.List.{[], _∷_, _++_}
-use mathlib.Core.Path.{_≡_, refl, sym, _∙_}
+use mathlib.Core.Path.{_≡_, refl, sym, ap₂, _∙_}
 use lib.Dec.{ltb}
 use Rattle.lists.specs.Lists.{all}
 use Rattle.refuse.specs.Refuse.{first, numbersOf, Numbered}
@@ -24,7 +24,12 @@ pub clip-numbers : (s : Settings) → numbersOf (clipRows s) ≡ 10 ∷ []
 unfolding numbersOf clipRows
 clip-numbers s = refl
 
--- above 0: of 7 to 9, 31 and 10
+-- of 7 to 9, 31 and 10
+pub grey-numbers : (s : Settings) → numbersOf (greyRows s) ≡ 7 ∷ 8 ∷ 9 ∷ 9 ∷ 31 ∷ 10 ∷ []
+unfolding numbersOf greyRows rangeRows clipRows
+grey-numbers s = refl
+
+-- above 0: of these
 pub grey-numbered : (s : Settings) → Numbered (greyRows s)
 unfolding all greyRows
 grey-numbered s = each-append (ltb 0) (rangeRows s) (clipRows s) (range-numbered s) (rw (clip-numbers s) refl)
@@ -87,3 +92,13 @@ range-given s s′ bins min max = rw (bins, min, max) refl
 -- or with 0 read as 128
 pub range-alike : (s s′ : Settings) → binsOf s ≡ binsOf s′ → s .min ≡ s′ .min → s .max ≡ s′ .max → rangeRows s ≡ rangeRows s′
 range-alike s s′ bins min max = sym (range-kept s) ∙ range-given (keptOf s) (keptOf s′) bins min max ∙ range-kept s′
+
+-- 10: the clip setting
+clip-alike : (s s′ : Settings) → s .clip ≡ s′ .clip → clipRows s ≡ clipRows s′
+unfolding clipRows
+clip-alike s s′ clip = rw clip refl
+
+-- 7 to 9, 31 and 10: all of these
+pub grey-alike : (s s′ : Settings) → binsOf s ≡ binsOf s′ → s .min ≡ s′ .min → s .max ≡ s′ .max → s .clip ≡ s′ .clip → greyRows s ≡ greyRows s′
+unfolding greyRows
+grey-alike s s′ bins min max clip = ap₂ (λ a b. a ++ b) (range-alike s s′ bins min max) (clip-alike s s′ clip)

@@ -1,6 +1,6 @@
 -- The rows 1 to 9, 31, 10 and 11: their numbers, and what they tell where none of them applies.
 -- Assumes nothing.
-use Prim.Native.Nat.{ℕ, _*_, _≤_, _<_}
+use Prim.Native.Nat.{ℕ, _+_, _-_, _*_, _≤_, _<_}
 use mathlib.Core.Bool.{Bool, true, false, cond}
 use mathlib.Core.List.{[], _∷_, _++_}
 use mathlib.Core.Path.{_≡_, refl, sym}
@@ -90,33 +90,49 @@ bins-high n h = go (eqb n 0)
     go false = h
 
 -- sides of 1 to 4096
-pub sides-most : (w h : ℕ) → first (sideRows w h) ≡ 0 → (w ≤ 4096) × (h ≤ 4096)
+pub sides-some : (w h : ℕ) → first (sideRows w h) ≡ 0 → (0 < w) × (w ≤ 4096) × (0 < h) × (h ≤ 4096)
 unfolding sideRows
-sides-most w h e = let n = first-none _ (side-numbered w h) e in (ltb-false _ _ (n .1 .0), ltb-false _ _ (n .1 .1 .1 .0))
+sides-some w h e =
+    let n = first-none _ (side-numbered w h) e in (pos w (n .0), ltb-false _ _ (n .1 .0), pos h (n .1 .1 .0), ltb-false _ _ (n .1 .1 .1 .0))
+
+pub sides-most : (w h : ℕ) → first (sideRows w h) ≡ 0 → (w ≤ 4096) × (h ≤ 4096)
+sides-most w h e = let n = sides-some w h e in (n .1, n .3)
+
+-- a range within 0 to 4095, and 2 to 4096 bins, no more than its greys
+pub ranged : (s : Settings) → first (rangeRows s) ≡ 0 → (s .max ≤ 4095) × (s .min < s .max) × (2 ≤ binsOf s) × (binsOf s ≤ 4096) × (binsOf s ≤ s .max - s .min + 1)
+unfolding rangeRows binsOf
+ranged s e =
+    let v = first-none _ (range-numbered s) e in (
+      ltb-false _ _ (v .0),
+      leb-false _ _ (v .1 .0),
+      bins-low (s .bins) (v .1 .1 .0),
+      bins-high (s .bins) (ltb-false _ _ (v .1 .1 .1 .0)),
+      ltb-false _ _ (v .1 .1 .1 .1 .0),
+    )
 
 -- what counting asks of sides, grid, range and bins
 pub tiled : (w h : ℕ) (s : Settings) → first (sideRows w h) ≡ 0 → first (gridRows w h s) ≡ 0 → first (rangeRows s) ≡ 0 → Tiled w h s
-unfolding sideRows gridRows rangeRows binsOf
+unfolding gridRows
 tiled w h s sides grid range =
-    let n = first-none _ (side-numbered w h) sides in
+    let n = sides-some w h sides in
     let g = first-none _ (grid-numbered w h s) grid in
-    let v = first-none _ (range-numbered s) range in
+    let v = ranged s range in
     record {
-      wide = pos w (n .0);
-      widest = ltb-false _ _ (n .1 .0);
-      high = pos h (n .1 .1 .0);
-      highest = ltb-false _ _ (n .1 .1 .1 .0);
+      wide = n .0;
+      widest = n .1;
+      high = n .2;
+      highest = n .3;
       across = ltb-false _ _ (g .0);
       acrossmost = ltb-false _ _ (g .1 .0);
       down = ltb-false _ _ (g .1 .1 .0);
       downmost = ltb-false _ _ (g .1 .1 .1 .0);
       columns = ltb-false _ _ (g .1 .1 .1 .1 .0);
       rows = ltb-false _ _ (g .1 .1 .1 .1 .1 .0);
-      max = ltb-false _ _ (v .0);
-      min = leb-false _ _ (v .1 .0);
-      bins = bins-low (s .bins) (v .1 .1 .0);
-      binsmost = bins-high (s .bins) (ltb-false _ _ (v .1 .1 .1 .0));
-      reach = ltb-false _ _ (v .1 .1 .1 .1 .0);
+      max = v .0;
+      min = v .1;
+      bins = v .2;
+      binsmost = v .3;
+      reach = v .4;
     }
 
 -- 2: the pixels are the film's

@@ -3,12 +3,12 @@
 use Prim.Native.Nat.{ℕ, _+_, _-_, _≤_, _<_}
 use mathlib.Core.Bool.{true}
 use mathlib.Core.List.{List, [], _∷_, _++_, map}
-use mathlib.Core.Path.{_≡_, sym, ap, _∙_}
+use mathlib.Core.Path.{_≡_, refl, sym, ap, _∙_}
 use lib.Dec.{ltb}
 use lib.ListN.{length, drop, getD, set, length-map, take-append-drop}
 use native.Mathlib.Omega.{arith}
-use Rattle.lists.specs.Lists.{total, all, times, onto, filled}
-use Rattle.lists.proofs.Tabs.{length-tab, tab-getD, map-append}
+use Rattle.lists.specs.Lists.{tab, total, all, times, onto, filled}
+use Rattle.lists.proofs.Tabs.{length-tab, tab-getD, eq-tab, map-append}
 use Rattle.lists.proofs.Sums.{total-tab}
 use Rattle.lists.proofs.Fills.{length-filled, filled-onto}
 use Rattle.lists.proofs.Tallies.{times-append, times-le, sum-times, getD-filled, filled-cong, filled-filled, filled-bump, filled-tab}
@@ -22,6 +22,21 @@ use Rattle.binning.proofs.Bins.{bin-test}
 pub length-counts : (lo hi b : ℕ) (vs : List ℕ) → length (countsOf lo hi b vs) ≡ b
 unfolding countsOf
 length-counts lo hi b vs = length-tab b _
+
+-- each is how often its bin occurs
+pub counts-tab : (lo hi b : ℕ) (vs : List ℕ) → countsOf lo hi b vs ≡ tab b (λ k. times k (map (binOf lo hi b) vs))
+unfolding countsOf
+counts-tab lo hi b vs = refl
+
+-- so a list of as many that says this of each bin is the counts
+pub counts-by : (lo hi b : ℕ) (vs cs : List ℕ) → length cs ≡ b → ((k : ℕ) → k < b → getD cs k 0 ≡ times k (map (binOf lo hi b) vs)) → cs ≡ countsOf lo hi b vs
+unfolding countsOf
+counts-by lo hi b vs cs l each = eq-tab cs b (λ k. times k (map (binOf lo hi b) vs)) 0 l each
+
+-- and where they stand in the front of a list they are found there
+pub counts-front : (lo hi b : ℕ) (d vs : List ℕ) (k : ℕ) → k < b → getD (onto d (countsOf lo hi b vs)) k 0 ≡ times k (map (binOf lo hi b) vs)
+unfolding countsOf
+counts-front lo hi b d vs k l = ap (λ z. getD z k 0) (sym (filled-onto _ d b)) ∙ getD-filled _ d b k l
 
 -- the counts add up to the greys that were counted
 pub total-counts : (lo hi b : ℕ) (vs : List ℕ) → all (within lo hi) vs ≡ true → 0 < b → total (countsOf lo hi b vs) ≡ length vs

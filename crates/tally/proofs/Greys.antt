@@ -3,7 +3,7 @@
 use Prim.Native.Nat.{ℕ, zero, suc, _+_, _-_, _*_, _≤_, _<_}
 use mathlib.Core.Bool.{Bool, true}
 use mathlib.Core.List.{List}
-use mathlib.Core.Path.{_≡_, refl, sym, ap, _∙_}
+use mathlib.Core.Path.{_≡_, refl, sym, ap, ap₂, _∙_}
 use lib.ListN.{length, take, drop, getD}
 use native.Mathlib.Nat.{mul-comm, suc-mul, zero-mul, mul-le-mul-right, le-mul-of-pos-right, le-trans}
 use native.Mathlib.Omega.{arith}
@@ -116,6 +116,15 @@ greys-all p pic stride r across down h =
 -- what holds of each grey of the rectangle holds of each grey of a row
 pub row-all : (p : ℕ → Bool) (pic : List ℕ) (stride : ℕ) (r : Rect) → all p (greysOf pic stride r) ≡ true → (y : ℕ) → y < r .height → all p (rowOf pic stride r y) ≡ true
 row-all p pic stride r h y l = all-joined-at p (r .height) (rowOf pic stride r) (ap (all p) (sym (greys-rows pic stride r)) ∙ h) y l
+
+-- rectangles of one size, of two pictures, with the same grey at each pixel, have the same greys
+pub greys-same : (pic pic′ : List ℕ) (stride stride′ : ℕ) (r r′ : Rect) → r .width ≡ r′ .width → r .height ≡ r′ .height
+    → ((y x : ℕ) → y < r .height → x < r .width → getD pic ((r .top + y) * stride + (r .left + x)) 0 ≡ getD pic′ ((r′ .top + y) * stride′ + (r′ .left + x)) 0)
+    → greysOf pic stride r ≡ greysOf pic′ stride′ r′
+unfolding greysOf
+greys-same pic pic′ stride stride′ r r′ wide high same =
+    joined-cong (r .height) (λ y q. tab-cong (r .width) (λ x p. same y x q p))
+    ∙ ap₂ (λ n m. joined n (λ y. tab m (λ x. getD pic′ ((r′ .top + y) * stride′ + (r′ .left + x)) 0))) high wide
 
 -- the greys speak only of the rectangle's pixels: two pictures that agree there have the same
 pub greys-only : (pic pic′ : List ℕ) (stride : ℕ) (r : Rect)

@@ -1,0 +1,7 @@
+pub mod Twins
+pub mod Table
+pub mod Pixels
+pub mod Rows
+pub mod Endings
+pub mod Numbers
+pub mod Like

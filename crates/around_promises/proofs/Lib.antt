@@ -1,0 +1,5 @@
+pub mod Runs
+pub mod Outcomes
+pub mod Regions
+pub mod Local
+pub mod Counts
