@@ -15,7 +15,12 @@ static int shown;    /* a line of it stands there */
 
 void tell_nothing(void) { silent = 1; }
 
-void tell_progress(void) { terminal = isatty(STDERR_FILENO); }
+/* A line that stands there by now is that of the process which started this one. */
+void tell_progress(void)
+{
+    terminal = isatty(STDERR_FILENO);
+    shown = 0;
+}
 
 void end_progress(void)
 {

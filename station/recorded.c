@@ -105,6 +105,8 @@ static const char *read_settings(struct json record, struct recorded *out)
         if (whole_member(s, rows[i].name, rows[i].to) != NULL)
             return rows[i].name;
     out->by_bytes = json_member(s, "by_bytes", &value) && json_is(value, "true");
+    if (out->by_bytes && out->is_around) /* there is no such call */
+        return "by_bytes";
     const char *missing = read_factor(s, to);
     return missing != NULL ? missing : read_edition(s, to);
 }

@@ -197,6 +197,7 @@ edited 'verify: around, a grid besides' 65 'as a record does: side' '' round.jso
 edited 'verify: around, half a grid besides' 65 'as a record does: side' '' round.json '"side": 15' '"side": 15, "down": 8'
 edited 'verify: neither side nor grid' 65 'as a record does: across' '' round.json '    "side": 15,' ''
 edited 'verify: around, a window' 65 'as a record does: window' '' round.json '"window": null' '"window": {"left": 0, "top": 0, "width": 8, "height": 8}'
+edited 'verify: around, by bytes' 65 'as a record does: by_bytes' '' round.json '"by_bytes": false' '"by_bytes": true'
 for word in '"15"' 15.5 -15 null true '[15]' 4294967296; do
     edited "verify: around, a side of $word" 65 'as a record does: side' '' round.json '"side": 15' "\"side\": $word"
 done
@@ -251,6 +252,10 @@ if command -v script >/dev/null; then
     end=$(printf '\r\033[Klimit ')
     if [ "$steps" -gt 2 ] && grep -qF "$end" typed && cmp -s alike.pgm slow.pgm; then ok=yes; else ok=no; fi
     report "$ok" 'around on a terminal: how far it is, and the line is gone at the end' "$steps times: $(tr '\r' '\n' <typed | grep '%' | tail -n 1 | tr -d '\033')"
+    script -qec "'$tz' around --force --into rounds film.pgm patch.pgm chip.pgm --jobs 1 --bins 4096" typed </dev/null >/dev/null 2>&1
+    if ! grep -q 'rendering' typed && grep -q '2 of 3 films done' typed && grep -q '^3 films rendered into rounds' typed; then ok=yes; else ok=no; fi
+    report "$ok" 'around on a terminal, several films: how many are done' "$(tr '\r' '\n' <typed | grep 'films done' | tail -n 1 | tr -d '\033')"
+    rm -rf rounds
     script -qec "'$tz' around --force --quiet film.pgm slow.pgm --bins 4096" typed </dev/null >/dev/null 2>&1
     if ! grep -q 'rendering' typed; then ok=yes; else ok=no; fi
     report "$ok" 'around --quiet on a terminal: nothing' "$(wc -c <typed) bytes"
