@@ -117,7 +117,7 @@ if command -v python3 >/dev/null; then
     sized '40 by 33, around' around
     sized '40 by 33, around --side 3 --bins 9 --clip 2' around --side 3 --bins 9 --clip 2
     sized '40 by 33, around --side 63: regions wider than the film' around --side 63
-    sized '40 by 33, around --side 15 --bins 4096, the factor next above 1.0' around --side 15 --bins 4096 --clip 1.00000012
+    sized '40 by 33, around --side 15 --bins 400, the factor next above 1.0' around --side 15 --bins 400 --clip 1.00000012
     sized '40 by 33, around --clip off' around --clip off --bins 64
     sized '40 by 33, around --clip 1' around --clip 1
     sized '40 by 33, around by 1986' around --edition 1986 --bins 50
