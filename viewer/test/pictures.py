@@ -4,6 +4,8 @@ import base64
 import collections
 import os
 import struct
+import subprocess
+import sys
 import zlib
 
 import expected
@@ -12,6 +14,7 @@ from person import hold, picture_of
 MOST = 400_000  # bytes
 LINE = (330, 157)  # a pixel of the line of lacking fusion (station/weld.py)
 PORE = (213, 224)
+PIT = (262, 243)  # a pixel of a corroded plate (station/plate.py)
 
 
 def chunk(kind, body):
@@ -105,8 +108,31 @@ def refused(person):
     keep(person, "viewer-refusal.png")
 
 
+def beside(person):
+    """A corroded plate by a grid, and beside it by own regions, with the region of a pixel and its plot."""
+    person.arrive(1440, 760)
+    path = os.path.join(person.room, "plate.pgm")
+    subprocess.run([sys.executable, "-B", os.path.join(expected.TOP, "station/plate.py"), path], check=True)
+    first, second = person.open(path)[0], person.open(path)[0]
+    for number in (first, second):
+        person.choose(number)
+        person.click("range-film")
+        person.settled()
+    person.click("by-region")
+    person.settled()
+    person.click("mode-pair")
+    person.choose(first)
+    person.click("zoom-1-1")
+    person.settled()
+    person.choose(second)
+    person.settled()
+    point(person, *PIT)
+    person.keys("t")
+    keep(person, "viewer-regions.png")
+
+
 def make(person, _):
     """Makes all of them."""
-    for each in (side_by_side, divided, refused):
+    for each in (side_by_side, divided, refused, beside):
         each(person)
     return 0

@@ -182,8 +182,8 @@ def own_view(person, films):
 
 
 def screens(person, films):
-    """Nothing lies beyond the screen at 1280 by 720 and 1920 by 1080, and every control has a name."""
-    for width, height in ((1280, 720), (1920, 1080)):
+    """Nothing lies beyond the screen at 1280 by 720, 1440 by 900 and 1920 by 1080, and every control has a name."""
+    for width, height in ((1280, 720), (1440, 900), (1920, 1080)):
         person.arrive(width, height)
         person.show(films.sample)
         beyond = person.script("""return [...document.querySelectorAll('button, input, canvas, dd')].filter(each => {
@@ -201,7 +201,7 @@ def screens(person, films):
     nameless = person.script("""return [...document.querySelectorAll('button, input')].filter(each =>
         !(each.labels && each.labels.length) && !each.getAttribute('aria-label') && !each.textContent.trim()).map(each => each.id)""")
     same("controls without a name", nameless, [])
-    return "1280 by 720, 1920 by 1080"
+    return "1280 by 720, 1440 by 900, 1920 by 1080"
 
 
 WAYS = [drag_to_pan, dragged_far_at_once, arrow_keys, wheel_at_the_pointer, zooms, squares_and_means, divider, blink, own_view,
