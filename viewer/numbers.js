@@ -4,6 +4,7 @@ import {exactOf} from './record.js';
 export const MOST_WHOLE = 4294967295;
 const MOST_CHOSEN_BINS = 1024;
 const MOST_BINS_AROUND = 256;
+const LEAST_BINS_AROUND = 64;
 
 // Digits only, and within 32 bits; else null.
 export function wholeOf(text) {
@@ -66,10 +67,10 @@ function judgedPixels(s, film) {
   return Math.max(1, pixels);
 }
 
-// Regions are small, and each bin costs time at every pixel: eight pixels a bin, up to 256 bins.
+// Regions are small, and each bin costs time at every pixel: eight pixels a bin, but no fewer than 64 bins and no more than 256.
 function mostChosen(s, pixels) {
   if (!s.around) return MOST_CHOSEN_BINS;
-  return pixels < 16 ? 2 : Math.min(Math.floor(pixels / 8), MOST_BINS_AROUND);
+  return Math.max(LEAST_BINS_AROUND, Math.min(Math.floor(pixels / 8), MOST_BINS_AROUND));
 }
 
 // As the command line chooses: a bin for each grey of the range, up to 1024, or of own regions to fewer, and as many of them

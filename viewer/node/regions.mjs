@@ -98,9 +98,21 @@ function saved(module, path, room, { words, s: own }) {
   return `${name}.pgm, ${file.length} bytes`;
 }
 
+/** The bins that the page chooses, by the command line's table. */
+function binsChosen() {
+  const rows = readFileSync('station/faults/regions.txt', 'utf8').split('\n').filter(row => row && !row.startsWith('#'));
+  for (const row of rows) {
+    const [size, side, range, clip, bins] = row.split(' '), [width, height] = size.split('x').map(Number), [min, max] = range.split(':').map(Number);
+    const s = { around: 1, side: Number(side), min, max, clip: clip === 'off' ? 0 : 1, factor: clip === 'off' ? 3 : Number(clip) };
+    same(row, chosenBins(s, { width, height }), Number(bins));
+  }
+  return `${rows.length} rows`;
+}
+
 export function regions(wasm, room, trial) {
   const module = new WebAssembly.Module(wasm);
   trial('the page\'s modules: own regions in windows, a piece at a time', () => windows(module));
+  trial('the page\'s modules: bins chosen of own regions, by the command line\'s table', binsChosen);
   for (const each of SAVED)
     trial(`the page's modules: own regions saved ${each.words.join(' ')}`, () => saved(module, 'docs/weld.pgm', room, each));
 }
