@@ -1,7 +1,7 @@
 -- A pass over all bins: each bin c becomes f c, and the g c are added up.
 -- Assumes nothing.
 use Prim.Native.Nat.{ℕ, _+_, _≤_, _<_}
-use mathlib.Core.List.{List, _++_, map}
+use mathlib.Core.List.{List, [], _∷_, _++_, map}
 use mathlib.Core.Path.{_≡_, refl, sym, ap, _∙_}
 use lib.ListN.{length, length-set, getD, set, take, drop}
 use lib.Seq.{drop-cons, drop-length, drop-set-lt}
@@ -54,3 +54,9 @@ passing-sum {g = g} {i = i} {cs = cs} p h =
     let e : i ≡ length cs = omega (arith, p .within) in
     let z : total (map g (drop i cs)) ≡ 0 = rw (e, drop-length cs) refl in
     omega (arith, p .still)
+
+-- counts added up as they are
+pub total-same : (cs : List ℕ) → total (map (λ c. c) cs) ≡ total cs
+unfolding total
+total-same [] = refl
+total-same (c ∷ cs) = ap (λ x. c + x) (total-same cs)

@@ -1,12 +1,12 @@
 -- Laws of the excess and of the even share.
 -- Assumes nothing.
-use Prim.Native.Nat.{ℕ, zero, suc, _+_, _-_, _*_, _/_, _≤_, _<_}
+use Prim.Native.Nat.{ℕ, zero, suc, _+_, _-_, _*_, _/_, _≤_, _<_, min}
 use mathlib.Core.List.{List, [], _∷_, map}
 use mathlib.Core.Logic.{_⊎_, inl, inr, ⊎-elim}
 use mathlib.Core.Path.{_≡_, refl, ap, ap₂, _∙_}
 use lib.ListN.{length, length-map, getD, drop}
 use lib.Seq.{drop-cons}
-use native.Mathlib.Nat.{le-of-suc-le-suc, not-suc-le-zero, le-refl, mul-suc, mul-comm, div-mul-le-self, div-le-of-le-mul}
+use native.Mathlib.Nat.{le-of-suc-le-suc, not-suc-le-zero, le-refl, mul-suc, mul-comm, div-mul-le-self, div-le-self, div-le-of-le-mul}
 use native.Mathlib.Numerals.{add-one}
 use native.Mathlib.Omega.{arith}
 use borrow.Author.Tests.{lt-ltb, le-ltb}
@@ -45,6 +45,19 @@ taken-other l q c h = let k : c ≤ l = omega arith in rw (le-ltb l c k, le-ltb 
 -- the three cases of a bin
 pub cases : (l q c : ℕ) → (l < c) ⊎ (((c ≤ l) × (l < c + q)) ⊎ (c + q ≤ l))
 cases l q c = ⊎-elim inl (λ k. inr (⊎-elim (λ u. inl (k, u)) inr (lt-or-ge l (c + q)))) (lt-or-ge l c)
+
+-- in all three the bin becomes its count and q, and no more than L
+shared-min : (l q c : ℕ) → shared l q c ≡ min l (c + q)
+shared-min l q c = go (cases l q c)
+  where
+    go : (l < c) ⊎ (((c ≤ l) × (l < c + q)) ⊎ (c + q ≤ l)) → shared l q c ≡ min l (c + q)
+    go (inl h) = rw (shared-above l q c h) (omega arith)
+    go (inr (inl h)) = rw (shared-upper l q c (h .0) (h .1)) (omega arith)
+    go (inr (inr h)) = rw (shared-other l q c h) (omega arith)
+
+-- as the code tests it
+pub shared-over : (l q c : ℕ) → l < c + q → shared l q c ≡ l
+shared-over l q c h = omega (arith, shared-min l q c)
 
 -- what a bin becomes and what stood above the limit are what it had and what it takes
 bin-kept : (l q c : ℕ) → shared l q c + (c - l) ≡ c + taken l q c
@@ -129,33 +142,46 @@ pub taken-within : (l : ℕ) (cs : List ℕ) → total (map (taken l (share l cs
 unfolding share
 taken-within l cs = omega (arith, taken-all l (excess l cs / length cs) cs, div-mul-le-self (excess l cs) (length cs))
 
+-- where the shares can be taken from the excess, the bins have what they had less what is left of it
+pub pass-kept : (l q : ℕ) (cs : List ℕ) → total (map (taken l q) cs) ≤ excess l cs
+    → total (map (shared l q) cs) + (excess l cs - total (map (taken l q) cs)) ≡ total cs
+pass-kept l q cs h = omega (arith, all-kept l q cs)
+
 -- after the first pass, the bins and what is left are all there was
 pub total-first : (l : ℕ) (cs : List ℕ) → total (map (shared l (share l cs)) cs) + left l cs ≡ total cs
 unfolding left
-total-first l cs = omega (arith, all-kept l (share l cs) cs, taken-within l cs)
+total-first l cs = pass-kept l (share l cs) cs (taken-within l cs)
+
+-- what is left, as the code works it out
+pub left-rest : (l : ℕ) (cs : List ℕ) → left l cs ≡ total cs - total (map (shared l (share l cs)) cs)
+left-rest l cs = omega (arith, total-first l cs)
 
 -- ---- the call that joins them: e is the excess that the code worked out
 
--- the even share is at most the limit, and the shares can be taken
-pub pass-asked : {l : ℕ} {cs : List ℕ} (e : ℕ) → ClipAsks l cs → e ≡ excess l cs → PassAsks l (e / length cs) e cs
+-- the even share is at most the limit and at most all pixels, and the shares can be taken
+pub pass-asked : {l : ℕ} {cs : List ℕ} (e : ℕ) → ClipAsks l cs → e ≡ excess l cs
+    → PassAsks l (e / length cs) (excess l cs) cs × (e / length cs ≤ 4194304) × (total cs ≤ 4194304)
 unfolding share
-pass-asked {l} {cs} e a q =
-    record {
-      share-small = div-le-of-le-mul (length cs) (omega (arith, a .holds, excess-most l cs, mul-comm l (length cs)));
-      all-taken = rw q (taken-within l cs);
-    }
+pass-asked {l} {cs} e a q = (
+  record {
+    share-small = div-le-of-le-mul (length cs) (omega (arith, a .holds, excess-most l cs, mul-comm l (length cs)));
+    all-taken = rw q (taken-within l cs);
+  },
+  omega (arith, div-le-self e (length cs), excess-most l cs, a .few-pixels),
+  a .few-pixels,
+)
 
 -- what the first pass leaves, by the rules' own names
-first-pass : {l : ℕ} {cs ds : List ℕ} {r : ℕ} (e : ℕ) → e ≡ excess l cs → Passed l (e / length cs) e cs ds r
+first-pass : {l : ℕ} {cs ds : List ℕ} {r : ℕ} (e : ℕ) → e ≡ excess l cs → Passed l (e / length cs) (excess l cs) cs ds r
     → (ds ≡ map (shared l (share l cs)) cs) × (r ≡ left l cs)
 unfolding share left
 first-pass {l} {cs} {ds} {r} e q p = (
   p .bins ∙ ap (λ x. map (shared l (x / length cs)) cs) q,
-  p .rest ∙ ap (λ x. x - total (map (taken l (x / length cs)) cs)) q,
+  p .rest ∙ ap (λ x. excess l cs - total (map (taken l (x / length cs)) cs)) q,
 )
 
 -- the bins have room for what is left
-pub walk-asked : {l : ℕ} {cs ds : List ℕ} {r : ℕ} (e : ℕ) → ClipAsks l cs → e ≡ excess l cs → Passed l (e / length cs) e cs ds r → WalkAsks l r ds
+pub walk-asked : {l : ℕ} {cs ds : List ℕ} {r : ℕ} (e : ℕ) → ClipAsks l cs → e ≡ excess l cs → Passed l (e / length cs) (excess l cs) cs ds r → WalkAsks l r ds
 walk-asked {l} {cs} {ds} {r} e a q p =
     let f = first-pass e q p in
     let n : length ds ≡ length cs = ap length (f .0) ∙ length-map cs (shared l (share l cs)) in
@@ -163,12 +189,12 @@ walk-asked {l} {cs} {ds} {r} e a q p =
     record {
       some-bin = omega (arith, a .some-bin);
       few-bins = omega (arith, a .few-bins);
-      few-left = omega (arith, p .rest, q, excess-most l cs, a .few-pixels);
+      few-left = omega (arith, p .rest, excess-most l cs, a .few-pixels);
       room = rw n (omega (arith, a .holds));
     }
 
 -- the pass and the walk together are the clipped counts, and what they took
-pub clip-ends : {l : ℕ} {cs ds : List ℕ} {r : ℕ} {es : List ℕ} (e n : ℕ) → e ≡ excess l cs → Passed l (e / length cs) e cs ds r → Walked l r ds es n
+pub clip-ends : {l : ℕ} {cs ds : List ℕ} {r : ℕ} {es : List ℕ} (e n : ℕ) → e ≡ excess l cs → Passed l (e / length cs) (excess l cs) cs ds r → Walked l r ds es n
     → (es ≡ clipped l cs) × (spentAs e n ≡ spentOf l cs)
 unfolding clipped looksOf
 clip-ends {l} {cs} {ds} {r} {es} e n q p w =

@@ -3,7 +3,7 @@ ghost use mathlib.Core.Path.{_≡_};
 ghost use Prim.Native.Nat.{_+_, _-_, _*_, _/_, _≤_, _<_, max};
 ghost use lib.ListN.{length};
 ghost use Rattle.lists.specs.Lists.{total};
-ghost use Rattle.clip.specs.Clip.{excess, shared, taken, nextStart, clipped};
+ghost use Rattle.clip.specs.Clip.{excess, shared, nextStart, clipped};
 ghost use Rattle.clip.specs.Looks.{spentOf, apart, onward, skippedOf};
 ghost use Rattle.clip.specs.Asks.{ClipAsks, PassAsks, Passed, WalkAsks, Walked, Shut, gain, Raised, Stands};
 
@@ -20,64 +20,48 @@ fn above(count: u32, limit: u32) -> u32
     if limit < count { count - limit } else { 0 }
 }
 
-// The excess: the sum over bins of what stands above the limit.
+// The excess: the sum over bins of what stands above the limit. A tile's counts add up within 32 bits, and no bin is branched on, so that
+// many bins go at once.
 pub fn excess(counts: &[u32], limit: u32) -> u64
     requires { ⌜ total (now counts) ≤ 4194304 ⌝ }
     ensures { λ r. ⌜ r ≡ excess limit (now (counts .entry)) ⌝ }
 {
-    let mut sum: u64 = 0;
+    let mut over: u32 = 0;
     let mut i = 0;
     while i < counts.len() {
-        sum += above(counts[i], limit) as u64;
+        over += above(counts[i], limit);
         i += 1;
     }
-    sum
+    over as u64
 }
 
-// What a bin takes of the excess where q is the even share.
-fn takes(count: u32, limit: u32, q: u32) -> u32
-    requires { ⌜ q ≤ limit ⌝ }
-    ensures { λ r. ⌜ r ≡ taken limit q count ⌝ }
-{
-    let upper = limit - q;
-    if count > limit {
-        return 0;
-    }
-    if count > upper {
-        return limit - count;
-    }
-    q
-}
-
-// What a bin becomes by the even share q.
+// What a bin becomes by the even share q: its count and q, and no more than the limit.
 fn becomes(count: u32, limit: u32, q: u32) -> u32
-    requires { ⌜ q ≤ limit ⌝ }
+    requires { ⌜ (count ≤ 4194304) × (q ≤ 4194304) ⌝ }
     ensures { λ r. ⌜ r ≡ shared limit q count ⌝ }
 {
-    let upper = limit - q;
-    if count > limit {
-        return limit;
-    }
-    if count > upper {
-        return limit;
-    }
-    count + q
+    let more = count + q;
+    if limit < more { limit } else { more }
 }
 
-// The even share q to every bin; what is left of the excess is the answer.
-fn share_out(counts: &mut [u32], limit: u32, q: u32, over: u64) -> u64
-    requires { ⌜ PassAsks limit q over (now counts) ⌝ }
-    ensures { λ r. ⌜ Passed limit q over (now (counts .entry)) (now (counts .exit)) r ⌝ }
+// The even share q to every bin; what is left of the excess is the answer. Nothing is lost on the way, so that it is what the bins had less
+// what they have: two sums, where what each bin takes would need branches.
+fn share_out(counts: &mut [u32], limit: u32, q: u32) -> u64
+    requires { ⌜ PassAsks limit q (excess limit (now counts)) (now counts) × (q ≤ 4194304) × (total (now counts) ≤ 4194304) ⌝ }
+    ensures { λ r. ⌜ Passed limit q (excess limit (now (counts .entry))) (now (counts .entry)) (now (counts .exit)) r ⌝ }
 {
-    let mut rest = over;
+    let mut had: u32 = 0;
+    let mut have: u32 = 0;
     let mut i = 0;
     while i < counts.len() {
         let count = counts[i];
-        rest -= takes(count, limit, q) as u64;
-        counts[i] = becomes(count, limit, q);
+        let more = becomes(count, limit, q);
+        counts[i] = more;
+        had += count;
+        have += more;
         i += 1;
     }
-    rest
+    (had - have) as u64
 }
 
 // The step of a start: as many bins apart as spreads r over all bins once, and at least 1.
@@ -245,7 +229,7 @@ pub fn clip(counts: &mut [u32], limit: u32) -> Spent
 {
     let over = excess(counts, limit);
     let q = over / counts.len() as u64;
-    let left = share_out(counts, limit, q as u32, over);
+    let left = share_out(counts, limit, q as u32);
     let looks = hand_out(counts, limit, left);
     Spent {
         excess: over,

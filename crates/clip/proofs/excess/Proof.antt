@@ -1,4 +1,4 @@
--- The invariant: the sum so far and the excess of the bins still to come are the whole excess.
+-- The invariant: what is summed up so far and the excess of the bins still to come are the whole excess.
 -- Assumes nothing.
 use Prim.Native.Nat.{_+_, _-_, _≤_}
 use mathlib.Core.Path.{_≡_}
@@ -12,10 +12,10 @@ use Rattle.clip.proofs.excess.Statement.{statement}
 use Rattle.clip.proofs.excess.Tie as tie
 
 abbrev Inv-loop : tie.InvT-loop
-Inv-loop counts limit sum₀ i₀ sum i = (i ≤ length counts) × (total counts ≤ 4194304) × (sum + Rattle.clip.specs.Clip.excess limit (drop i counts) ≡ Rattle.clip.specs.Clip.excess limit counts)
+Inv-loop counts limit over₀ i₀ over i = (i ≤ length counts) × (total counts ≤ 4194304) × (over + Rattle.clip.specs.Clip.excess limit (drop i counts) ≡ Rattle.clip.specs.Clip.excess limit counts)
 
 abbrev μ-loop : tie.MeasureT-loop
-μ-loop counts limit sum₀ i₀ sum i = length counts - i
+μ-loop counts limit over₀ i₀ over i = length counts - i
 
 loop-holds : tie.Need-loop-holds Inv-loop μ-loop
 loop-holds c = (search needs, search needs, omega arith)
@@ -29,11 +29,8 @@ shared-slice-read-above c = search needs
 above-requires : tie.Need-above-requires Inv-loop μ-loop
 above-requires c κs = search needs
 
-cast-sum : tie.Need-cast-sum Inv-loop μ-loop
-cast-sum c = search needs
-
-add-sum : tie.Need-add-sum Inv-loop μ-loop
-add-sum c = let a = c .before .before .before .before .before .args in omega (arith, excess-next (a .limit) (a .counts .now) (c .before .before .before .loop .i) (search needs), excess-most (a .limit) (a .counts .now))
+add-over : tie.Need-add-over Inv-loop μ-loop
+add-over c = let a = c .before .before .before .before .before .args in omega (arith, excess-next (a .limit) (a .counts .now) (c .before .before .before .loop .i) (search needs), excess-most (a .limit) (a .counts .now))
 
 add-i : tie.Need-add-i Inv-loop μ-loop
 add-i c = search needs
@@ -43,6 +40,9 @@ loop-less c = search needs
 
 loop-again : tie.Need-loop-again Inv-loop μ-loop
 loop-again c = let a = c .before .before .before .before .before .args in (search needs, search needs, omega (arith, excess-next (a .limit) (a .counts .now) (c .before .before .before .loop .i) (search needs)))
+
+cast-result : tie.Need-cast-result Inv-loop μ-loop
+cast-result c = let a = c .before .before .before .args in omega (arith, excess-most (a .limit) (a .counts .now))
 
 returns : tie.Need-returns Inv-loop μ-loop
 returns c = let a = c .before .before .before .args in omega (arith, excess-end (a .limit) (a .counts .now) (c .before .loop .i) (search needs))
@@ -57,9 +57,9 @@ excess-spec =
     mul-above
     shared-slice-read-above
     above-requires
-    cast-sum
-    add-sum
+    add-over
     add-i
     loop-less
     loop-again
+    cast-result
     returns)
