@@ -11,8 +11,8 @@ import re
 import sys
 
 # What is not ours: the kit's libraries, the compiler's own, and the test programs themselves.
-OTHERS = ("libc", "io", "std", "check", "os", "text", "filmset", "films", "calls", "byte_films", "count_films", "direct_films", "around_films",
-          "listing_set", "numbers", "rattle-llvm-checks")
+OTHERS = ("libc", "io", "std", "check", "os", "text", "filmset", "films", "calls", "byte_set", "byte_films", "byte_calls", "count_set",
+          "count_films", "count_calls", "direct_films", "around_films", "listing_set", "numbers", "rattle-llvm-checks")
 
 # How many counters counts.c has room for.
 MOST = 100000

@@ -1,6 +1,7 @@
 """Holds the papers to the repository. PROMISES.md: each theorem and definition that it names stands in the module that it
 names, each function is there, and each must-fail edit is named. RULES.md and CHANGING.md: what they name as `crate: name`
 stands in that crate. crates.txt: each crate names what it uses itself. Must-fail edits: what each replaces stands once.
+A program over the calls for C has the rows and the stored text of the one over the calls themselves.
 
 Run: python3 -B docs/check.py
 """
@@ -11,7 +12,7 @@ import re
 import sys
 
 TOP = os.path.dirname(os.path.dirname(os.path.abspath(__file__)))
-STATED = re.compile(r"^ *(?:(?:pub|unfoldable|abbrev|record|data) )*([^\s:(){}]+)(?: \([^)]*\))* :\s", re.M)
+STATED = re.compile(r"^ *(?:(?:pub|unfoldable|abbrev|record|data) )*([^\s:(){}]+)(?: \([^)]*\)| \{[^}]*\})* :\s", re.M)
 # a part of a cell: a crate's name may stand before the module's, and the module's before its names
 PART = re.compile(r"^(?:`(?P<crate>\w+)` )?(?P<module>[A-Z]\w*): ")
 
@@ -19,7 +20,7 @@ PART = re.compile(r"^(?:`(?P<crate>\w+)` )?(?P<module>[A-Z]\w*): ")
 REACHED = {"listing_program": {"pgm_write"}, "draw": {"limit"}, "byte_draw": {"limit"}}
 # a map record holds what `grid` keeps of an axis
 REACHED.update({"prepare": {"limit", "grid"}, "counts": {"limit", "grid"}, "byte_film": {"limit", "grid"}})
-REACHED.update({name: {"grid"} for name in ("film_lines", "abi", "abi_bytes", "byte_films", "count_films", "reach_films")})
+REACHED.update({name: {"grid"} for name in ("film_lines", "abi", "abi_bytes", "reach_films")})
 REACHED["abi_counts"] = {"grid", "prepare"}
 # a set of a room holds settings, whose clip and edition are `limit`'s
 REACHED.update({"room": {"limit"}, "abi_room": {"limit"}})
@@ -118,6 +119,14 @@ def stale():
     return faults
 
 
+def calls():
+    """Where a program over the calls for C has other rows, or another stored text, than the one over the calls themselves."""
+    pairs = [("films", "calls"), ("byte_films", "byte_calls"), ("count_films", "count_calls")]
+    return [f"crates/{by_c}/{name} differs from that of {own}"
+            for own, by_c in pairs for name in ("stdin", "stdout")
+            if read(f"crates/{own}/{name}") != read(f"crates/{by_c}/{name}")]
+
+
 def main():
     """Says what is named and not there, and what is there and not named."""
     edits = {f"{path.split('/')[-3]}/{os.path.basename(path)[:-len('.edit')]}" for path in glob.glob(TOP + "/crates/*/must-fail/*.edit")}
@@ -129,7 +138,7 @@ def main():
     faults = ["PROMISES.md: " + fault for part in parts for fault in missing(part, stated, known)]
     faults += [f"PROMISES.md: {name} is named and is no edit" for name in sorted(named - edits)]
     faults += [f"PROMISES.md: {name} is an edit and is not named" for name in sorted(edits - named)]
-    faults += papers(stated) + listed() + stale()
+    faults += papers(stated) + listed() + stale() + calls()
     for fault in faults:
         print(fault, file=sys.stderr)
     print(f"PROMISES.md names {len(edits & named)} of {len(edits)} must-fail edits, and in {len(parts)} places what carries a promise")

@@ -2,14 +2,14 @@
 -- Assumes nothing.
 use Prim.Native.Nat.{ℕ, _+_, _*_}
 use mathlib.Core.List.{List}
-use mathlib.Core.Path.{_≡_, refl}
+use mathlib.Core.Path.{_≡_, refl, ap}
 use lib.ListN.{getD}
 use Rattle.lists.proofs.Tabs.{tab-cong}
 use Rattle.lists.proofs.Fills.{joined-cong}
 use Rattle.binning.specs.Binning.{binOf}
 use Rattle.tally.specs.Tally.{greysOf}
 use Rattle.settings.specs.declared.Settings.{Settings}
-use Rattle.settings.specs.Settings.{binsOf}
+use Rattle.settings.specs.Settings.{binsOf, clipBad}
 use Rattle.settings.proofs.Parts.{grey-alike}
 use Rattle.slide.specs.Slide.{regionRect}
 use Rattle.around.specs.Around.{workRows, aroundRows, regionMapping, aroundGrey, aroundRow, aroundFilm, aroundFoot, aroundedOf, aroundOf}
@@ -50,7 +50,7 @@ module _ (w h : ℕ) (pic : List ℕ) (side : ℕ) {s s′ : Settings} (same : S
 
   rows-like : (scratch target : ℕ) → aroundRows w h pic side s scratch target ≡ aroundRows w h pic side s′ scratch target
   unfolding aroundRows workRows
-  rows-like scratch target = rw (grey-alike s s′ (same .bins) (same .least) (same .most) (same .clip), same .bins, same .least, same .most) refl
+  rows-like scratch target = rw (grey-alike s s′ (same .bins) (same .least) (same .most) (ap clipBad (same .clip)), same .bins, same .least, same .most) refl
 
   -- give the same answer and memory
   pub around-like : (o t : List ℕ) → aroundOf w h pic side s o t ≡ aroundOf w h pic side s′ o t

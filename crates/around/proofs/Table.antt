@@ -16,7 +16,7 @@ use Rattle.scan.specs.Scan.{within}
 use Rattle.tally.specs.Tally.{Scale}
 use Rattle.settings.specs.declared.Settings.{Settings}
 use Rattle.settings.specs.Settings.{binsOf, sizeRows, rangeRows, greyRows}
-use Rattle.settings.proofs.Ready.{size-numbered, sides-some, sides-most, ranged, whole-length, clip-fair}
+use Rattle.settings.proofs.Ready.{size-numbered, sides-within, sides-most, ranged, whole-length, clip-fair}
 use Rattle.settings.proofs.Parts.{size-numbers, grey-numbers, grey-numbered, size-both, grey-both}
 use Rattle.around.specs.Around.{regionRows, workRows, aroundRows, FilmAsks}
 
@@ -179,7 +179,7 @@ known w h pic side s scratch target e =
     let c = first-both (greyRows s) (workRows w h pic s scratch target) (grey-numbered s) (b .1) in
     let d = size-both w h (length pic) (a .0) in
     let g = grey-both s (c .0) in
-    let n = sides-some w h (d .0) in
+    let n = sides-within w h (d .0) in
     let r = first-none (regionRows side) (region-numbered side) (b .0) in
     let t = first-none (workRows w h pic s scratch target) refl (c .1) in
     record {

@@ -1,10 +1,10 @@
 -- Laws of `binOf`, the bin of a grey.
 -- Assumes nothing.
-use Prim.Native.Nat.{ℕ, _+_, _-_, _*_, _/_, _%_, _^_, _≤_, _<_}
+use Prim.Native.Nat.{ℕ, zero, suc, _+_, _-_, _*_, _/_, _%_, _^_, _≤_, _<_}
 use mathlib.Core.Bool.{true}
 use mathlib.Core.Path.{_≡_, ap, sym, _∙_}
 use lib.Dec.{ltb}
-use native.Mathlib.Nat.{div-lt-iff-lt-mul, div-le-of-le-mul, mul-comm, mul-div-mul-right, mul-add-div-right, div-eq-of-lt, div-div-eq-div-mul, mul-add, mul-one, mul-le-mul, mul-le-mul-right, mul-lt-mul-of-pos-right}
+use native.Mathlib.Nat.{div-lt-iff-lt-mul, div-eq-of-lt-le, div-le-of-le-mul, zero-mul, zero-div, mul-comm, mul-div-mul-right, mul-add-div-right, div-eq-of-lt, div-div-eq-div-mul, mul-add, mul-one, mul-le-mul, mul-le-mul-right, mul-lt-mul-of-pos-right}
 use lib.Pow.{pow-add, pow-mono}
 use native.Mathlib.Omega.{arith}
 use borrow.Author.Tests.{lt-ltb}
@@ -41,6 +41,24 @@ pub bins-unreached : (lo hi b : ℕ) → hi - lo + 1 < b → (k : ℕ) × (k < b
 unfolding binOf
 bins-unreached lo hi b m =
     (b - 1, omega arith, λ v h e. omega (arith, e, ratio-short b (hi - lo + 1) (v - lo) m (above-min lo hi v h)))
+
+-- Min lies in bin 0
+pub bin-first : (lo hi b : ℕ) → binOf lo hi b lo ≡ 0
+unfolding binOf
+bin-first lo hi b =
+    let none : lo - lo ≡ 0 = omega arith in
+    ap (λ x. x * b / (hi - lo + 1)) none ∙ ap (λ x. x / (hi - lo + 1)) (zero-mul b) ∙ zero-div (hi - lo + 1)
+
+-- and Max in the last one, where the bins are no more than the greys of the range
+pub bin-last : (lo hi b : ℕ) → 0 < b → b ≤ hi - lo + 1 → binOf lo hi b hi ≡ b - 1
+unfolding binOf
+bin-last lo hi zero p m = absurd (omega arith)
+bin-last lo hi (suc c) p m = last (hi - lo) c (omega arith)
+  where
+    last : (r c : ℕ) → c ≤ r → r * suc c / (r + 1) ≡ suc c - 1
+    last r c l =
+        let same : suc c - 1 ≡ c = omega arith in
+        div-eq-of-lt-le (r + 1) (omega arith) (omega arith) ∙ sym same
 
 -- the factor gives a grey's bin: no grey is divided
 pub bin-by : (lo hi b v : ℕ) → within lo hi v ≡ true → hi ≤ 4095 → 0 < b → binBy lo (factorOf lo hi b) v ≡ binOf lo hi b v

@@ -1,15 +1,19 @@
 // The call draw on bytes: a window of a film of bytes, by the wide call's own rules.
+ghost use mathlib.Core.Bool.{true};
 ghost use mathlib.Core.Path.{_≡_};
 ghost use lib.ListN.{length};
+ghost use Rattle.lists.specs.Lists.{all};
 ghost use Rattle.refuse.specs.Refuse.{first};
 ghost use Rattle.draw.specs.Draw.{drawnPixels, showing};
+ghost use Rattle.narrow.specs.Narrow.{isByte};
 ghost use Rattle.byte_draw.specs.Bytes.{byteDrawRows, byteDrawOf, ByteWindowReady};
 use draw::Drawn;
 use settings::MapRecord;
 use settings::Settings;
 use settings::Window;
 
-// The first refusal that applies, else 0; `room` is the output's length. A byte lies in 0 to 255, so 13 and 18 are never given and not looked for.
+// The first refusal that applies, else 0; `room` is the output's length. A byte lies in 0 to 255, so 13 and 18 are never given and not looked for; that the entries of picture and map
+// buffer are bytes is told.
 fn refusal(
     film: u32,
     width: u32,
@@ -21,7 +25,7 @@ fn refusal(
     map: &[u8],
     room: usize,
 ) -> u32
-    ensures { λ r. ⌜ r ≡ first (byteDrawRows film width height (now (picture .entry)) s «record» win (now (map .entry)) room) ⌝ }
+    ensures { λ r. ⌜ (r ≡ first (byteDrawRows film width height (now (picture .entry)) s «record» win (now (map .entry)) room)) × (all isByte (now (picture .entry)) ≡ true) × (all isByte (now (map .entry)) ≡ true) ⌝ }
 {
     let shared = profile::shared(width, height, picture.len(), s, map.len());
     if shared != 0 {
@@ -55,7 +59,7 @@ fn work(
     byte_render::render_from(out, win, width, height, s, map);
 }
 
-// A window of a film of bytes in the output, from the mappings as lent.
+// A window of a film of bytes in the output, from the mappings as lent. What byte slices hold is told, since no refusal is for it.
 pub fn draw_bytes(
     film: u32,
     width: u32,
@@ -67,7 +71,7 @@ pub fn draw_bytes(
     map: &[u8],
     out: &mut [u8],
 ) -> Drawn
-    ensures { λ r. ⌜ showing r (now (out .exit)) ≡ byteDrawOf film width height (now (picture .entry)) s «record» win (now (map .entry)) (now (out .entry)) ⌝ }
+    ensures { λ r. ⌜ (showing r (now (out .exit)) ≡ byteDrawOf film width height (now (picture .entry)) s «record» win (now (map .entry)) (now (out .entry))) × (all isByte (now (picture .entry)) ≡ true) × (all isByte (now (map .entry)) ≡ true) ⌝ }
 {
     let refused = refusal(film, width, height, picture, s, record, win, map, out.len());
     if refused != 0 {

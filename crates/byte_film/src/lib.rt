@@ -1,9 +1,12 @@
 // The calls prepare and enhance on bytes: the film, its mappings and its rendering as bytes, by the wide calls' own rules.
+ghost use mathlib.Core.Bool.{true};
 ghost use mathlib.Core.Path.{_≡_};
 ghost use lib.ListN.{length};
+ghost use Rattle.lists.specs.Lists.{all};
 ghost use Rattle.refuse.specs.Refuse.{first};
 ghost use Rattle.tiles.specs.Tiles.{TileDone, TilesDone};
 ghost use Rattle.prepare.specs.Prepare.{ending, overing};
+ghost use Rattle.narrow.specs.Narrow.{isByte};
 ghost use Rattle.byte_film.specs.Bytes.{bytePrepareRows, bytePrepareOf, byteEnhanceOf, ByteListAsks, ByteTileAsks};
 use clip::Spent;
 use prepare::Enhanced;
@@ -12,7 +15,7 @@ use prepare::Prepared;
 use settings::Settings;
 use settings::Window;
 
-// The first refusal that applies, else 0. A byte lies in 0 to 255, so 13 is never given and not looked for.
+// The first refusal that applies, else 0. A byte lies in 0 to 255, so 13 is never given and not looked for; that the picture's entries are bytes is told.
 fn refusal(
     width: u32,
     height: u32,
@@ -22,7 +25,7 @@ fn refusal(
     scratch: usize,
     list: usize,
 ) -> u32
-    ensures { λ r. ⌜ r ≡ first (bytePrepareRows width height (now (picture .entry)) s room scratch list) ⌝ }
+    ensures { λ r. ⌜ (r ≡ first (bytePrepareRows width height (now (picture .entry)) s room scratch list)) × (all isByte (now (picture .entry)) ≡ true) ⌝ }
 {
     let shared = profile::shared(width, height, picture.len(), s, room);
     if shared != 0 {
@@ -95,7 +98,7 @@ fn map_tiles(
     lists::clear(scratch, each);
 }
 
-// The mappings of a film of bytes in the map buffer, with the record of what they were made for and the footer.
+// The mappings of a film of bytes in the map buffer, with the record of what they were made for and the footer. What a byte slice holds is told, since no refusal is for it.
 pub fn prepare_bytes(
     film: u32,
     width: u32,
@@ -106,7 +109,7 @@ pub fn prepare_bytes(
     scratch: &mut [u32],
     list: &mut [u64],
 ) -> Prepared
-    ensures { λ r. ⌜ ending r (now (map .exit)) (now (scratch .exit)) (now (list .exit)) ≡ bytePrepareOf film width height (now (picture .entry)) s (now (map .entry)) (now (scratch .entry)) (now (list .entry)) ⌝ }
+    ensures { λ r. ⌜ (ending r (now (map .exit)) (now (scratch .exit)) (now (list .exit)) ≡ bytePrepareOf film width height (now (picture .entry)) s (now (map .entry)) (now (scratch .entry)) (now (list .entry))) × (all isByte (now (picture .entry)) ≡ true) ⌝ }
 {
     let refused = refusal(
         width,
@@ -137,7 +140,7 @@ pub fn prepare_bytes(
     }
 }
 
-// The whole film of bytes rendered in place, with the mappings in the map buffer.
+// The whole film of bytes rendered in place, with the mappings in the map buffer. What a byte slice holds is told.
 pub fn enhance_bytes(
     width: u32,
     height: u32,
@@ -146,7 +149,7 @@ pub fn enhance_bytes(
     map: &mut [u8],
     scratch: &mut [u32],
 ) -> Enhanced
-    ensures { λ r. ⌜ overing r (now (picture .exit)) (now (map .exit)) (now (scratch .exit)) ≡ byteEnhanceOf width height (now (picture .entry)) s (now (map .entry)) (now (scratch .entry)) ⌝ }
+    ensures { λ r. ⌜ (overing r (now (picture .exit)) (now (map .exit)) (now (scratch .exit)) ≡ byteEnhanceOf width height (now (picture .entry)) s (now (map .entry)) (now (scratch .entry))) × (all isByte (now (picture .entry)) ≡ true) ⌝ }
 {
     // no list is lent, and none is too short: this one has two entries for each of 8 x 8 tiles
     let mut list = [0u64; 128];

@@ -15,7 +15,6 @@ use Rattle.settings.specs.declared.Footer.{Footer}
 use Rattle.settings.specs.Settings.{binsOf, entriesOf, keptOf, clipOne}
 use Rattle.tiles.specs.Tiles.{pixelsIn}
 use Rattle.prepare.specs.Prepare.{preparedSays, enhancedSays, Ended, ending, prepareOf, Over, overing, enhanceOf}
-use Rattle.prepare.proofs.Like.{enhance-kept}
 use Rattle.held.specs.Held.{Held}
 use Rattle.draw.specs.Draw.{drawnSays, Shows, showing, drawOf, DrawReady}
 use Rattle.draw.proofs.Tables.{draw-ready}
@@ -27,7 +26,7 @@ use Rattle.promises.specs.Films.{clippedCounts, ClippingOn, FooterShows, limitI
 use Rattle.promises.proofs.Accepted.{refused-says, table-accepted, prepare-work, enhance-work, draw-table}
 use Rattle.promises.proofs.Reuse.{left-settings}
 use Rattle.promises.proofs.Demand2.{divides-pixels, own-mapping, own-mapping-enhance, own-rendering, own-pixels}
-use Rattle.promises.proofs.Windows.{accepted-handed, accepted-by-rule, accepted-as-film, accepted-as-enhanced}
+use Rattle.promises.proofs.Windows.{accepted-handed, accepted-by-rule, accepted-as-film}
 use Rattle.promises.proofs.Demand3.{tiles-sound, tiles-sound-enhance, footer-shows, footer-shows-enhance, limit-fits}
 use Rattle.promises.proofs.Bins.{tiled-reached}
 use Rattle.promises.proofs.Runs.{PrepareCall, EnhanceCall, DrawCall}
@@ -140,7 +139,7 @@ module _ {e : EnhanceCall} {foot : Footer} (ran : EnhancesBytes e) (done : enhan
 -- ---- draw on bytes
 
 -- what an accepting draw on bytes knows
-drawn-bytes-ready : {d : DrawCall} → DrawsBytes d → drawnSays (d .answer) ≡ accepted tt
+pub drawn-bytes-ready : {d : DrawCall} → DrawsBytes d → drawnSays (d .answer) ≡ accepted tt
     → DrawReady (d .film) (d .width) (d .height) (d .pixels) (d .settings) (d .kept) (d .window) (d .map) (length (d .out))
 drawn-bytes-ready {d} ran done =
     let wide = draw-bytes-ends ran ∙ draw-bytes-wide (d .film) (d .width) (d .height) (d .pixels) (d .settings) (d .kept) (d .window) (d .map) (d .out)
@@ -179,17 +178,6 @@ pub record DrawnFromBytes (p : PrepareCall) (foot : Footer) (d : DrawCall) : Typ
   pub pixels : d .pixels ≡ p .pixels
   pub mappings : clipOne (p .settings .clip) ≡ false → take (entriesOf (p .settings)) (d .map) ≡ take (entriesOf (p .settings)) (p .map′)
 
--- enhance on bytes accepted the film of p, with settings that are kept as its own, and buffers that are long enough
-pub record EnhancesBytesFilm (p : PrepareCall) (foot : Footer) (e : EnhanceCall) : Type 0 where
-  pub enhances : EnhancesBytes e
-  pub done : enhancedSays (e .answer) ≡ accepted foot
-  pub width : e .width ≡ p .width
-  pub height : e .height ≡ p .height
-  pub pixels : e .pixels ≡ p .pixels
-  pub like : keptOf (e .settings) ≡ keptOf (p .settings)
-  pub map : entriesOf (p .settings) ≤ length (e .map)
-  pub scratch : binsOf (p .settings) ≤ length (e .scratch)
-
 module _ {p : PrepareCall} {foot : Footer} {d : DrawCall} (from : DrawnFromBytes p foot d) where
   made : preparedSays (prepareOf (p .film) (p .width) (p .height) (p .pixels) (p .settings) (p .map) (p .scratch) (p .list) .answer) ≡ accepted (d .kept, foot)
   made = prepare-bytes-done (from .prepares) (from .prepared)
@@ -227,15 +215,3 @@ module _ {p : PrepareCall} {foot : Footer} {d : DrawCall} (from : DrawnFromBytes
   drawn-bytes-as-film one j i l k =
       ap (λ (z : Shows). getD (z .out) (j * d .window .width + i) 0) shows
       ∙ accepted-as-film (p .film) (p .width) (p .height) (p .pixels) (p .settings) _ _ _ made _ _ _ _ _ (d .window) _ accepts entries one j i l k
-
-  -- and the one in the byte picture that enhance leaves
-  pub drawn-bytes-as-enhanced : {e : EnhanceCall} → EnhancesBytesFilm p foot e → (j i : ℕ) → j < d .window .height → i < d .window .width
-      → drawnGrey d i j ≡ getD (e .pixels′) ((d .window .top + j) * p .width + (d .window .left + i)) 0
-  drawn-bytes-as-enhanced {e} too j i l k =
-      let leaves : overing (e .answer) (e .pixels′) (e .map′) (e .scratch′) ≡ enhanceOf (p .width) (p .height) (p .pixels) (p .settings) (e .map) (e .scratch) =
-      enhance-bytes-as-wide (too .enhances) (too .done)
-      ∙ rw (too .width, too .height, too .pixels)
-      (sym (enhance-kept _ _ _ (e .settings) _ _) ∙ ap (λ s. enhanceOf (p .width) (p .height) (p .pixels) s (e .map) (e .scratch)) (too .like) ∙ enhance-kept _ _ _ (p .settings) _ _) in
-      ap (λ (z : Shows). getD (z .out) (j * d .window .width + i) 0) shows
-      ∙ accepted-as-enhanced (p .film) _ _ _ _ _ _ _ made _ _ _ _ _ (d .window) _ accepts entries (e .map) (e .scratch) (too .map) (too .scratch) j i l k
-      ∙ sym (ap (λ (z : Over). getD (z .picture) ((d .window .top + j) * p .width + (d .window .left + i)) 0) leaves)

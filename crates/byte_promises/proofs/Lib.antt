@@ -4,5 +4,7 @@ pub mod Runs
 pub mod Outcomes
 pub mod Wide
 pub mod Calls
+pub mod Alike
+pub mod Either
 pub mod Fitted
 pub mod Looks

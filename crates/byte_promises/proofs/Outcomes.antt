@@ -2,18 +2,16 @@
 -- and 18 are never given, nor 32 by enhance, and that outside the profile there is 30 or an earlier number. Of every run by the contracts (Runs); a name with ′ is lent memory at the end.
 -- Assumes nothing.
 use Prim.Native.Nat.{ℕ, zero, suc}
-use mathlib.Core.Bool.{true, cond}
+use mathlib.Core.Bool.{cond}
 use mathlib.Core.Logic.{_≢_}
 use mathlib.Core.Path.{_≡_, refl, sym, ap, _∙_}
 use lib.Dec.{eqb}
 use lib.ListN.{length}
-use Rattle.lists.specs.Lists.{all}
 use Rattle.refuse.specs.Refuse.{first, refused, says}
 use Rattle.settings.specs.Settings.{recordOf, settingRows}
 use Rattle.tiles.specs.Tiles.{footOf}
 use Rattle.prepare.specs.Prepare.{preparedSays, enhancedSays, Ended, Over}
 use Rattle.draw.specs.Draw.{drawnSays, Shows}
-use Rattle.narrow.specs.Narrow.{isByte}
 use Rattle.profile.specs.Profile.{profileRows}
 use Rattle.profile.proofs.Greys.{byte-at}
 use Rattle.byte_film.specs.Bytes.{bytePrepareRows, byteEnhanceRows, bytePrepareOf, byteEnhanceOf}
@@ -24,7 +22,7 @@ use Rattle.byte_draw.proofs.Parts.{draw-never-13-18, draw-outside}
 use Rattle.promises.proofs.Accepted.{says-refused, refused-says, table-says, table-kept}
 use Rattle.promises.proofs.Runs.{PrepareCall, prepare-given, EnhanceCall, enhance-given, DrawCall, draw-given}
 use Rattle.byte_promises.proofs.Inside.{prepare-bytes-table, enhance-bytes-table, draw-bytes-table}
-use Rattle.byte_promises.proofs.Runs.{PreparesBytes, prepare-bytes-ends, EnhancesBytes, enhance-bytes-ends, DrawsBytes, draw-bytes-ends}
+use Rattle.byte_promises.proofs.Runs.{PreparesBytes, prepare-bytes-ends, prepare-bytes-picture, EnhancesBytes, enhance-bytes-ends, enhance-bytes-picture, DrawsBytes, draw-bytes-ends, draw-bytes-lent}
 
 -- ---- what each answer says
 
@@ -88,13 +86,13 @@ draw-bytes-determined x y same =
 
 -- ---- 13 and 18 are never given: bytes lie in 0 to 255
 
-pub prepare-bytes-never-13 : {p : PrepareCall} → PreparesBytes p → all isByte (p .pixels) ≡ true → preparedSays (p .answer) ≢ refused 13
-prepare-bytes-never-13 {p} ran bytes q =
-    bytes-never-13 (p .width) (p .height) (p .pixels) (p .settings) (length (p .map)) (length (p .scratch)) (length (p .list)) bytes (says-refused _ _ (sym (prepare-bytes-says ran) ∙ q))
+pub prepare-bytes-never-13 : {p : PrepareCall} → PreparesBytes p → preparedSays (p .answer) ≢ refused 13
+prepare-bytes-never-13 {p} ran q =
+    bytes-never-13 (p .width) (p .height) (p .pixels) (p .settings) (length (p .map)) (length (p .scratch)) (length (p .list)) (prepare-bytes-picture ran) (says-refused _ _ (sym (prepare-bytes-says ran) ∙ q))
 
-pub enhance-bytes-never-13 : {e : EnhanceCall} → EnhancesBytes e → all isByte (e .pixels) ≡ true → enhancedSays (e .answer) ≢ refused 13
-enhance-bytes-never-13 {e} ran bytes q =
-    bytes-never-13 (e .width) (e .height) (e .pixels) (e .settings) (length (e .map)) (length (e .scratch)) 128 bytes
+pub enhance-bytes-never-13 : {e : EnhanceCall} → EnhancesBytes e → enhancedSays (e .answer) ≢ refused 13
+enhance-bytes-never-13 {e} ran q =
+    bytes-never-13 (e .width) (e .height) (e .pixels) (e .settings) (length (e .map)) (length (e .scratch)) 128 (enhance-bytes-picture ran)
     (rows-enough (e .width) (e .height) (e .pixels) (e .settings) (length (e .map)) (length (e .scratch)) ∙ says-refused _ _ (sym (enhance-bytes-says ran) ∙ q))
 
 -- nor is 14: "a clip refusal never occurs"
@@ -112,9 +110,9 @@ pub enhance-bytes-never-32 : {e : EnhanceCall} → EnhancesBytes e → enhancedS
 enhance-bytes-never-32 {e} ran q =
     enhance-never-32 (e .width) (e .height) (e .pixels) (e .settings) (length (e .map)) (length (e .scratch)) (says-refused _ _ (sym (enhance-bytes-says ran) ∙ q))
 
-pub draw-bytes-never-13-18 : {d : DrawCall} → DrawsBytes d → all isByte (d .pixels) ≡ true → all isByte (d .map) ≡ true
-    → (drawnSays (d .answer) ≢ refused 13) × (drawnSays (d .answer) ≢ refused 18)
-draw-bytes-never-13-18 {d} ran bytes entries =
+pub draw-bytes-never-13-18 : {d : DrawCall} → DrawsBytes d → (drawnSays (d .answer) ≢ refused 13) × (drawnSays (d .answer) ≢ refused 18)
+draw-bytes-never-13-18 {d} ran =
+    let (bytes, entries) = draw-bytes-lent ran in
     let never = draw-never-13-18 (d .film) (d .width) (d .height) (d .pixels) (d .settings) (d .kept) (d .window) (d .map) (length (d .out)) (byte-at (d .pixels) bytes) (byte-at (d .map) entries) in
     ((λ q. never .0 (says-refused _ _ (sym (draw-bytes-says ran) ∙ q))), (λ q. never .1 (says-refused _ _ (sym (draw-bytes-says ran) ∙ q))))
 

@@ -3,12 +3,14 @@
 -- Assumes nothing.
 use mathlib.Core.List.{List}
 use Prim.Native.Nat.{ℕ}
+use mathlib.Core.Bool.{true}
 use mathlib.Core.Path.{_≡_}
 use denote.Ref.{now}
-use Rattle.lists.specs.Lists.{onto}
+use Rattle.lists.specs.Lists.{onto, all}
 use Rattle.refuse.specs.Run.{Run, Ran}
 use Rattle.prepare.specs.Prepare.{ending, overing}
 use Rattle.draw.specs.Draw.{showing}
+use Rattle.narrow.specs.Narrow.{isByte}
 use Rattle.narrow.proofs.widen.Kinds as widen
 use Rattle.narrow.proofs.widen.Reads as widen-reads
 use Rattle.narrow.proofs.narrow.Kinds as narrow
@@ -37,7 +39,11 @@ PreparesBytes = Ran prepare-bytes-values
 
 pub prepare-bytes-ends : {p : PrepareCall} → PreparesBytes p
     → ending (p .answer) (p .map′) (p .scratch′) (p .list′) ≡ bytePrepareOf (p .film) (p .width) (p .height) (p .pixels) (p .settings) (p .map) (p .scratch) (p .list)
-prepare-bytes-ends ran = rw (ran .named) (ran .run .allowed)
+prepare-bytes-ends ran = rw (ran .named) (ran .run .allowed .0)
+
+-- its picture holds bytes
+pub prepare-bytes-picture : {p : PrepareCall} → PreparesBytes p → all isByte (p .pixels) ≡ true
+prepare-bytes-picture ran = rw (ran .named) (ran .run .allowed .1)
 
 abbrev pub enhance-bytes-values : Run enhance-bytes.ps enhance-bytes.r enhance-bytes-reads.Post → EnhanceCall
 enhance-bytes-values run =
@@ -51,7 +57,11 @@ EnhancesBytes = Ran enhance-bytes-values
 
 pub enhance-bytes-ends : {e : EnhanceCall} → EnhancesBytes e
     → overing (e .answer) (e .pixels′) (e .map′) (e .scratch′) ≡ byteEnhanceOf (e .width) (e .height) (e .pixels) (e .settings) (e .map) (e .scratch)
-enhance-bytes-ends ran = rw (ran .named) (ran .run .allowed)
+enhance-bytes-ends ran = rw (ran .named) (ran .run .allowed .0)
+
+-- its picture holds bytes
+pub enhance-bytes-picture : {e : EnhanceCall} → EnhancesBytes e → all isByte (e .pixels) ≡ true
+enhance-bytes-picture ran = rw (ran .named) (ran .run .allowed .1)
 
 abbrev pub draw-bytes-values : Run draw-bytes.ps draw-bytes.r draw-bytes-reads.Post → DrawCall
 draw-bytes-values run =
@@ -65,7 +75,11 @@ DrawsBytes = Ran draw-bytes-values
 
 pub draw-bytes-ends : {d : DrawCall} → DrawsBytes d
     → showing (d .answer) (d .out′) ≡ byteDrawOf (d .film) (d .width) (d .height) (d .pixels) (d .settings) (d .kept) (d .window) (d .map) (d .out)
-draw-bytes-ends ran = rw (ran .named) (ran .run .allowed)
+draw-bytes-ends ran = rw (ran .named) (ran .run .allowed .0)
+
+-- its picture and its map buffer hold bytes
+pub draw-bytes-lent : {d : DrawCall} → DrawsBytes d → (all isByte (d .pixels) ≡ true) × (all isByte (d .map) ≡ true)
+draw-bytes-lent ran = (rw (ran .named) (ran .run .allowed .1), rw (ran .named) (ran .run .allowed .2))
 
 -- ---- widen and narrow
 

@@ -3,3 +3,5 @@ pub mod Outcomes
 pub mod Turns
 pub mod Demand3
 pub mod Looks
+pub mod Films
+pub mod Drawn

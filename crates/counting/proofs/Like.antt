@@ -10,7 +10,7 @@ use Rattle.lists.proofs.Windows.{front-short}
 use Rattle.limit.specs.declared.Clip.{Clip}
 use Rattle.limit.specs.declared.Edition.{Edition}
 use Rattle.settings.specs.declared.Settings.{Settings}
-use Rattle.settings.specs.Settings.{entriesOf, keptOf}
+use Rattle.settings.specs.Settings.{binsOf, entriesOf, keptOf}
 use Rattle.settings.proofs.Like.{bins-kept}
 use Rattle.settings.proofs.Parts.{bins-alike, grid-alike, range-alike}
 use Rattle.counting.specs.Counting.{rawCounts, countings, countsRows, outsideRows, pictureRows, countRows, countDoneOf, countOf, Alike, withClipping}
@@ -50,6 +50,11 @@ kept-alike s = record { across = refl; down = refl; bins = bins-kept s; min = re
 pub counts-kept : (s : Settings) (size : ℕ) → countsRows (keptOf s) size ≡ countsRows s size
 unfolding countsRows
 counts-kept s size = rw (bins-kept s) refl
+
+-- grid and bins
+pub counts-alike : (s s′ : Settings) → s .across ≡ s′ .across → s .down ≡ s′ .down → binsOf s ≡ binsOf s′ → (size : ℕ) → countsRows s size ≡ countsRows s′ size
+unfolding countsRows
+counts-alike s s′ across down bins size = rw (bins, across, down) refl
 
 -- counts that are alike in front, as far as there are bins and tiles
 pub counts-front : (s : Settings) (a b : List ℕ) → take (entriesOf s) a ≡ take (entriesOf s) b → countsRows s (length a) ≡ countsRows s (length b)

@@ -1,10 +1,11 @@
 -- Counting's table: its numbers, how the functions ask it, and what it tells where none of its rows applies.
 -- Assumes nothing.
-use Prim.Native.Nat.{ℕ, _*_, _≤_}
+use Prim.Native.Nat.{ℕ, _+_, _-_, _*_, _≤_, _<_}
 use mathlib.Core.Bool.{Bool, true, false, not, cond}
-use mathlib.Core.List.{List, [], _∷_, _++_}
+use mathlib.Core.List.{List, [], _∷_, _++_, append-nil}
 use mathlib.Core.Logic.{_≢_, ⊎-elim}
 use mathlib.Core.Path.{_≡_, refl, sym, ap, _∙_}
+use native.Mathlib.Omega.{arith}
 use lib.Dec.{ltb}
 use lib.ListN.{length}
 use borrow.Author.Tests.{lt-ltb, le-ltb, ltb-false, not-false}
@@ -12,11 +13,12 @@ use Rattle.lists.specs.Lists.{all}
 use Rattle.lists.proofs.Orders.{lt-or-ge}
 use Rattle.scan.specs.Scan.{within}
 use Rattle.refuse.specs.Refuse.{first, numbersOf, Numbered}
-use Rattle.refuse.proofs.Walk.{first-none, first-both, numbers-append, each-append, first-never, behind}
+use Rattle.refuse.proofs.Walk.{first-front, first-none, first-both, only-front, only-behind, numbers-append, each-append, first-never, behind}
 use Rattle.settings.specs.declared.Settings.{Settings}
-use Rattle.settings.specs.Settings.{entriesOf, sizeRows, gridRows, rangeRows, roomRows, Tiled}
+use Rattle.settings.specs.Settings.{binsOf, entriesOf, sizeRows, gridRows, rangeRows, roomRows, Tiled}
 use Rattle.settings.proofs.Ready.{grid-numbers, range-numbers, size-numbered, grid-numbered, range-numbered, tiled, whole-length, room-fits, fits-room}
 use Rattle.settings.proofs.Parts.{size-numbers, size-both}
+use Rattle.settings.proofs.Reach.{range-31, Early, range-early}
 use Rattle.counting.specs.Counting.{countsRows, outsideRows, pictureRows, countRows, LentAsks, CountsAsk}
 
 -- ---- the numbers, in the order that order 5 gives them
@@ -130,3 +132,29 @@ count-ready w h pic s size e =
     let b = first-both (countsRows s size) _ (counts-numbered s size) (a .1) in
     let (known, whole) = picture-tiled w h (length pic) s (a .0) in
     record { tiled = known; whole = whole; fitting = counts-fits s size (b .0); greys = not-false _ (first-none _ refl (b .1) .0) }
+
+-- ---- the table, part by part
+
+pub count-rows : (w h : ℕ) (pic : List ℕ) (s : Settings) (size : ℕ)
+    → countRows w h pic s size ≡ (sizeRows w h (length pic) ++ (gridRows w h s ++ rangeRows s)) ++ (countsRows s size ++ outsideRows pic s)
+unfolding countRows pictureRows
+count-rows w h pic s size = refl
+
+-- ---- where the bins are more than the greys of the range, or there is no range
+
+-- 31, or one of 1 to 9
+pub count-early : (w h : ℕ) (pic : List ℕ) (s : Settings) (size : ℕ) → first (rangeRows s) ≢ 0 → Early (first (countRows w h pic s size))
+unfolding all countRows pictureRows
+count-early w h pic s size some =
+    let early : Early (first (pictureRows w h (length pic) s)) =
+    rw (append-nil (rangeRows s)) at (range-early (sizeRows w h (length pic)) [] (size-numbered w h (length pic)) (rw (size-numbers w h (length pic)) refl) w h s some) in
+    rw (first-front (pictureRows w h (length pic) s) (countsRows s size ++ outsideRows pic s) (λ z. omega (arith, early .0, z))) early
+
+-- and 31 is given only there
+pub count-31 : (w h : ℕ) (pic : List ℕ) (s : Settings) (size : ℕ) → first (countRows w h pic s size) ≡ 31 → s .max - s .min + 1 < binsOf s
+unfolding all numbersOf countRows pictureRows countsRows outsideRows
+count-31 w h pic s size q =
+    range-31 s
+    (only-behind 31 (gridRows w h s) (rangeRows s) (rw (grid-numbers w h s) refl)
+    (only-behind 31 (sizeRows w h (length pic)) (gridRows w h s ++ rangeRows s) (rw (size-numbers w h (length pic)) refl)
+    (only-front 31 (pictureRows w h (length pic) s) (countsRows s size ++ outsideRows pic s) refl refl q)))

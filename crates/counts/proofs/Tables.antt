@@ -1,23 +1,26 @@
 -- Mapping's table: its numbers, how the functions ask it, and what it tells where none of its rows applies.
 -- Assumes nothing.
-use Prim.Native.Nat.{ℕ, _≤_, _<_}
+use Prim.Native.Nat.{ℕ, _+_, _-_, _≤_, _<_}
 use mathlib.Core.Bool.{Bool, true, false, not, cond}
 use mathlib.Core.List.{List, [], _∷_, _++_}
+use mathlib.Core.Logic.{_≢_}
 use mathlib.Core.Path.{_≡_, refl, sym, ap, ap₂, _∙_}
 use native.Mathlib.Omega.{arith}
-use lib.Dec.{ltb}
+use lib.Dec.{ltb, eqb}
 use lib.ListN.{length}
 use borrow.Author.Tests.{lt-ltb, le-ltb, ltb-false, not-false}
 use Rattle.lists.specs.Lists.{all}
-use Rattle.refuse.specs.Refuse.{first, numbersOf, Numbered}
-use Rattle.refuse.proofs.Walk.{first-none, first-both, first-hit, first-skip, numbers-append, each-append, front, behind}
+use Rattle.refuse.specs.Refuse.{row, first, numbersOf, Each, Numbered}
+use Rattle.refuse.proofs.Walk.{first-front, first-none, first-both, only-front, only-behind, first-hit, first-skip, numbers-append, each-append, front, behind}
 use Rattle.settings.specs.declared.Settings.{Settings}
-use Rattle.settings.specs.Settings.{binsOf, entriesOf, clipBad, sideRows, gridRows, greyRows, roomRows, Tiled}
-use Rattle.settings.proofs.Ready.{room-numbers, side-numbered, grid-numbered, tiled, clip-fair, room-fits}
-use Rattle.settings.proofs.Parts.{grey-numbered, room-numbered, grey-both}
+use Rattle.settings.specs.Settings.{binsOf, entriesOf, clipBad, sideRows, gridRows, rangeRows, clipRows, greyRows, roomRows, Tiled}
+use Rattle.settings.proofs.Ready.{side-numbers, grid-numbers, room-numbers, side-numbered, grid-numbered, tiled, clip-fair, room-fits}
+use Rattle.settings.proofs.Parts.{clip-numbers, grey-numbered, room-numbered, grey-parts, grey-both, grid-alike, grey-alike, room-alike}
+use Rattle.settings.proofs.Reach.{range-31, Early, range-early}
 use Rattle.tiles.specs.Tiles.{spentEntries}
 use Rattle.counting.specs.Counting.{countsRows}
 use Rattle.counting.proofs.Tables.{counts-numbers, counts-numbered, counts-fits}
+use Rattle.counting.proofs.Like.{counts-alike}
 use Rattle.counts.specs.Counts.{addsUp, tilingRows, lentRows, sumRows, mapRows, ListAsks}
 
 -- ---- the numbers, in the order that the orders give them
@@ -116,3 +119,48 @@ map-ready w h s cs room scratch list e =
       film = record { tiled = known; fair = fair; fitting = fits; bins = bins; long = long; sums = not-false _ (first-none _ refl (b .1) .0) };
       pairs = pairs;
     }
+
+-- ---- the table, part by part
+
+pub map-rows : (w h : ℕ) (s : Settings) (cs : List ℕ) (room scratch list : ℕ)
+    → mapRows w h s cs room scratch list ≡ (sideRows w h ++ (gridRows w h s ++ greyRows s)) ++ (lentRows s room scratch list (length cs) ++ (row 34 (not (addsUp w h s cs)) ∷ []))
+unfolding mapRows tilingRows sumRows
+map-rows w h s cs room scratch list = refl
+
+-- ---- where the bins are more than the greys of the range, or there is no range
+
+-- 31, or one of 1 and 3 to 9
+pub map-early : (w h : ℕ) (s : Settings) (cs : List ℕ) (room scratch list : ℕ) → first (rangeRows s) ≢ 0 → Early (first (mapRows w h s cs room scratch list))
+unfolding all mapRows tilingRows
+map-early w h s cs room scratch list some =
+    let early : Early (first (tilingRows w h s)) =
+    rw (grey-parts s) (range-early (sideRows w h) (clipRows s) (side-numbered w h) (rw (side-numbers w h) refl) w h s some) in
+    rw (first-front (tilingRows w h s) (lentRows s room scratch list (length cs) ++ sumRows w h s cs) (λ z. omega (arith, early .0, z))) early
+
+-- and 31 is given only there
+pub map-31 : (w h : ℕ) (s : Settings) (cs : List ℕ) (room scratch list : ℕ) → first (mapRows w h s cs room scratch list) ≡ 31 → s .max - s .min + 1 < binsOf s
+unfolding all numbersOf mapRows tilingRows lentRows sumRows
+map-31 w h s cs room scratch list q =
+    let lent : Each (λ k. not (eqb k 31)) (lentRows s room scratch list (length cs)) =
+    each-append (λ k. not (eqb k 31)) (roomRows s room) (row 12 (ltb scratch (binsOf s)) ∷ row 32 (ltb list (spentEntries s)) ∷ countsRows s (length cs)) (rw (room-numbers s room) refl)
+    (rw (counts-numbers s (length cs)) refl) in
+    let front : first (tilingRows w h s) ≡ 31 =
+    only-front 31 (tilingRows w h s) (lentRows s room scratch list (length cs) ++ sumRows w h s cs) refl
+    (each-append (λ k. not (eqb k 31)) (lentRows s room scratch list (length cs)) (sumRows w h s cs) lent refl) q in
+    range-31 s
+    (only-front 31 (rangeRows s) (clipRows s) refl (rw (clip-numbers s) refl)
+    (sym (ap first (grey-parts s))
+    ∙ only-behind 31 (gridRows w h s) (greyRows s) (rw (grid-numbers w h s) refl) (only-behind 31 (sideRows w h) (gridRows w h s ++ greyRows s) (rw (side-numbers w h) refl) front)))
+
+-- ---- what the table reads of the settings: of the clip setting whether 10 refuses it, of the edition nothing
+
+pub map-alike : (s s′ : Settings) → s .across ≡ s′ .across → s .down ≡ s′ .down → binsOf s ≡ binsOf s′ → s .min ≡ s′ .min → s .max ≡ s′ .max
+    → clipBad (s .clip) ≡ clipBad (s′ .clip) → (w h : ℕ) (cs : List ℕ) (room scratch list : ℕ) → mapRows w h s cs room scratch list ≡ mapRows w h s′ cs room scratch list
+unfolding mapRows tilingRows lentRows sumRows addsUp
+map-alike s s′ across down bins min max clip w h cs room scratch list =
+    let lent : lentRows s room scratch list (length cs) ≡ lentRows s′ room scratch list (length cs) =
+    rw (room-alike s s′ across down bins min max clip room, counts-alike s s′ across down bins (length cs), bins, across, down) refl in
+    let sums : addsUp w h s cs ≡ addsUp w h s′ cs = rw (bins, across, down) refl in
+    ap₂ (λ a b. a ++ b)
+    (ap₂ (λ a b. sideRows w h ++ (a ++ b)) (grid-alike w h s s′ across down) (grey-alike s s′ bins min max clip))
+    (ap₂ (λ a b. a ++ b) lent (ap (λ b. row 34 (not b) ∷ []) sums))

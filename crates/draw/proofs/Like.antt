@@ -13,16 +13,18 @@ use Rattle.lists.specs.Lists.{all}
 use Rattle.refuse.specs.Refuse.{row, first, unless}
 use Rattle.scan.specs.Scan.{within}
 use Rattle.tally.specs.Tally.{greysOf}
+use Rattle.limit.specs.declared.Clip.{Clip}
 use Rattle.settings.specs.declared.Settings.{Settings}
 use Rattle.settings.specs.declared.MapRecord.{MapRecord}
 use Rattle.settings.specs.declared.Window.{Window}
-use Rattle.settings.specs.Settings.{entriesOf, keptOf, keptRecord, clipOne}
+use Rattle.settings.specs.Settings.{entriesOf, keptOf, keptRecord, clipBad, clipOne, sameClip}
 use Rattle.settings.proofs.Ready.{shared-room-alike}
 use Rattle.settings.proofs.Like.{bins-kept, shared-kept}
+use Rattle.settings.proofs.Parts.{bins-alike, shared-alike}
 use Rattle.render.specs.Render.{renderOf, rectOf}
 use Rattle.render.proofs.Laws.{render-front, render-kept}
 use Rattle.held.specs.Held.{recordRows, windowRows}
-use Rattle.held.proofs.Laws.{record-kept, record-kept-record}
+use Rattle.held.proofs.Laws.{record-kept, record-kept-record, reclipped, reclippedRecord, record-alike}
 use Rattle.draw.specs.declared.Drawn.the-variants.{Done, Refused}
 use Rattle.draw.specs.Draw.{pixelRows, drawRows, showing, drawnPixels, drawOf, DrawReady}
 use Rattle.draw.proofs.Tables.{draw-ready}
@@ -142,3 +144,13 @@ pixel-free w pic s win m greys mappings = rw greys (go (clipOne (s .clip)) refl)
     go : (b : Bool) → clipOne (s .clip) ≡ b → first (row 18 (not b && not (all (within (s .min) (s .max)) (take (entriesOf s) m))) ∷ []) ≡ 0
     go true e = refl
     go false e = rw (mappings e) refl
+
+-- ---- what the rows read of the clip settings: whether 10 refuses the call's, whether it is 1.0, and whether the record's is the same
+
+pub rows-alike : (film w h : ℕ) (pic : List ℕ) (s : Settings) (r : MapRecord) (win : Window) (m : List ℕ) (room : ℕ) (c c′ : Clip)
+    → clipBad c ≡ clipBad (s .clip) → clipOne c ≡ clipOne (s .clip) → sameClip c c′ ≡ sameClip (s .clip) (r .settings .clip)
+    → drawRows film w h pic (reclipped s c) (reclippedRecord r c′) win m room ≡ drawRows film w h pic s r win m room
+unfolding drawRows pixelRows
+rows-alike film w h pic s r win m room c c′ bad one same =
+    let bins = bins-alike (reclipped s c) s refl in
+    rw (shared-alike (reclipped s c) s refl refl bins refl refl bad w h (length pic) (length m), record-alike film w h s r c c′ same, bins, one) refl

@@ -35,7 +35,7 @@ fn made_axis(side: u32, tiles: u32) -> Axis
 }
 
 // The axes of the made record.
-pub(crate) fn of(t: Eleven) -> Axes
+pub fn of(t: Eleven) -> Axes
     ensures { λ r. ⌜ r ≡ axesOf t ⌝ }
 {
     Axes {

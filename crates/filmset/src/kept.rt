@@ -204,7 +204,7 @@ fn done_fields(line: Text, letter: u8, k: Kept, limit: u32, asked: f32, used: f6
 }
 
 // The line of prepare or enhance: the answer, and of an accepted call its fields. None under the letter 0.
-pub(crate) fn line(letter: u8, no: u64, k: Kept, limit: u32, asked: f32, used: f64) -> Text
+pub fn line(letter: u8, no: u64, k: Kept, limit: u32, asked: f32, used: f64) -> Text
     ensures { λ r. ⌜ r ≡ answerLine letter no k limit asked used ⌝ }
 {
     if letter == 0 {
@@ -235,7 +235,7 @@ fn nine(t: Eleven) -> [u32; 9]
 }
 
 // The eleven but for the factor, in the order in which C has them.
-pub(crate) fn ten(t: Eleven) -> [u32; 10]
+pub fn ten(t: Eleven) -> [u32; 10]
     ensures { λ r. ⌜ r ≡ tenOf t ⌝ }
 {
     [
@@ -281,7 +281,7 @@ fn eleven_of(n: [u32; 10], factor: f32) -> Eleven
 }
 
 // An answer beside the made record.
-pub(crate) fn of_made(number: u32, eleven: Eleven) -> Kept
+pub fn of_made(number: u32, eleven: Eleven) -> Kept
     ensures { λ r. ⌜ r ≡ keptMade number eleven ⌝ }
 {
     let axes = axes::of(eleven);
@@ -293,7 +293,7 @@ pub(crate) fn of_made(number: u32, eleven: Eleven) -> Kept
 }
 
 // What prepare for C left, printed under the letter if that is not 0.
-pub(crate) fn of_c(
+pub fn of_c(
     letter: u8,
     no: u64,
     number: u32,

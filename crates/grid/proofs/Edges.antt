@@ -82,6 +82,21 @@ module _ {side grid : ℕ} (fits : Fits side grid) where
       let up : (side + grid - 1) / grid < 2049 = div-lt-iff-lt-mul {x = side + grid - 1} {y = 2049} some .1 (omega (arith, fits .some, fits .most)) in
       rw (edge-next side grid i) (omega (arith, div-add-up (i * side) side grid some))
 
+  -- it has a grid's part of the side, rounded down, or a column more
+  pub size-part : (i : ℕ) → (side / grid ≤ sizeOf side grid i) × (sizeOf side grid i ≤ side / grid + 1)
+  unfolding edgeOf sizeOf
+  size-part i =
+      let below : side < side / grid * grid + grid = lt-div-mul-add some in
+      let twice : (side / grid + 2) * grid ≡ side / grid * grid + 2 * grid = add-mul (side / grid) 2 grid in
+      let up : (side + grid - 1) / grid < side / grid + 2 = div-lt-iff-lt-mul {x = side + grid - 1} {y = side / grid + 2} some .1 (omega arith) in (
+        rw (edge-next side grid i) (omega (arith, div-sum-least (i * side) side grid some)),
+        rw (edge-next side grid i) (omega (arith, div-add-up (i * side) side grid some)),
+      )
+
+  -- so two tiles differ by a column at most
+  pub size-near : (i k : ℕ) → sizeOf side grid i ≤ sizeOf side grid k + 1
+  size-near i k = omega (arith, size-part i .1, size-part k .0)
+
   -- ---- centres
 
   -- a tile's centre is one of its columns

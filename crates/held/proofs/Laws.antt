@@ -21,6 +21,7 @@ use Rattle.settings.specs.declared.Settings.{Settings}
 use Rattle.settings.specs.declared.MapRecord.{MapRecord}
 use Rattle.settings.specs.Settings.{binsOf, keptOf, recordOf, keptRecord, clipBad, sameClip}
 use Rattle.settings.proofs.Like.{bins-kept}
+use Rattle.settings.proofs.Parts.{bins-alike}
 use Rattle.settings.proofs.Records.{record-film, record-width, record-height, record-settings, record-columns, record-rows}
 use Rattle.settings.proofs.Editions.{same-edition-self}
 use Rattle.held.specs.Held.{filmRows, keptRows, editionRows, axisRows, recordRows, Held}
@@ -136,3 +137,20 @@ record-kept film w h s r = rw (bins-kept s) refl
 pub record-kept-record : (film w h : ℕ) (s : Settings) (r : MapRecord) → recordRows film w h s (keptRecord r) ≡ recordRows film w h s r
 unfolding recordRows filmRows keptRows editionRows axisRows
 record-kept-record film w h s r = rw (bins-kept (r .settings)) refl
+
+-- ---- what 15 reads of the clip settings
+
+-- settings with another clip setting
+abbrev pub reclipped : Settings → Clip → Settings
+reclipped s c = record { across = s .across; down = s .down; bins = s .bins; min = s .min; max = s .max; clip = c; edition = s .edition }
+
+-- and a record with another
+abbrev pub reclippedRecord : MapRecord → Clip → MapRecord
+reclippedRecord r c =
+    record { film = r .film; width = r .width; height = r .height; settings = reclipped (r .settings) c; columns = r .columns; rows = r .rows }
+
+-- whether the call's and the record's are the same, and no more
+pub record-alike : (film w h : ℕ) (s : Settings) (r : MapRecord) (c c′ : Clip) → sameClip c c′ ≡ sameClip (s .clip) (r .settings .clip)
+    → recordRows film w h (reclipped s c) (reclippedRecord r c′) ≡ recordRows film w h s r
+unfolding recordRows filmRows keptRows editionRows axisRows
+record-alike film w h s r c c′ e = rw (bins-alike (reclipped s c) s refl, bins-alike (reclipped (r .settings) c′) (r .settings) refl, e) refl

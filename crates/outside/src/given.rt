@@ -8,7 +8,7 @@ pub struct Given {
 }
 
 // Before a command's line.
-pub fn nothing() -> Given {
+pub(crate) fn nothing() -> Given {
     Given {
         in_bytes: false,
         bytes: [0; 64],
@@ -18,14 +18,14 @@ pub fn nothing() -> Given {
 }
 
 // Before a line of numbers.
-pub fn no_bytes() -> Given {
+pub(crate) fn no_bytes() -> Given {
     let mut next = nothing();
     next.in_bytes = true;
     next
 }
 
 // With its number ended: one byte more, of which there are 64 at most.
-pub fn ended(g: Given) -> Given {
+pub(crate) fn ended(g: Given) -> Given {
     let mut next = g;
     let k = g.count;
     next.value = 0;
@@ -37,7 +37,7 @@ pub fn ended(g: Given) -> Given {
 }
 
 // With one more byte of a line of numbers.
-pub fn fed(g: Given, b: u8) -> Given {
+pub(crate) fn fed(g: Given, b: u8) -> Given {
     if b == b' ' {
         return ended(g);
     }

@@ -1,32 +1,32 @@
 // The printed lines.
 use libc::STDOUT_FILENO;
 
-pub fn line(text: &[u8]) {
+pub(crate) fn line(text: &[u8]) {
     io::write_all(STDOUT_FILENO, text);
     io::write_all(STDOUT_FILENO, b"\n");
 }
 
 // One byte of a line.
-pub fn byte(b: u8) {
+pub(crate) fn byte(b: u8) {
     let text = [b];
     io::write_all(STDOUT_FILENO, &text);
 }
 
-pub fn refused(n: u32) {
+pub(crate) fn refused(n: u32) {
     io::write_all(STDOUT_FILENO, b"refused ");
     io::print_decimal(STDOUT_FILENO, n as u64);
     io::write_all(STDOUT_FILENO, b"\n");
 }
 
 // The first entries, or all where there are fewer.
-pub fn first_greys(entries: &[u16], n: usize) -> &[u16] {
+pub(crate) fn first_greys(entries: &[u16], n: usize) -> &[u16] {
     if n <= entries.len() {
         return &entries[0..n];
     }
     entries
 }
 
-pub fn first_bytes(entries: &[u8], n: usize) -> &[u8] {
+pub(crate) fn first_bytes(entries: &[u8], n: usize) -> &[u8] {
     if n <= entries.len() {
         return &entries[0..n];
     }
@@ -55,7 +55,7 @@ fn rows(greys: &[u16], width: u32) {
 }
 
 // A film as Netpbm's plain PGM.
-pub fn plain(greys: &[u16], width: u32, height: u32, maxval: u32) {
+pub(crate) fn plain(greys: &[u16], width: u32, height: u32, maxval: u32) {
     line(b"P2");
     io::print_decimal(STDOUT_FILENO, width as u64);
     io::write_all(STDOUT_FILENO, b" ");
@@ -81,7 +81,7 @@ fn same(first: &[u8], second: &[u8]) -> bool {
     true
 }
 
-pub fn written(bytes: &[u8], file: &[u8]) {
+pub(crate) fn written(bytes: &[u8], file: &[u8]) {
     if same(bytes, file) {
         line(b"written again: the same bytes");
         return;
@@ -100,7 +100,7 @@ fn numbers(bytes: &[u8]) {
 }
 
 // The raw file of a plain one.
-pub fn raw(bytes: &[u8]) {
+pub(crate) fn raw(bytes: &[u8]) {
     io::write_all(STDOUT_FILENO, b"written raw:");
     numbers(bytes);
     io::write_all(STDOUT_FILENO, b"\n");

@@ -1,23 +1,23 @@
 // The printed lines: a letter, then numbers, each behind a tab.
 use libc::STDOUT_FILENO;
 
-pub fn field(n: u64) {
+pub(crate) fn field(n: u64) {
     io::write_all(STDOUT_FILENO, b"\t");
     io::print_decimal(STDOUT_FILENO, n);
 }
 
-pub fn start(letter: u8, no: u32) {
+pub(crate) fn start(letter: u8, no: u32) {
     let text = [letter];
     io::write_all(STDOUT_FILENO, &text);
     field(no as u64);
 }
 
-pub fn end() {
+pub(crate) fn end() {
     io::write_all(STDOUT_FILENO, b"\n");
 }
 
 // A line that begins with an answer and three sizes.
-pub fn sizes(letter: u8, no: u32, answer: u32, sizes: [u32; 3]) {
+pub(crate) fn sizes(letter: u8, no: u32, answer: u32, sizes: [u32; 3]) {
     start(letter, no);
     field(answer as u64);
     field(sizes[0] as u64);
@@ -25,7 +25,7 @@ pub fn sizes(letter: u8, no: u32, answer: u32, sizes: [u32; 3]) {
     field(sizes[2] as u64);
 }
 
-pub fn greys(entries: &[u16]) {
+pub(crate) fn greys(entries: &[u16]) {
     let mut i = 0;
     while i < entries.len() {
         field(entries[i] as u64);
@@ -33,7 +33,7 @@ pub fn greys(entries: &[u16]) {
     }
 }
 
-pub fn bytes(entries: &[u8]) {
+pub(crate) fn bytes(entries: &[u8]) {
     let mut i = 0;
     while i < entries.len() {
         field(entries[i] as u64);
@@ -42,14 +42,14 @@ pub fn bytes(entries: &[u8]) {
 }
 
 // The first entries, or all where there are fewer.
-pub fn first_greys(entries: &[u16], n: usize) -> &[u16] {
+pub(crate) fn first_greys(entries: &[u16], n: usize) -> &[u16] {
     if n <= entries.len() {
         return &entries[0..n];
     }
     entries
 }
 
-pub fn first_bytes(entries: &[u8], n: usize) -> &[u8] {
+pub(crate) fn first_bytes(entries: &[u8], n: usize) -> &[u8] {
     if n <= entries.len() {
         return &entries[0..n];
     }
@@ -57,14 +57,14 @@ pub fn first_bytes(entries: &[u8], n: usize) -> &[u8] {
 }
 
 // The same of a slice that is lent to be written.
-pub fn front_greys(entries: &mut [u16], n: usize) -> &mut [u16] {
+pub(crate) fn front_greys(entries: &mut [u16], n: usize) -> &mut [u16] {
     if n <= entries.len() {
         return &mut entries[0..n];
     }
     entries
 }
 
-pub fn front_bytes(entries: &mut [u8], n: usize) -> &mut [u8] {
+pub(crate) fn front_bytes(entries: &mut [u8], n: usize) -> &mut [u8] {
     if n <= entries.len() {
         return &mut entries[0..n];
     }

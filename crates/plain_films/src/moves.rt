@@ -71,7 +71,7 @@ fn pixels(sizes: [u32; 3]) -> usize {
 }
 
 // A raw file as plain, and that as raw again.
-pub fn from_raw(no: u32, file: &[u8]) {
+pub(crate) fn from_raw(no: u32, file: &[u8]) {
     let mut target = [7u16; 64];
     let mut out = [0u8; 512];
     let there = read_raw(b'T', no, file, &mut target);
@@ -101,7 +101,7 @@ pub fn from_raw(no: u32, file: &[u8]) {
 }
 
 // A plain file as raw, and that as plain again.
-pub fn from_plain(no: u32, file: &[u8]) {
+pub(crate) fn from_plain(no: u32, file: &[u8]) {
     let mut target = [7u16; 64];
     let mut out = [0u8; 512];
     let there = read_plain(b'U', no, file, &mut target);

@@ -11,7 +11,7 @@ pub struct Row {
 }
 
 // Before a row.
-pub fn fresh() -> Row {
+pub(crate) fn fresh() -> Row {
     Row {
         letter: 0,
         head: [0; 5],
@@ -24,7 +24,7 @@ pub fn fresh() -> Row {
 }
 
 // How many bytes or greys a row has.
-pub fn entries(r: Row) -> usize {
+pub(crate) fn entries(r: Row) -> usize {
     if r.count < 5 {
         return 0;
     }
@@ -51,7 +51,7 @@ fn pushed(r: Row) -> Row {
 }
 
 // With its number ended, where it stands in one.
-pub fn ended(r: Row) -> Row {
+pub(crate) fn ended(r: Row) -> Row {
     if r.in_number {
         return pushed(r);
     }
@@ -59,7 +59,7 @@ pub fn ended(r: Row) -> Row {
 }
 
 // With one more byte of its line.
-pub fn fed(r: Row, b: u8) -> Row {
+pub(crate) fn fed(r: Row, b: u8) -> Row {
     if b == b' ' {
         return ended(r);
     }

@@ -6,7 +6,7 @@ use mathlib.Core.List.{List, [], _∷_}
 use mathlib.Core.Path.{_≡_}
 use native.Mathlib.Omega.{arith}
 use lib.ListN.{length, getD}
-use borrow.Author.Tests.{ltb-true}
+use borrow.Author.Tests.{ltb-true, lt-ltb}
 use Rattle.lists.specs.Lists.{all}
 use Rattle.lists.proofs.Tabs.{and-left, and-right}
 use Rattle.lists.proofs.Alls.{all-at, all-from}
@@ -20,6 +20,10 @@ pub bytes-within : (xs : List ℕ) {s : Settings} → Profile s → ((i : ℕ) �
 bytes-within xs {s} known small =
     all-from (within (s .min) (s .max)) xs 0
     (λ i l. within-both (s .min) (s .max) (getD xs i 0) (omega (arith, known .min)) (omega (arith, known .max, small i l)))
+
+-- numbers that are below 256 wherever they are read are bytes
+pub bytes-told : (xs : List ℕ) → ((i : ℕ) → getD xs i 0 < 256) → all isByte xs ≡ true
+bytes-told xs small = all-from isByte xs 0 (λ i l. lt-ltb (getD xs i 0) 256 (small i))
 
 -- the same of a list of bytes
 pub bytes-all-within : (xs : List ℕ) {s : Settings} → Profile s → all isByte xs ≡ true → all (within (s .min) (s .max)) xs ≡ true

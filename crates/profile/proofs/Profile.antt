@@ -1,20 +1,24 @@
 -- The rows 30 and the table that the byte calls share: their numbers, what they tell where none of them applies, and that inside the profile the table is the
 -- wide calls' own.
 -- Assumes nothing.
-use Prim.Native.Nat.{ℕ, _≤_}
-use mathlib.Core.Bool.{Bool, true, false, _||_}
+use Prim.Native.Nat.{ℕ, _+_, _-_, _≤_, _<_}
+use mathlib.Core.Bool.{Bool, true, false, not, _||_}
 use mathlib.Core.List.{List, [], _∷_, _++_}
-use mathlib.Core.Path.{_≡_, refl, sym, ap, _∙_}
+use mathlib.Core.Logic.{_≢_}
+use mathlib.Core.Path.{_≡_, refl, sym, ap, ap₂, _∙_}
 use native.Mathlib.Omega.{arith}
 use lib.Dec.{eqb}
 use borrow.Author.Tests.{eqb-true, not-false}
 use Rattle.lists.specs.Lists.{all}
 use Rattle.refuse.specs.Refuse.{Row, row, first, numbersOf, Numbered}
-use Rattle.refuse.proofs.Walk.{first-none, first-both, first-behind, numbers-append}
+use Rattle.refuse.proofs.Walk.{first-front, first-none, first-both, first-behind, only-front, numbers-append, each-append}
 use Rattle.limit.specs.declared.Edition.the-variants.{Ours}
 use Rattle.settings.specs.declared.Settings.{Settings}
-use Rattle.settings.specs.Settings.{binsOf, settingRows, roomRows, sharedRows}
+use Rattle.settings.specs.Settings.{binsOf, keptOf, clipBad, rangeRows, settingRows, roomRows, sharedRows}
 use Rattle.settings.proofs.Ready.{setting-numbers, setting-numbered, room-numbers, setting-tiled, room-fits, shared-parts}
+use Rattle.settings.proofs.Like.{bins-kept}
+use Rattle.settings.proofs.Parts.{setting-alike, room-alike}
+use Rattle.settings.proofs.Reach.{setting-31, Early, setting-early}
 use Rattle.settings.proofs.Editions.{same-edition-is, same-edition-self}
 use Rattle.profile.specs.Profile.{binsIn, profileRows, byteRows, Profile, ByteReady}
 
@@ -99,3 +103,41 @@ unfolding byteRows
 byte-inside w h size s room e =
     inserted (settingRows w h size s) (profileRows s) (roomRows s room) (profile-numbered s) e
     ∙ ap first (sym (shared-parts w h size s room))
+
+-- ---- what the table reads of the settings
+
+-- bins 0 as 128
+pub profile-kept : (s : Settings) → profileRows (keptOf s) ≡ profileRows s
+unfolding profileRows
+profile-kept s = rw (bins-kept s) refl
+
+-- 30: all but the clip setting
+pub profile-alike : (s s′ : Settings) → s .across ≡ s′ .across → s .down ≡ s′ .down → binsOf s ≡ binsOf s′ → s .min ≡ s′ .min → s .max ≡ s′ .max → s .edition ≡ s′ .edition
+    → profileRows s ≡ profileRows s′
+unfolding profileRows
+profile-alike s s′ across down bins min max edition = rw (bins, across, down, min, max, edition) refl
+
+-- of the clip setting the whole table reads whether 10 refuses it
+pub byte-alike : (s s′ : Settings) → s .across ≡ s′ .across → s .down ≡ s′ .down → binsOf s ≡ binsOf s′ → s .min ≡ s′ .min → s .max ≡ s′ .max → s .edition ≡ s′ .edition
+    → clipBad (s .clip) ≡ clipBad (s′ .clip) → (w h size room : ℕ) → byteRows w h size s room ≡ byteRows w h size s′ room
+unfolding byteRows
+byte-alike s s′ across down bins min max edition clip w h size room =
+    ap₂ (λ a b. a ++ b) (setting-alike s s′ across down bins min max clip w h size)
+    (ap₂ (λ a b. a ++ b) (profile-alike s s′ across down bins min max edition) (room-alike s s′ across down bins min max clip room))
+
+-- ---- 31
+
+-- it is given only where the bins are more than the greys of the range
+pub byte-31 : (w h size : ℕ) (s : Settings) (room : ℕ) → first (byteRows w h size s room) ≡ 31 → s .max - s .min + 1 < binsOf s
+unfolding all byteRows
+byte-31 w h size s room q =
+    setting-31 w h size s
+    (only-front 31 (settingRows w h size s) (profileRows s ++ roomRows s room) refl
+    (each-append (λ k. not (eqb k 31)) (profileRows s) (roomRows s room) (rw (profile-numbers s) refl) (rw (room-numbers s room) refl)) q)
+
+-- and where they are, or there is no range, the number is 31 or one of 1 to 9
+pub byte-early : (w h size : ℕ) (s : Settings) (room : ℕ) → first (rangeRows s) ≢ 0 → Early (first (byteRows w h size s room))
+unfolding byteRows
+byte-early w h size s room some =
+    let early = setting-early w h size s some in
+    rw (first-front (settingRows w h size s) (profileRows s ++ roomRows s room) (λ z. omega (arith, early .0, z))) early

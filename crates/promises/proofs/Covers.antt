@@ -1,4 +1,4 @@
--- Order 6: every pixel of a film lies in exactly one of its tiles.
+-- Order 6: every pixel of a film lies in exactly one of its tiles, which differ by at most one pixel in width and in height.
 -- Assumes nothing.
 use Prim.Native.Nat.{ℕ, _+_, _-_, _*_, _/_, _%_, _≤_, _<_}
 use mathlib.Core.Path.{_≡_, refl, sym, ap₂, _∙_}
@@ -6,7 +6,7 @@ use native.Mathlib.Nat.{mul-comm, div-add-mod'}
 use native.Mathlib.Omega.{arith}
 use lib.Arith.{digits-lt, digits-div, digits-mod}
 use Rattle.grid.specs.Grid.{edgeOf, Fits}
-use Rattle.grid.proofs.Edges.{size-ends, tile-in, tile-starts, tile-ends, tile-one}
+use Rattle.grid.proofs.Edges.{size-ends, size-near, tile-in, tile-starts, tile-ends, tile-one}
 use Rattle.settings.specs.declared.Settings.{Settings}
 use Rattle.settings.specs.Settings.{Tiled}
 use Rattle.settings.proofs.Records.{tiled-columns, tiled-rows}
@@ -83,3 +83,10 @@ tiles-cover {w} {h} {s} tiled x y l m =
 
     same-row : (k : ℕ) → LiesIn x y (tileOf w h s k) → k / s .across ≡ j
     same-row k r = let (a, b) = lies-row tiled x y k r in tile-one (tiled-rows tiled) m refl a b
+
+-- two tiles of a film differ by at most one pixel in width, and by at most one in height
+pub tiles-near : {w h : ℕ} {s : Settings} → Tiled w h s → (j k : ℕ) → (tileOf w h s j .width ≤ tileOf w h s k .width + 1) × (tileOf w h s j .height ≤ tileOf w h s k .height + 1)
+tiles-near {w} {h} {s} tiled j k = (
+  rw (tile-width w h (s .across) (s .down) j, tile-width w h (s .across) (s .down) k) (size-near (tiled-columns tiled) (j % s .across) (k % s .across)),
+  rw (tile-height w h (s .across) (s .down) j, tile-height w h (s .across) (s .down) k) (size-near (tiled-rows tiled) (j / s .across) (k / s .across)),
+)

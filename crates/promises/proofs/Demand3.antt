@@ -32,8 +32,8 @@ use Rattle.tile.proofs.Tiles.{holds-room, total-tile-counts, divides-ours, tile
 use Rattle.settings.specs.declared.Settings.{Settings}
 use Rattle.settings.specs.declared.MapRecord.{MapRecord}
 use Rattle.settings.specs.declared.Footer.{Footer}
-use Rattle.settings.specs.Settings.{binsOf, clipBad, clipOne}
-use Rattle.tiles.specs.Tiles.{tileOf, pixelsIn, footOf, FooterAsks, Work, TilesAsk}
+use Rattle.settings.specs.Settings.{binsOf, clipBad, clipOne, Tiled}
+use Rattle.tiles.specs.Tiles.{tileOf, pixelsIn, footOf, FilmAsks, FooterAsks, Work, TilesAsk}
 use Rattle.prepare.specs.Prepare.{preparedSays, enhancedSays, prepareOf, enhanceOf}
 use Rattle.tiles.proofs.Footers.{footer-asks, film-asks, footer-off, footer-one, footer-above, foot-is}
 use Rattle.tiles.proofs.Tiles.{tile-area, tile-pixels-some}
@@ -232,25 +232,22 @@ tiles-older-enhance w h pic s m t e on other k l =
 
 -- ---- the footer
 
-module _ {w h : ℕ} {pic : List ℕ} {s : Settings} {room scratch : ℕ} (work : Work w h pic s room scratch) where
-  -- what the laws of the footer ask
-  foot-asks : FooterAsks (s .clip) (pixelsIn w h s 0) (binsOf s)
-  foot-asks = footer-asks (film-asks (work .ready)) refl
+-- the footer that the rules give, in each of the three cases
+pub foot-shows : {w h : ℕ} {s : Settings} → FilmAsks w h s → FooterShows (s .clip) (pixelsIn w h s 0) (binsOf s) (footOf w h s)
+unfolding ofBits
+foot-shows {w} {h} {s} asks =
+    let foot : FooterAsks (s .clip) (pixelsIn w h s 0) (binsOf s) = footer-asks asks refl in
+    subst (FooterShows (s .clip) (pixelsIn w h s 0) (binsOf s)) (foot-is w h s)
+    record {
+      off = λ c. sym (footer-off (s .clip) _ _ foot c);
+      unchanged = λ f c q. sym (footer-one (s .clip) _ _ foot f c q);
+      above = λ f on. sym (footer-above (s .clip) _ _ foot f (on .factor) (above-not-one f (on .above)) refl refl);
+    }
 
+module _ {w h : ℕ} {pic : List ℕ} {s : Settings} {room scratch : ℕ} (work : Work w h pic s room scratch) where
   -- the factor of an accepted film is accepted
   factor-allowed : (f : Float) → s .clip ≡ Factor f → allowed f ≡ true
   factor-allowed f c = not-false (allowed f) (subst (λ x. clipBad x ≡ false) c (work .ready .clip))
-
-  -- the footer that the rules give, in each of the three cases
-  foot-shows : FooterShows (s .clip) (pixelsIn w h s 0) (binsOf s) (footOf w h s)
-  unfolding ofBits
-  foot-shows =
-      subst (FooterShows (s .clip) (pixelsIn w h s 0) (binsOf s)) (foot-is w h s)
-      record {
-        off = λ c. sym (footer-off (s .clip) _ _ foot-asks c);
-        unchanged = λ f c q. sym (footer-one (s .clip) _ _ foot-asks f c q);
-        above = λ f on. sym (footer-above (s .clip) _ _ foot-asks f (on .factor) (above-not-one f (on .above)) refl refl);
-      }
 
   -- there is no fourth
   pub clip-cases : ClipCase (s .clip)
@@ -269,20 +266,19 @@ module _ {w h : ℕ} {pic : List ℕ} {s : Settings} {room scratch : ℕ} (work 
 pub footer-shows : (film w h : ℕ) (pic : List ℕ) (s : Settings) (m t n : List ℕ) {r : MapRecord} {foot : Footer}
     → preparedSays (prepareOf film w h pic s m t n .answer) ≡ accepted (r, foot) → FooterShows (s .clip) (pixelsIn w h s 0) (binsOf s) foot
 footer-shows film w h pic s m t n e =
-    subst (FooterShows (s .clip) (pixelsIn w h s 0) (binsOf s)) (prepare-foot film w h pic s m t n e) (foot-shows (prepare-work film w h pic s m t n e))
+    subst (FooterShows (s .clip) (pixelsIn w h s 0) (binsOf s)) (prepare-foot film w h pic s m t n e) (foot-shows (film-asks (prepare-work film w h pic s m t n e .ready)))
 
 -- and so does the one of enhance
 pub footer-shows-enhance : (w h : ℕ) (pic : List ℕ) (s : Settings) (m t : List ℕ) {foot : Footer}
     → enhancedSays (enhanceOf w h pic s m t .answer) ≡ accepted foot → FooterShows (s .clip) (pixelsIn w h s 0) (binsOf s) foot
 footer-shows-enhance w h pic s m t e =
-    subst (FooterShows (s .clip) (pixelsIn w h s 0) (binsOf s)) (enhance-foot w h pic s m t e) (foot-shows (enhance-work w h pic s m t e))
+    subst (FooterShows (s .clip) (pixelsIn w h s 0) (binsOf s)) (enhance-foot w h pic s m t e) (foot-shows (film-asks (enhance-work w h pic s m t e .ready)))
 
 -- ---- the limit
 
--- order 2: the limit of each tile of an accepted film holds the tile, and is no larger than the factor and the tile ask
-pub limit-fits : {w h : ℕ} {pic : List ℕ} {s : Settings} {room scratch : ℕ} → Work w h pic s room scratch
-    → (f : Float) (k : ℕ) → LimitFits f (pixelsIn w h s k) (binsOf s) (limitIn w h s f k)
-limit-fits {w} {h} {pic} {s} work f k =
+-- order 2: the limit of each tile of a film whose sides, grid, range and bins are not refused holds the tile, and is no larger than the factor and the tile ask
+pub tiled-limit-fits : {w h : ℕ} {s : Settings} → Tiled w h s → (f : Float) (k : ℕ) → LimitFits f (pixelsIn w h s k) (binsOf s) (limitIn w h s f k)
+tiled-limit-fits {w} {h} {s} tiled f k =
     record {
       holds = limit-holds f _ (binsOf s) some;
       least = λ less l enough. limit-tight f _ (binsOf s) l some less enough;
@@ -290,4 +286,9 @@ limit-fits {w} {h} {pic} {s} work f k =
     }
   where
     some : 0 < binsOf s
-    some = omega (arith, work .ready .tiled .bins)
+    some = omega (arith, tiled .bins)
+
+-- so of an accepted film
+pub limit-fits : {w h : ℕ} {pic : List ℕ} {s : Settings} {room scratch : ℕ} → Work w h pic s room scratch
+    → (f : Float) (k : ℕ) → LimitFits f (pixelsIn w h s k) (binsOf s) (limitIn w h s f k)
+limit-fits work = tiled-limit-fits (work .ready .tiled)

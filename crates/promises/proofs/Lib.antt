@@ -7,6 +7,7 @@ pub mod Demand1
 pub mod Demand2
 pub mod Windows
 pub mod Calls
+pub mod Made
 pub mod Demand3
 pub mod Clipping
 pub mod Files

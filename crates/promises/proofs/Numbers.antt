@@ -2,9 +2,9 @@
 -- Assumes nothing.
 use mathlib.Core.Bool.{true}
 use mathlib.Core.Path.{_≡_, refl}
-use lib.Ieee.{ofBits}
+use lib.Ieee.{ofBits, ofInt, div, eq}
 use Rattle.lists.specs.Lists.{tab, total, same}
-use Rattle.limit.specs.Limit.{flooredOf, limitOf}
+use Rattle.limit.specs.Limit.{flooredOf, limitOf, usedOf}
 use Rattle.clip.specs.Clip.{excess, share, left, walk, starts, clipped}
 use Rattle.clip.specs.Looks.{looksIn, looksFrom, looksOf}
 use Rattle.older.specs.Older.{levelFrom, levelOf, older}
@@ -16,5 +16,5 @@ use Rattle.rule.specs.Reach.{cornerTiles, inUse, usedTiles}
 use Rattle.promises.specs.Worked.{weighedNumbers, greyAt, holds, allHold, worked}
 
 pub worked-numbers : allHold worked ≡ true
-unfolding same weighedNumbers greyAt holds allHold worked ofBits tab total flooredOf limitOf excess share left walk starts clipped looksIn looksFrom looksOf levelFrom levelOf older binOf mappedOf mappingOf edgeOf sizeOf centreOf reachedOf placeOf greyOf cornerTiles inUse usedTiles
+unfolding same weighedNumbers greyAt holds allHold worked ofBits ofInt div eq tab total flooredOf limitOf usedOf excess share left walk starts clipped looksIn looksFrom looksOf levelFrom levelOf older binOf mappedOf mappingOf edgeOf sizeOf centreOf reachedOf placeOf greyOf cornerTiles inUse usedTiles
 worked-numbers = refl

@@ -5,11 +5,11 @@ use mathlib.Core.Bool.{Bool, true, _&&_}
 use mathlib.Core.List.{List, [], _∷_}
 use lib.Dec.{eqb}
 use lib.ListN.{getD}
-use lib.Ieee.{ofBits, binary32}
+use lib.Ieee.{ofBits, eq, binary32, binary64}
 use Rattle.lists.specs.Lists.{same}
 use Rattle.limit.specs.declared.Clip.the-variants.{Off}
 use Rattle.limit.specs.declared.Edition.the-variants.{Ours}
-use Rattle.limit.specs.Limit.{limitOf}
+use Rattle.limit.specs.Limit.{flooredOf, limitOf, usedOf}
 use Rattle.clip.specs.Clip.{clipped}
 use Rattle.clip.specs.Looks.{looksOf}
 use Rattle.older.specs.Older as Older
@@ -25,6 +25,10 @@ use Rattle.rule.specs.Reach.{Weighed, usedTiles}
 pub data Worked : Type 0 where
   -- a factor's f32 bits, N and B: L
   limit : ℕ → ℕ → ℕ → ℕ → Worked
+  -- the same: what the factor alone gives
+  floored : ℕ → ℕ → ℕ → ℕ → Worked
+  -- L, B and N: the factor used, as its f64 bits
+  factor : ℕ → ℕ → ℕ → ℕ → Worked
   -- L and counts: the clipped counts
   clip : ℕ → List ℕ → List ℕ → Worked
   -- the same: how many bins the leftover walk looks at
@@ -74,6 +78,8 @@ greyAt side x y =
 -- a worked number holds of the rules
 unfoldable pub holds : Worked → Bool
 holds (limit f n b l) = eqb (limitOf (ofBits binary32 f) n b) l
+holds (floored f n b l) = eqb (flooredOf (ofBits binary32 f) n b) l
+holds (factor l b n bits) = eq (usedOf l b n) (ofBits binary64 bits)
 holds (clip l cs ds) = same (clipped l cs) ds
 holds (looks l cs n) = eqb (looksOf l cs) n
 holds (level c cs p) = eqb (Older.levelOf c cs) p
@@ -98,6 +104,9 @@ worked =
     limit 0x3fc00000 100 64 2
     ∷ limit 0x3fa00000 100 64 2
     ∷ limit 0x40000000 1 4 1
+    -- the factor 1.25 alone gives 1; the factor used is 128 / 100 in f64
+    ∷ floored 0x3fa00000 100 64 1
+    ∷ factor 2 64 100 0x3ff47ae147ae147b
     -- B 4, L 6, counts 16,0,0,0: result 6,4,3,3; for range 0..15 the mapping is 5,9,12,15.
     ∷ clip 6 (16 ∷ 0 ∷ 0 ∷ 0 ∷ []) (6 ∷ 4 ∷ 3 ∷ 3 ∷ [])
     ∷ mapping 0 15 16 (6 ∷ 4 ∷ 3 ∷ 3 ∷ []) (5 ∷ 9 ∷ 12 ∷ 15 ∷ [])
@@ -109,6 +118,8 @@ worked =
     -- L 4, 16,0,0,0: 4,4,4,4. B 4, N 17: L 5 for the factor 1.125, which gave 4 (order 2).
     ∷ clip 4 (16 ∷ 0 ∷ 0 ∷ 0 ∷ []) (4 ∷ 4 ∷ 4 ∷ 4 ∷ [])
     ∷ limit 0x3f900000 17 4 5
+    ∷ floored 0x3f900000 17 4 4
+    ∷ factor 5 4 17 0x3ff2d2d2d2d2d2d3
     -- Range 0..255: B 128 puts 255 in bin 127; B 100 in bin 99, B 255 in bin 254 (order 3).
     ∷ bin 0 255 128 255 127
     ∷ bin 0 255 100 255 99

@@ -140,7 +140,7 @@ fn shown(row: Row, scratch: Row) -> Shown {
 }
 
 // A row of the scratches of bytes, with that of its film.
-pub fn scratch(row: Row, scratch: Row) {
+pub(crate) fn scratch(row: Row, scratch: Row) {
     line::lines(
         row,
         scratch,

@@ -27,17 +27,17 @@ pub struct Shown {
 }
 
 // The column of the pixel that is looked at.
-pub fn x(scratch: Row) -> u32 {
+pub(crate) fn x(scratch: Row) -> u32 {
     word(scratch, X)
 }
 
 // And its row.
-pub fn y(scratch: Row) -> u32 {
+pub(crate) fn y(scratch: Row) -> u32 {
     word(scratch, Y)
 }
 
 // The film row with the scratch's pixel in the place of its own: what the film rule makes of it differs there alone.
-pub fn poked(film: Row, scratch: Row) -> Row {
+pub(crate) fn poked(film: Row, scratch: Row) -> Row {
     let place = filmset::whole::with(film, column::POKE_AT, at(scratch, POKE_AT));
     filmset::whole::with(place, column::POKE_VALUE, at(scratch, POKE_VALUE))
 }
@@ -60,7 +60,7 @@ fn same(a: Shown, b: Shown) -> u32 {
 }
 
 // All lines of a scratch: the tiles that the pixel's rule uses, both films, and whether they show the same.
-pub fn lines(film: Row, scratch: Row, a: Shown, b: Shown) {
+pub(crate) fn lines(film: Row, scratch: Row, a: Shown, b: Shown) {
     let no = at(scratch, column::NO);
     text::print(place::used(no, film, x(scratch), y(scratch)));
     text::print(shown_line(b'A', no, a));

@@ -38,7 +38,7 @@ fn place(side: u32, tiles: u32, x: u32) -> Place {
 }
 
 // The product of two numbers of 32 bits.
-pub fn times(a: u32, b: u32) -> u64 {
+pub(crate) fn times(a: u32, b: u32) -> u64 {
     a as u64 * b as u64
 }
 
@@ -65,7 +65,7 @@ fn side(t: Text, first: u64, weight: u32, column: Place) -> Text {
 }
 
 // The tiles and their weights: upper left, upper right, lower left, lower right.
-pub fn used(no: u64, film: Row, x: u32, y: u32) -> Text {
+pub(crate) fn used(no: u64, film: Row, x: u32, y: u32) -> Text {
     let across = word(film, column::ACROSS);
     let column = place(word(film, column::WIDTH), across, x);
     let row = place(word(film, column::HEIGHT), word(film, column::DOWN), y);

@@ -24,7 +24,7 @@ fn room() -> [u16; 4096] {
 }
 
 // What an answer of enhance says: 0 where it accepted.
-pub fn number(e: Enhanced) -> u32 {
+pub(crate) fn number(e: Enhanced) -> u32 {
     match e {
         Enhanced::Done(_) => 0,
         Enhanced::Refused(n) => n,
@@ -32,7 +32,7 @@ pub fn number(e: Enhanced) -> u32 {
 }
 
 // The window of a row's pixel alone.
-pub fn window(scratch: Row) -> Window {
+pub(crate) fn window(scratch: Row) -> Window {
     Window {
         left: line::x(scratch),
         top: line::y(scratch),
@@ -42,7 +42,7 @@ pub fn window(scratch: Row) -> Window {
 }
 
 // Where a film's pixel lies in its picture.
-pub fn index(t: Eleven, scratch: Row) -> usize {
+pub(crate) fn index(t: Eleven, scratch: Row) -> usize {
     std::num::wrapping_add_usize(
         place::times(line::y(scratch), t.width) as usize,
         line::x(scratch) as usize,
@@ -117,7 +117,7 @@ fn shown(row: Row, scratch: Row) -> Shown {
 }
 
 // A row of the scratches, with that of its film.
-pub fn scratch(row: Row, scratch: Row) {
+pub(crate) fn scratch(row: Row, scratch: Row) {
     line::lines(
         row,
         scratch,

@@ -21,7 +21,8 @@ use Rattle.promises.proofs.Calls.{DrawnFrom, drawnGrey}
 use Rattle.byte_promises.proofs.Runs.{EnhancesBytes}
 use Rattle.byte_promises.proofs.Calls.{DrawnFromBytes}
 use Rattle.count_promises.proofs.Runs.{MapCall}
-use Rattle.reach_promises.proofs.Rendered.{Film, enhances-film, prepares-film, maps-film, enhancedGrey, DrawnFromCounts, Rendered, by-enhance, by-draw, by-enhance-bytes, by-draw-bytes, by-counts}
+use Rattle.count_promises.proofs.Drawn.{DrawnFromMapping}
+use Rattle.reach_promises.proofs.Rendered.{Film, enhances-film, prepares-film, maps-film, enhancedGrey, Rendered, by-enhance, by-draw, by-enhance-bytes, by-draw-bytes, by-counts}
 use Rattle.reach_promises.proofs.Shown.{Seen, rendered-seen}
 
 -- ---- any two ways
@@ -105,7 +106,7 @@ pub drawn-bytes-local : {p p′ : PrepareCall} {foot foot′ : Footer} {d d′ :
 drawn-bytes-local from from′ i j i′ j′ l k l′ k′ across down two = rendered-local (by-draw-bytes from l k) (rw (← across, ← down) (by-draw-bytes from′ l′ k′)) two
 
 -- and for mapping from counts, then draw
-pub mapped-local : {pic pic′ : List ℕ} {m m′ : MapCall} {foot foot′ : Footer} {d d′ : DrawCall} → DrawnFromCounts pic m foot d → DrawnFromCounts pic′ m′ foot′ d′ → (i j i′ j′ : ℕ)
+pub mapped-local : {pic pic′ : List ℕ} {m m′ : MapCall} {foot foot′ : Footer} {d d′ : DrawCall} → DrawnFromMapping pic m foot d → DrawnFromMapping pic′ m′ foot′ d′ → (i j i′ j′ : ℕ)
     → i < d .window .width → j < d .window .height → i′ < d′ .window .width → j′ < d′ .window .height
     → d′ .window .left + i′ ≡ d .window .left + i → d′ .window .top + j′ ≡ d .window .top + j
     → Two (maps-film pic m) (maps-film pic′ m′) (d .window .left + i) (d .window .top + j) → drawnGrey d i j ≡ drawnGrey d′ i′ j′

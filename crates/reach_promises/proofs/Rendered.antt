@@ -2,22 +2,19 @@
 -- Of every run of the calls by their contracts; a name with ′ is lent memory at the end.
 -- Assumes nothing.
 use Prim.Native.Nat.{ℕ, _+_, _*_, _<_}
-use mathlib.Core.Bool.{false}
 use mathlib.Core.List.{List}
 use mathlib.Core.Path.{_≡_}
-use lib.ListN.{getD, take}
+use lib.ListN.{getD}
 use Rattle.refuse.specs.Refuse.{accepted}
 use Rattle.settings.specs.declared.Settings.{Settings}
 use Rattle.settings.specs.declared.Footer.{Footer}
-use Rattle.settings.specs.Settings.{entriesOf, clipOne}
-use Rattle.prepare.specs.Prepare.{preparedSays, enhancedSays}
-use Rattle.draw.specs.Draw.{drawnSays}
-use Rattle.promises.proofs.Runs.{PrepareCall, EnhanceCall, Enhances, DrawCall, Draws}
+use Rattle.prepare.specs.Prepare.{enhancedSays}
+use Rattle.promises.proofs.Runs.{PrepareCall, EnhanceCall, Enhances, DrawCall}
 use Rattle.promises.proofs.Calls.{DrawnFrom, drawnGrey}
 use Rattle.byte_promises.proofs.Runs.{EnhancesBytes}
 use Rattle.byte_promises.proofs.Calls.{DrawnFromBytes}
-use Rattle.count_promises.proofs.Runs.{MapCall, Maps}
-use Rattle.count_promises.proofs.Turns.{CountedAs}
+use Rattle.count_promises.proofs.Runs.{MapCall}
+use Rattle.count_promises.proofs.Drawn.{DrawnFromMapping}
 
 -- a film: its size, settings and pixels
 pub record Film : Type 0 where
@@ -41,17 +38,6 @@ maps-film pic m = record { width = m .width; height = m .height; settings = m .s
 abbrev pub enhancedGrey : EnhanceCall → ℕ → ℕ → ℕ
 enhancedGrey e i j = getD (e .pixels′) (j * e .width + i) 0
 
--- counting accepted the film of these pixels, mapping accepted its counts with this footer, and draw accepted d, handed the record that mapping answered, the same pixels and,
--- but at the factor 1.0, the mappings that it left, whatever else
-pub record DrawnFromCounts (pic : List ℕ) (m : MapCall) (foot : Footer) (d : DrawCall) : Type 0 where
-  pub counted : CountedAs (m .width) (m .height) pic (m .settings) (m .counts)
-  pub maps : Maps m
-  pub mapped : preparedSays (m .answer) ≡ accepted (d .kept, foot)
-  pub draws : Draws d
-  pub drawn : drawnSays (d .answer) ≡ accepted tt
-  pub pixels : d .pixels ≡ pic
-  pub mappings : clipOne (m .settings .clip) ≡ false → take (entriesOf (m .settings)) (d .map) ≡ take (entriesOf (m .settings)) (m .map′)
-
 -- "the rendered grey" g of the pixel in column x and row y of the film f, by each of the ways; a window's pixel in column i and row j is the film's that lies there
 pub data Rendered : Film → ℕ → ℕ → ℕ → Type 0 where
   by-enhance : {e : EnhanceCall} {foot : Footer} {x y : ℕ} → Enhances e → enhancedSays (e .answer) ≡ accepted foot → x < e .width → y < e .height
@@ -62,5 +48,5 @@ pub data Rendered : Film → ℕ → ℕ → ℕ → Type 0 where
       → Rendered (enhances-film e) x y (enhancedGrey e x y)
   by-draw-bytes : {p : PrepareCall} {foot : Footer} {d : DrawCall} {i j : ℕ} → DrawnFromBytes p foot d → i < d .window .width → j < d .window .height
       → Rendered (prepares-film p) (d .window .left + i) (d .window .top + j) (drawnGrey d i j)
-  by-counts : {pic : List ℕ} {m : MapCall} {foot : Footer} {d : DrawCall} {i j : ℕ} → DrawnFromCounts pic m foot d → i < d .window .width → j < d .window .height
+  by-counts : {pic : List ℕ} {m : MapCall} {foot : Footer} {d : DrawCall} {i j : ℕ} → DrawnFromMapping pic m foot d → i < d .window .width → j < d .window .height
       → Rendered (maps-film pic m) (d .window .left + i) (d .window .top + j) (drawnGrey d i j)

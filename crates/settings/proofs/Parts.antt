@@ -1,14 +1,15 @@
 -- The rows that all calls share, part by part, for calls that ask some of the parts: their numbers, what is free where a table of several is, and what of the settings each reads.
 -- Assumes nothing.
 use Prim.Native.Nat.{ℕ}
+use mathlib.Core.Bool.{false}
 use mathlib.Core.List.{[], _∷_, _++_}
 use mathlib.Core.Path.{_≡_, refl, sym, ap₂, _∙_}
 use lib.Dec.{ltb}
 use Rattle.lists.specs.Lists.{all}
-use Rattle.refuse.specs.Refuse.{first, numbersOf, Numbered}
+use Rattle.refuse.specs.Refuse.{row, first, numbersOf, Numbered}
 use Rattle.refuse.proofs.Walk.{first-both, each-append}
 use Rattle.settings.specs.declared.Settings.{Settings}
-use Rattle.settings.specs.Settings.{binsOf, keptOf, sideRows, lengthRows, sizeRows, gridRows, rangeRows, clipRows, greyRows, roomRows, settingRows}
+use Rattle.settings.specs.Settings.{binsOf, keptOf, clipBad, sideRows, lengthRows, sizeRows, gridRows, rangeRows, clipRows, greyRows, roomRows, settingRows, sharedRows}
 use Rattle.settings.proofs.Ready.{side-numbered, size-numbered, grid-numbered, range-numbered, room-numbers}
 use Rattle.settings.proofs.Like.{range-kept}
 
@@ -93,12 +94,38 @@ range-given s s′ bins min max = rw (bins, min, max) refl
 pub range-alike : (s s′ : Settings) → binsOf s ≡ binsOf s′ → s .min ≡ s′ .min → s .max ≡ s′ .max → rangeRows s ≡ rangeRows s′
 range-alike s s′ bins min max = sym (range-kept s) ∙ range-given (keptOf s) (keptOf s′) bins min max ∙ range-kept s′
 
--- 10: the clip setting
-clip-alike : (s s′ : Settings) → s .clip ≡ s′ .clip → clipRows s ≡ clipRows s′
+-- 10: whether the clip setting is refused; no other row reads it, and none reads the edition
+pub clip-alike : (s s′ : Settings) → clipBad (s .clip) ≡ clipBad (s′ .clip) → clipRows s ≡ clipRows s′
 unfolding clipRows
 clip-alike s s′ clip = rw clip refl
 
 -- 7 to 9, 31 and 10: all of these
-pub grey-alike : (s s′ : Settings) → binsOf s ≡ binsOf s′ → s .min ≡ s′ .min → s .max ≡ s′ .max → s .clip ≡ s′ .clip → greyRows s ≡ greyRows s′
+pub grey-alike : (s s′ : Settings) → binsOf s ≡ binsOf s′ → s .min ≡ s′ .min → s .max ≡ s′ .max → clipBad (s .clip) ≡ clipBad (s′ .clip) → greyRows s ≡ greyRows s′
 unfolding greyRows
 grey-alike s s′ bins min max clip = ap₂ (λ a b. a ++ b) (range-alike s s′ bins min max) (clip-alike s s′ clip)
+
+-- settings that agree in grid, bins, Min and Max, and of whose clip settings both are refused or neither is
+module _ (s s′ : Settings) (across : s .across ≡ s′ .across) (down : s .down ≡ s′ .down) (bins : binsOf s ≡ binsOf s′) (min : s .min ≡ s′ .min) (max : s .max ≡ s′ .max)
+    (clip : clipBad (s .clip) ≡ clipBad (s′ .clip)) where
+  -- 11
+  pub room-alike : (room : ℕ) → roomRows s room ≡ roomRows s′ room
+  unfolding roomRows
+  room-alike room = rw (bins, across, down) refl
+
+  -- so the rows up to 10 are the same
+  pub setting-alike : (w h size : ℕ) → settingRows w h size s ≡ settingRows w h size s′
+  unfolding settingRows
+  setting-alike w h size = ap₂ (λ a b. sizeRows w h size ++ (a ++ b)) (grid-alike w h s s′ across down) (grey-alike s s′ bins min max clip)
+
+  -- and those up to 11
+  pub shared-alike : (w h size room : ℕ) → sharedRows w h size s room ≡ sharedRows w h size s′ room
+  unfolding sharedRows
+  shared-alike w h size room = ap₂ (λ a b. a ++ b) (setting-alike w h size) (room-alike room)
+
+-- ---- a side that is no shorter than its grid
+
+-- leaves 3 and 4 of 3 to 6
+pub grid-long : (w h : ℕ) (s : Settings) → ltb w (s .across) ≡ false → ltb h (s .down) ≡ false
+    → first (gridRows w h s) ≡ first (row 3 (ltb (s .across) 2) ∷ row 3 (ltb 16 (s .across)) ∷ row 4 (ltb (s .down) 2) ∷ row 4 (ltb 16 (s .down)) ∷ [])
+unfolding gridRows first
+grid-long w h s columns rows = rw (columns, rows) refl

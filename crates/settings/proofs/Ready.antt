@@ -90,13 +90,16 @@ bins-high n h = go (eqb n 0)
     go false = h
 
 -- sides of 1 to 4096
-pub sides-some : (w h : ℕ) → first (sideRows w h) ≡ 0 → (0 < w) × (w ≤ 4096) × (0 < h) × (h ≤ 4096)
+pub sides-within : (w h : ℕ) → first (sideRows w h) ≡ 0 → (0 < w) × (w ≤ 4096) × (0 < h) × (h ≤ 4096)
 unfolding sideRows
-sides-some w h e =
+sides-within w h e =
     let n = first-none _ (side-numbered w h) e in (pos w (n .0), ltb-false _ _ (n .1 .0), pos h (n .1 .1 .0), ltb-false _ _ (n .1 .1 .1 .0))
 
+pub sides-some : (w h : ℕ) → first (sideRows w h) ≡ 0 → (0 < w) × (0 < h)
+sides-some w h e = let n = sides-within w h e in (n .0, n .2)
+
 pub sides-most : (w h : ℕ) → first (sideRows w h) ≡ 0 → (w ≤ 4096) × (h ≤ 4096)
-sides-most w h e = let n = sides-some w h e in (n .1, n .3)
+sides-most w h e = let n = sides-within w h e in (n .1, n .3)
 
 -- a range within 0 to 4095, and 2 to 4096 bins, no more than its greys
 pub ranged : (s : Settings) → first (rangeRows s) ≡ 0 → (s .max ≤ 4095) × (s .min < s .max) × (2 ≤ binsOf s) × (binsOf s ≤ 4096) × (binsOf s ≤ s .max - s .min + 1)
@@ -114,7 +117,7 @@ ranged s e =
 pub tiled : (w h : ℕ) (s : Settings) → first (sideRows w h) ≡ 0 → first (gridRows w h s) ≡ 0 → first (rangeRows s) ≡ 0 → Tiled w h s
 unfolding gridRows
 tiled w h s sides grid range =
-    let n = sides-some w h sides in
+    let n = sides-within w h sides in
     let g = first-none _ (grid-numbered w h s) grid in
     let v = ranged s range in
     record {

@@ -36,13 +36,21 @@ same-length : tie.Need-same-length
 same-length c = search needs
 
 returns : tie.Need-returns
-returns c = rw (← c .before .before .before .before .before .before .before .before .before .settings-from .ensures, ← c .before .before .before .before .before .before .before .before .axis-from .ensures, ← c .before .before .before .before .before .before .before .axis-from2 .ensures, ← c .before .before .before .before .before .before .record-from .ensures) (drawn-done _ (c .before .before .before .before .draw-bytes .ensures) (c .enum-told .given .1))
+returns c = (
+  rw (← c .before .before .before .before .before .before .before .before .before .settings-from .ensures, ← c .before .before .before .before .before .before .before .before .axis-from .ensures, ← c .before .before .before .before .before .before .before .axis-from2 .ensures, ← c .before .before .before .before .before .before .record-from .ensures) (drawn-done _ (c .before .before .before .before .draw-bytes .ensures .0) (c .enum-told .given .1)),
+  c .before .before .before .before .draw-bytes .ensures .1,
+  c .before .before .before .before .draw-bytes .ensures .2,
+)
 
 same-length-2 : tie.Need-same-length-2
 same-length-2 c = search needs
 
 returns-2 : tie.Need-returns-2
-returns-2 c = rw (← c .before .before .before .before .before .before .before .before .before .before .settings-from .ensures, ← c .before .before .before .before .before .before .before .before .before .axis-from .ensures, ← c .before .before .before .before .before .before .before .before .axis-from2 .ensures, ← c .before .before .before .before .before .before .before .record-from .ensures) (drawn-refused _ (c .before .before .before .before .before .draw-bytes .ensures) (c .before .answer .given .1))
+returns-2 c = (
+  rw (← c .before .before .before .before .before .before .before .before .before .before .settings-from .ensures, ← c .before .before .before .before .before .before .before .before .before .axis-from .ensures, ← c .before .before .before .before .before .before .before .before .axis-from2 .ensures, ← c .before .before .before .before .before .before .before .record-from .ensures) (drawn-refused _ (c .before .before .before .before .before .draw-bytes .ensures .0) (c .before .answer .given .1)),
+  c .before .before .before .before .before .draw-bytes .ensures .1,
+  c .before .before .before .before .before .draw-bytes .ensures .2,
+)
 
 pub tz-draw-bytes-spec : {M : Type 1} → statement M
 tz-draw-bytes-spec =

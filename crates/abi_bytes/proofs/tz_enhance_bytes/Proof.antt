@@ -35,7 +35,10 @@ same-length-3 : tie.Need-same-length-3
 same-length-3 c = search needs
 
 returns : tie.Need-returns
-returns c = rw (← c .before .before .before .before .before .before .before .before .before .before .before .before .before .before .before .before .before .settings-from .ensures) (enhanced-done _ _ (c .before .before .before .before .before .before .before .before .before .before .before .before .before .enhance-bytes .ensures) (c .before .before .before .before .before .answer .given .1) (c .put-footer .ensures))
+returns c = (
+  rw (← c .before .before .before .before .before .before .before .before .before .before .before .before .before .before .before .before .before .settings-from .ensures) (enhanced-done _ _ (c .before .before .before .before .before .before .before .before .before .before .before .before .before .enhance-bytes .ensures .0) (c .before .before .before .before .before .answer .given .1) (c .put-footer .ensures)),
+  c .before .before .before .before .before .before .before .before .before .before .before .before .before .enhance-bytes .ensures .1,
+)
 
 same-length-4 : tie.Need-same-length-4
 same-length-4 c = search needs
@@ -47,7 +50,10 @@ same-length-6 : tie.Need-same-length-6
 same-length-6 c = search needs
 
 returns-2 : tie.Need-returns-2
-returns-2 c = rw (← c .before .before .before .before .before .before .before .before .before .before .before .before .before .settings-from .ensures) (enhanced-refused _ _ (c .before .before .before .before .before .before .before .before .before .enhance-bytes .ensures) (c .before .answer2 .given .1))
+returns-2 c = (
+  rw (← c .before .before .before .before .before .before .before .before .before .before .before .before .before .settings-from .ensures) (enhanced-refused _ _ (c .before .before .before .before .before .before .before .before .before .enhance-bytes .ensures .0) (c .before .answer2 .given .1)),
+  c .before .before .before .before .before .before .before .before .before .enhance-bytes .ensures .1,
+)
 
 pub tz-enhance-bytes-spec : {M : Type 1} → statement M
 tz-enhance-bytes-spec =

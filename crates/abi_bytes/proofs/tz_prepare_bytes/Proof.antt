@@ -29,7 +29,10 @@ same-length-3 : tie.Need-same-length-3
 same-length-3 c = search needs
 
 returns : tie.Need-returns
-returns c = rw (← c .before .before .before .before .before .before .before .before .before .before .before .before .before .before .before .before .before .before .before .before .settings-from .ensures) (prepared-handed _ _ (c .before .before .before .before .before .before .before .before .before .before .before .before .before .before .before .before .prepare-bytes .ensures) (c .put-prepared .ensures))
+returns c = (
+  rw (← c .before .before .before .before .before .before .before .before .before .before .before .before .before .before .before .before .before .before .before .before .settings-from .ensures) (prepared-handed _ _ (c .before .before .before .before .before .before .before .before .before .before .before .before .before .before .before .before .prepare-bytes .ensures .0) (c .put-prepared .ensures)),
+  c .before .before .before .before .before .before .before .before .before .before .before .before .before .before .before .before .prepare-bytes .ensures .1,
+)
 
 pub tz-prepare-bytes-spec : {M : Type 1} → statement M
 tz-prepare-bytes-spec =

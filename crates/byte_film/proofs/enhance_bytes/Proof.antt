@@ -23,10 +23,13 @@ same-length : tie.Need-same-length
 same-length c = search needs
 
 returns : tie.Need-returns
-returns c = film-refused _ _ _ _ _ _ (c .before .refusal .ensures ∙ rows-enough _ _ _ _ _ _) (c .if1 .taken)
+returns c = (
+  film-refused _ _ _ _ _ _ (c .before .refusal .ensures .0 ∙ rows-enough _ _ _ _ _ _) (c .if1 .taken),
+  c .before .refusal .ensures .1,
+)
 
 foot-requires : tie.Need-foot-requires
-foot-requires c κs = bytes-foot _ _ _ _ _ _ _ (c .before .refusal .ensures) (c .if1 .left)
+foot-requires c κs = bytes-foot _ _ _ _ _ _ _ (c .before .refusal .ensures .0) (c .if1 .left)
 
 clip-one-requires : tie.Need-clip-one-requires
 clip-one-requires c κs = search needs
@@ -35,19 +38,21 @@ same-length-2 : tie.Need-same-length-2
 same-length-2 c = search needs
 
 returns-2 : tie.Need-returns-2
-returns-2 c =
-    film-well _ _ _ _ _ _ (c .before .before .before .before .refusal .ensures ∙ rows-enough _ _ _ _ _ _) (c .before .before .before .if1 .left)
-    (λ e. over-one _ _ _ _ _ _ e (c .before .before .before .if1 .left) (c .before .before .foot .ensures) (c .before .clip-one .ensures) (c .if2 .taken))
+returns-2 c = (
+  film-well _ _ _ _ _ _ (c .before .before .before .before .refusal .ensures .0 ∙ rows-enough _ _ _ _ _ _) (c .before .before .before .if1 .left)
+      (λ e. over-one _ _ _ _ _ _ e (c .before .before .before .if1 .left) (c .before .before .foot .ensures) (c .before .clip-one .ensures) (c .if2 .taken)),
+  c .before .before .before .before .refusal .ensures .1,
+)
 
 slice-aggregate-map-tiles : tie.Need-slice-aggregate-map-tiles
 slice-aggregate-map-tiles c = search needs
 
 map-tiles-requires : tie.Need-map-tiles-requires
-map-tiles-requires c κs = bytes-tiles _ _ _ _ _ _ _ (c .before .before .before .before .before .before .before .before .refusal .ensures) (c .before .before .before .before .before .before .before .if1 .left) (c .before .before .before .before .before .clip-one .ensures) (c .before .before .before .before .if2 .left)
+map-tiles-requires c κs = bytes-tiles _ _ _ _ _ _ _ (c .before .before .before .before .before .before .before .before .refusal .ensures .0) (c .before .before .before .before .before .before .before .if1 .left) (c .before .before .before .before .before .clip-one .ensures) (c .before .before .before .before .if2 .left)
 
 render-from-requires : tie.Need-render-from-requires
 render-from-requires c κs =
-    asks-from (bytes-tiles _ _ _ _ _ _ _ (c .before .before .before .before .before .before .before .before .before .before .before .before .before .before .before .before .refusal .ensures) (c .before .before .before .before .before .before .before .before .before .before .before .before .before .before .before .if1 .left) (c .before .before .before .before .before .before .before .before .before .before .before .before .before .clip-one .ensures) (c .before .before .before .before .before .before .before .before .before .before .before .before .if2 .left) .film) (c .before .before .before .before .before .before .before .map-tiles .ensures)
+    asks-from (bytes-tiles _ _ _ _ _ _ _ (c .before .before .before .before .before .before .before .before .before .before .before .before .before .before .before .before .refusal .ensures .0) (c .before .before .before .before .before .before .before .before .before .before .before .before .before .before .before .if1 .left) (c .before .before .before .before .before .before .before .before .before .before .before .before .before .clip-one .ensures) (c .before .before .before .before .before .before .before .before .before .before .before .before .if2 .left) .film) (c .before .before .before .before .before .before .before .map-tiles .ensures)
 
 same-length-3 : tie.Need-same-length-3
 same-length-3 c = search needs
@@ -59,9 +64,11 @@ same-length-5 : tie.Need-same-length-5
 same-length-5 c = search needs
 
 returns-3 : tie.Need-returns-3
-returns-3 c =
-    film-well _ _ _ _ _ _ (c .before .before .before .before .before .before .before .before .before .before .before .before .before .before .before .before .before .before .before .refusal .ensures ∙ rows-enough _ _ _ _ _ _) (c .before .before .before .before .before .before .before .before .before .before .before .before .before .before .before .before .before .before .if1 .left)
-    (λ e. over-well _ _ _ _ _ _ e (c .before .before .before .before .before .before .before .before .before .before .before .before .before .before .before .before .before .before .if1 .left) (c .before .before .before .before .before .before .before .before .before .before .before .before .before .before .before .before .before .foot .ensures) (c .before .before .before .before .before .before .before .before .before .before .before .before .before .before .before .before .clip-one .ensures) (c .before .before .before .before .before .before .before .before .before .before .before .before .before .before .before .if2 .left) (c .before .before .before .before .before .before .before .before .before .before .map-tiles .ensures) (c .before .before .render-from .ensures))
+returns-3 c = (
+  film-well _ _ _ _ _ _ (c .before .before .before .before .before .before .before .before .before .before .before .before .before .before .before .before .before .before .before .refusal .ensures .0 ∙ rows-enough _ _ _ _ _ _) (c .before .before .before .before .before .before .before .before .before .before .before .before .before .before .before .before .before .before .if1 .left)
+      (λ e. over-well _ _ _ _ _ _ e (c .before .before .before .before .before .before .before .before .before .before .before .before .before .before .before .before .before .before .if1 .left) (c .before .before .before .before .before .before .before .before .before .before .before .before .before .before .before .before .before .foot .ensures) (c .before .before .before .before .before .before .before .before .before .before .before .before .before .before .before .before .clip-one .ensures) (c .before .before .before .before .before .before .before .before .before .before .before .before .before .before .before .if2 .left) (c .before .before .before .before .before .before .before .before .before .before .map-tiles .ensures) (c .before .before .render-from .ensures)),
+  c .before .before .before .before .before .before .before .before .before .before .before .before .before .before .before .before .before .before .before .refusal .ensures .1,
+)
 
 pub enhance-bytes-spec : {M : Type 1} → statement M
 enhance-bytes-spec =

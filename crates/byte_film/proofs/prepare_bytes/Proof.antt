@@ -22,24 +22,29 @@ not-prepared-requires : tie.Need-not-prepared-requires
 not-prepared-requires c κs = search needs
 
 returns : tie.Need-returns
-returns c = bytes-not _ _ _ _ _ _ _ _ (c .before .before .refusal .ensures) (c .before .if1 .taken) (c .not-prepared .ensures)
+returns c = (
+  bytes-not _ _ _ _ _ _ _ _ (c .before .before .refusal .ensures .0) (c .before .if1 .taken) (c .not-prepared .ensures),
+  c .before .before .refusal .ensures .1,
+)
 
 foot-requires : tie.Need-foot-requires
-foot-requires c κs = bytes-foot _ _ _ _ _ _ _ (c .before .refusal .ensures) (c .if1 .left)
+foot-requires c κs = bytes-foot _ _ _ _ _ _ _ (c .before .refusal .ensures .0) (c .if1 .left)
 
 made-for-requires : tie.Need-made-for-requires
-made-for-requires c κs = bytes-record _ _ _ _ _ _ _ (c .before .before .refusal .ensures) (c .before .if1 .left)
+made-for-requires c κs = bytes-record _ _ _ _ _ _ _ (c .before .before .refusal .ensures .0) (c .before .if1 .left)
 
 clip-one-requires : tie.Need-clip-one-requires
 clip-one-requires c κs = search needs
 
 returns-2 : tie.Need-returns-2
-returns-2 c =
-    bytes-well _ _ _ _ _ _ _ _ (c .before .before .before .before .before .refusal .ensures) (c .before .before .before .before .if1 .left)
-    (λ e. ends-one _ _ _ _ _ _ _ _ e (c .before .before .before .before .if1 .left) (c .before .before .before .foot .ensures) (c .before .before .made-for .ensures) (c .before .clip-one .ensures) (c .if2 .taken))
+returns-2 c = (
+  bytes-well _ _ _ _ _ _ _ _ (c .before .before .before .before .before .refusal .ensures .0) (c .before .before .before .before .if1 .left)
+      (λ e. ends-one _ _ _ _ _ _ _ _ e (c .before .before .before .before .if1 .left) (c .before .before .before .foot .ensures) (c .before .before .made-for .ensures) (c .before .clip-one .ensures) (c .if2 .taken)),
+  c .before .before .before .before .before .refusal .ensures .1,
+)
 
 map-tiles-requires : tie.Need-map-tiles-requires
-map-tiles-requires c κs = bytes-tiles _ _ _ _ _ _ _ (c .before .before .before .before .before .before .before .before .refusal .ensures) (c .before .before .before .before .before .before .before .if1 .left) (c .before .before .before .before .clip-one .ensures) (c .before .before .before .if2 .left)
+map-tiles-requires c κs = bytes-tiles _ _ _ _ _ _ _ (c .before .before .before .before .before .before .before .before .refusal .ensures .0) (c .before .before .before .before .before .before .before .if1 .left) (c .before .before .before .before .clip-one .ensures) (c .before .before .before .if2 .left)
 
 same-length : tie.Need-same-length
 same-length c = search needs
@@ -51,9 +56,11 @@ same-length-3 : tie.Need-same-length-3
 same-length-3 c = search needs
 
 returns-3 : tie.Need-returns-3
-returns-3 c =
-    bytes-well _ _ _ _ _ _ _ _ (c .before .before .before .before .before .before .before .before .before .before .before .before .before .before .before .refusal .ensures) (c .before .before .before .before .before .before .before .before .before .before .before .before .before .before .if1 .left)
-    (λ e. ends-well _ _ _ _ _ _ _ _ e (c .before .before .before .before .before .before .before .before .before .before .before .before .before .before .if1 .left) (c .before .before .before .before .before .before .before .before .before .before .before .before .before .foot .ensures) (c .before .before .before .before .before .before .before .before .before .before .before .before .made-for .ensures) (c .before .before .before .before .before .before .before .before .before .before .before .clip-one .ensures) (c .before .before .before .before .before .before .before .before .before .before .if2 .left) (c .before .before .before .before .before .before .map-tiles .ensures))
+returns-3 c = (
+  bytes-well _ _ _ _ _ _ _ _ (c .before .before .before .before .before .before .before .before .before .before .before .before .before .before .before .refusal .ensures .0) (c .before .before .before .before .before .before .before .before .before .before .before .before .before .before .if1 .left)
+      (λ e. ends-well _ _ _ _ _ _ _ _ e (c .before .before .before .before .before .before .before .before .before .before .before .before .before .before .if1 .left) (c .before .before .before .before .before .before .before .before .before .before .before .before .before .foot .ensures) (c .before .before .before .before .before .before .before .before .before .before .before .before .made-for .ensures) (c .before .before .before .before .before .before .before .before .before .before .before .clip-one .ensures) (c .before .before .before .before .before .before .before .before .before .before .if2 .left) (c .before .before .before .before .before .before .map-tiles .ensures)),
+  c .before .before .before .before .before .before .before .before .before .before .before .before .before .before .before .refusal .ensures .1,
+)
 
 pub prepare-bytes-spec : {M : Type 1} → statement M
 prepare-bytes-spec =

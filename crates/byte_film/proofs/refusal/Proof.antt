@@ -7,7 +7,7 @@ use borrow.Author.Needs.{needs}
 use Rattle.tiles.proofs.Tiles.{tiles-most}
 use Rattle.prepare.proofs.Table.{listed-scratch, listed-short, listed-greys}
 use Rattle.profile.proofs.Profile.{byte-ready}
-use Rattle.profile.proofs.Greys.{bytes-within}
+use Rattle.profile.proofs.Greys.{bytes-within, bytes-told}
 use Rattle.byte_film.proofs.Tables.{bytes-shared, bytes-work}
 use Rattle.byte_film.proofs.refusal.Statement.{statement}
 use Rattle.byte_film.proofs.refusal.Tie as tie
@@ -20,7 +20,10 @@ shared-requires : tie.Need-shared-requires
 shared-requires c κs = search needs
 
 returns : tie.Need-returns
-returns c = bytes-shared _ _ _ _ _ _ _ (c .before .shared .ensures) (c .if1 .taken)
+returns c = (
+  bytes-shared _ _ _ _ _ _ _ (c .before .shared .ensures) (c .if1 .taken),
+  bytes-told _ (λ i. omega (arith, c .before .before .shared-slice-known .given i)),
+)
 
 bins-requires : tie.Need-bins-requires
 bins-requires c κs = search needs
@@ -29,7 +32,10 @@ cast-if2 : tie.Need-cast-if2
 cast-if2 c = search needs
 
 returns-2 : tie.Need-returns-2
-returns-2 c = bytes-work _ _ _ _ _ _ _ (c .before .before .before .shared .ensures) (c .before .before .if1 .left) (listed-scratch _ _ _ _ (c .before .bins .ensures) (c .if2 .taken))
+returns-2 c = (
+  bytes-work _ _ _ _ _ _ _ (c .before .before .before .shared .ensures) (c .before .before .if1 .left) (listed-scratch _ _ _ _ (c .before .bins .ensures) (c .if2 .taken)),
+  bytes-told _ (λ i. omega (arith, c .before .before .before .before .shared-slice-known .given i)),
+)
 
 mul-if3 : tie.Need-mul-if3
 mul-if3 c = omega (arith, tiles-most (byte-ready _ _ _ _ _ (sym (c .before .before .before .before .shared .ensures) ∙ c .before .before .before .if1 .left) .ready .tiled))
@@ -41,13 +47,18 @@ mul-if3-2 : tie.Need-mul-if3-2
 mul-if3-2 c = omega (arith, tiles-most (byte-ready _ _ _ _ _ (sym (c .before .before .before .before .shared .ensures) ∙ c .before .before .before .if1 .left) .ready .tiled))
 
 returns-3 : tie.Need-returns-3
-returns-3 c = bytes-work _ _ _ _ _ _ _ (c .before .before .before .before .before .shared .ensures) (c .before .before .before .before .if1 .left) (listed-short _ _ _ _ (c .before .before .before .bins .ensures) (c .before .before .if2 .left) (c .if3 .taken))
+returns-3 c = (
+  bytes-work _ _ _ _ _ _ _ (c .before .before .before .before .before .shared .ensures) (c .before .before .before .before .if1 .left) (listed-short _ _ _ _ (c .before .before .before .bins .ensures) (c .before .before .if2 .left) (c .if3 .taken)),
+  bytes-told _ (λ i. omega (arith, c .before .before .before .before .before .before .shared-slice-known .given i)),
+)
 
 returns-4 : tie.Need-returns-4
-returns-4 c =
-    bytes-work _ _ _ _ _ _ _ (c .before .before .before .before .before .shared .ensures) (c .before .before .before .before .if1 .left)
-    (listed-greys _ _ _ _ (c .before .before .before .bins .ensures) (c .before .before .if2 .left) (c .if3 .left) true
-    (sym (bytes-within _ (byte-ready _ _ _ _ _ (sym (c .before .before .before .before .before .shared .ensures) ∙ c .before .before .before .before .if1 .left) .profile) (λ i l. omega (arith, c .before .before .before .before .before .before .shared-slice-known .given i)))))
+returns-4 c = (
+  bytes-work _ _ _ _ _ _ _ (c .before .before .before .before .before .shared .ensures) (c .before .before .before .before .if1 .left)
+      (listed-greys _ _ _ _ (c .before .before .before .bins .ensures) (c .before .before .if2 .left) (c .if3 .left) true
+      (sym (bytes-within _ (byte-ready _ _ _ _ _ (sym (c .before .before .before .before .before .shared .ensures) ∙ c .before .before .before .before .if1 .left) .profile) (λ i l. omega (arith, c .before .before .before .before .before .before .shared-slice-known .given i))))),
+  bytes-told _ (λ i. omega (arith, c .before .before .before .before .before .before .shared-slice-known .given i)),
+)
 
 pub refusal-spec : {M : Type 1} → statement M
 refusal-spec = tie.close (tie.spec shared-requires returns bins-requires cast-if2 returns-2 mul-if3 cast-if3 mul-if3-2 returns-3 returns-4)
