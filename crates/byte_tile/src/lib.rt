@@ -59,7 +59,7 @@ fn count_rows(
     }
 }
 
-// The counts of a rectangle of bytes, in the first `bins` entries; entries behind keep their contents. Owns the line and three of the four counts, which are added up at the end.
+// The counts of a rectangle of bytes, in the first `bins` entries; entries behind keep their contents. Owns the line and the four counts, which are added up at the end and have room as those of the wide rows.
 pub fn count(
     picture: &[u8],
     stride: usize,
@@ -72,12 +72,12 @@ pub fn count(
     requires { ⌜ CountAsks (now picture) stride rect min max bins (length (now counts)) × (bins ≤ 256) × (rect .width ≤ 4096) ⌝ }
     ensures { λ _. ⌜ now (counts .exit) ≡ onto (now (counts .entry)) (countsOf min max bins (greysOf (now (picture .entry)) stride rect)) ⌝ }
 {
-    lists::clear(counts, bins as usize);
     let factor = binning::bin_factor(min, max, bins);
     let mut line = [0u16; 4096];
-    let mut b = [0u32; 256];
-    let mut c = [0u32; 256];
-    let mut d = [0u32; 256];
+    let mut a = [0u32; 272];
+    let mut b = [0u32; 272];
+    let mut c = [0u32; 272];
+    let mut d = [0u32; 272];
     count_rows(
         picture,
         stride,
@@ -87,12 +87,12 @@ pub fn count(
         bins,
         factor,
         &mut line,
-        counts,
+        &mut a,
         &mut b,
         &mut c,
         &mut d,
     );
-    tally::add_up(counts, &b, &c, &d, bins as usize);
+    tally::add_up(&a, &b, &c, &d, bins as usize, counts);
 }
 
 // A tile's mapping from its bytes: counted, then clipped and mapped into a line of its own, then made bytes. The counts stay in the front of the scratch. The answer is what clipping took.

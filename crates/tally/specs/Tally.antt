@@ -5,7 +5,7 @@ use Prim.Native.Nat.{ℕ, _+_, _-_, _*_, _/_, _≤_, _<_}
 use mathlib.Core.Bool.{true}
 use mathlib.Core.List.{List, map}
 use mathlib.Core.Path.{_≡_}
-use lib.ListN.{length, getD, take, drop}
+use lib.ListN.{length, getD}
 use Rattle.lists.specs.Lists.{tab, joined, times, all, filled}
 use Rattle.scan.specs.Scan.{within}
 use Rattle.binning.specs.Binning.{binOf, factorOf}
@@ -49,10 +49,6 @@ pub record RowAsks (row : List ℕ) (lo hi b factor : ℕ) (counts : List ℕ) :
   pub greys : all (within lo hi) row ≡ true
   pub fits : (k : ℕ) → k < b → getD counts k 0 + length row < 4294967296
 
--- `each` greys of a row, from s on
-abbrev pub part : List ℕ → ℕ → ℕ → List ℕ
-part row each s = take each (drop s row)
-
 -- what stands at k in four counts together
 abbrev pub fourAt : List ℕ → List ℕ → List ℕ → List ℕ → ℕ → ℕ
 fourAt a b c d k = getD a k 0 + getD b k 0 + getD c k 0 + getD d k 0
@@ -69,20 +65,12 @@ pub record FourAsks (row : List ℕ) (lo hi n factor : ℕ) (a b c d : List ℕ)
   pub greys : all (within lo hi) row ≡ true
   pub fits : (k : ℕ) → k < n → fourAt a b c d k + length row < 4294967296
 
--- four parts of a row, each of `each` greys, added to a count each
-pub record FourParts (row : List ℕ) (each lo hi n : ℕ) (a₀ b₀ c₀ d₀ a b c d : List ℕ) : Type 0 where
-  pub first : a ≡ addedOf lo hi n a₀ (part row each 0)
-  pub second : b ≡ addedOf lo hi n b₀ (part row each each)
-  pub third : c ≡ addedOf lo hi n c₀ (part row each (each + each))
-  pub fourth : d ≡ addedOf lo hi n d₀ (part row each (each + each + each))
-
--- greys vs added to four counts: together they grow by them, and the first keeps what lies behind the bins
+-- greys vs added to four counts: together they grow by them
 pub record FourAdded (vs : List ℕ) (lo hi n : ℕ) (a₀ b₀ c₀ d₀ a b c d : List ℕ) : Type 0 where
   pub lengtha : length a ≡ length a₀
   pub lengthb : length b ≡ length b₀
   pub lengthc : length c ≡ length c₀
   pub lengthd : length d ≡ length d₀
-  pub behind : drop n a ≡ drop n a₀
   pub sum : (k : ℕ) → k < n → fourAt a b c d k ≡ fourAt a₀ b₀ c₀ d₀ k + times k (map (binOf lo hi n) vs)
 
 -- what `count` asks: a rectangle inside the picture, "All pixels lie in it", and room for the bins
@@ -106,3 +94,12 @@ pub record RowsAsks (pic : List ℕ) (stride : ℕ) (r : Rect) (lo hi n factor :
   pub roomc : n ≤ length c
   pub roomd : n ≤ length d
   pub fits : (k : ℕ) → k < n → fourAt a b c d k + r .width * r .height < 4294967296
+
+-- what `add_up` asks: room for the bins, and sums that fit an entry
+pub record AddUpAsks (a b c d : List ℕ) (n room : ℕ) : Type 0 where
+  pub rooma : n ≤ length a
+  pub roomb : n ≤ length b
+  pub roomc : n ≤ length c
+  pub roomd : n ≤ length d
+  pub enough : n ≤ room
+  pub fits : (k : ℕ) → k < n → fourAt a b c d k < 4294967296

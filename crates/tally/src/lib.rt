@@ -1,10 +1,11 @@
 // The counts of a rectangle of a picture.
 ghost use mathlib.Core.Path.{_≡_};
 ghost use mathlib.Core.List.{[], _∷_};
-ghost use Prim.Native.Nat.{_+_, _≤_, _<_};
-ghost use lib.ListN.{length};
+ghost use Prim.Native.Nat.{_≤_, _%_};
+ghost use lib.ListN.{length, take};
 ghost use Rattle.lists.specs.Lists.{onto, filled};
-ghost use Rattle.tally.specs.Tally.{greysOf, countsOf, addedOf, fourAt, RowAsks, FourAsks, FourParts, FourAdded, CountAsks, AddAsks, RowsAsks};
+ghost use Rattle.binning.specs.Binning.{factorOf};
+ghost use Rattle.tally.specs.Tally.{greysOf, countsOf, addedOf, fourAt, RowAsks, FourAsks, FourAdded, CountAsks, AddAsks, RowsAsks, AddUpAsks};
 
 // A rectangle of a picture: a tile is one.
 pub struct Rect {
@@ -58,10 +59,10 @@ fn count_plain(
     }
 }
 
-// Adds the first `each` greys of a row to one count, the next to another, and so on: a count that grows need not wait for the pixel before it, which grew another.
+// Adds the first `to` greys of a row to four counts, four neighbours at a time and one to each: a count that grows need not wait for the pixel before it, which grew another.
 fn count_four(
     row: &[u16],
-    each: usize,
+    to: usize,
     min: u32,
     max: u32,
     bins: u32,
@@ -71,26 +72,24 @@ fn count_four(
     c: &mut [u32],
     d: &mut [u32],
 )
-    requires { ⌜ FourAsks (now row) min max bins factor (now a) (now b) (now c) (now d) × (each + each + each + each ≤ length (now row)) ⌝ }
-    ensures { λ _. ⌜ FourParts (now (row .entry)) each min max bins (now (a .entry)) (now (b .entry)) (now (c .entry)) (now (d .entry)) (now (a .exit)) (now (b .exit)) (now (c .exit)) (now (d .exit)) ⌝ }
+    requires { ⌜ FourAsks (now row) min max bins factor (now a) (now b) (now c) (now d) × (to ≤ length (now row)) × (to % 4 ≡ 0) ⌝ }
+    ensures { λ _. ⌜ FourAdded (take to (now (row .entry))) min max bins (now (a .entry)) (now (b .entry)) (now (c .entry)) (now (d .entry)) (now (a .exit)) (now (b .exit)) (now (c .exit)) (now (d .exit)) ⌝ }
 {
-    let q = each + each;
-    let r = q + each;
     let mut x = 0;
-    while x < each {
+    while x < to {
         let s = row[x] as u32;
-        let t = row[each + x] as u32;
-        let u = row[q + x] as u32;
-        let v = row[r + x] as u32;
+        let t = row[x + 1] as u32;
+        let u = row[x + 2] as u32;
+        let v = row[x + 3] as u32;
         count_one(s, min, max, bins, factor, a);
         count_one(t, min, max, bins, factor, b);
         count_one(u, min, max, bins, factor, c);
         count_one(v, min, max, bins, factor, d);
-        x += 1;
+        x += 4;
     }
 }
 
-// Adds the greys of one row to four counts: a quarter of the row to each, and what is left over to the first.
+// Adds the greys of one row to four counts: each fourth grey to each of them, and what is left over to the first.
 pub fn count_quarters(
     row: &[u16],
     min: u32,
@@ -105,9 +104,8 @@ pub fn count_quarters(
     requires { ⌜ FourAsks (now row) min max bins factor (now a) (now b) (now c) (now d) ⌝ }
     ensures { λ _. ⌜ FourAdded (now (row .entry)) min max bins (now (a .entry)) (now (b .entry)) (now (c .entry)) (now (d .entry)) (now (a .exit)) (now (b .exit)) (now (c .exit)) (now (d .exit)) ⌝ }
 {
-    let each = row.len() / 4;
-    let t = each + each + each + each;
-    count_four(row, each, min, max, bins, factor, a, b, c, d);
+    let t = row.len() / 4 * 4;
+    count_four(row, t, min, max, bins, factor, a, b, c, d);
     count_row(&row[t..], min, max, bins, factor, a);
 }
 
@@ -137,19 +135,19 @@ fn count_rows(
     }
 }
 
-// Adds three counts to the first.
-pub fn add_up(a: &mut [u32], b: &[u32], c: &[u32], d: &[u32], bins: usize)
-    requires { ⌜ (bins ≤ length (now a)) × (bins ≤ length (now b)) × (bins ≤ length (now c)) × (bins ≤ length (now d)) × ((k : _) → k < bins → fourAt (now a) (now b) (now c) (now d) k < 4294967296) ⌝ }
-    ensures { λ _. ⌜ now (a .exit) ≡ filled (fourAt (now (a .entry)) (now (b .entry)) (now (c .entry)) (now (d .entry))) (now (a .entry)) bins ⌝ }
+// Lays down the sums of four counts.
+pub fn add_up(a: &[u32], b: &[u32], c: &[u32], d: &[u32], bins: usize, counts: &mut [u32])
+    requires { ⌜ AddUpAsks (now a) (now b) (now c) (now d) bins (length (now counts)) ⌝ }
+    ensures { λ _. ⌜ now (counts .exit) ≡ filled (fourAt (now (a .entry)) (now (b .entry)) (now (c .entry)) (now (d .entry))) (now (counts .entry)) bins ⌝ }
 {
     let mut k = 0;
     while k < bins {
-        a[k] = a[k] + b[k] + c[k] + d[k];
+        counts[k] = a[k] + b[k] + c[k] + d[k];
         k += 1;
     }
 }
 
-// The same as `count_plain`, for at most 256 bins: four counts, which are added up at the end.
+// The counts of a rectangle, for at most 256 bins: four counts, which are added up at the end. Each has 16 entries more than bins, so that a bin's own four never lie a page apart: a processor takes those for the same at first.
 fn count_four_ways(
     picture: &[u16],
     stride: usize,
@@ -160,12 +158,13 @@ fn count_four_ways(
     factor: u32,
     counts: &mut [u32],
 )
-    requires { ⌜ AddAsks (now picture) stride rect min max bins factor (now counts) × (bins ≤ 256) ⌝ }
-    ensures { λ _. ⌜ now (counts .exit) ≡ addedOf min max bins (now (counts .entry)) (greysOf (now (picture .entry)) stride rect) ⌝ }
+    requires { ⌜ CountAsks (now picture) stride rect min max bins (length (now counts)) × (factor ≡ factorOf min max bins) × (bins ≤ 256) ⌝ }
+    ensures { λ _. ⌜ now (counts .exit) ≡ onto (now (counts .entry)) (countsOf min max bins (greysOf (now (picture .entry)) stride rect)) ⌝ }
 {
-    let mut b = [0u32; 256];
-    let mut c = [0u32; 256];
-    let mut d = [0u32; 256];
+    let mut a = [0u32; 272];
+    let mut b = [0u32; 272];
+    let mut c = [0u32; 272];
+    let mut d = [0u32; 272];
     count_rows(
         picture,
         stride,
@@ -174,12 +173,12 @@ fn count_four_ways(
         max,
         bins,
         factor,
-        counts,
+        &mut a,
         &mut b,
         &mut c,
         &mut d,
     );
-    add_up(counts, &b, &c, &d, bins as usize);
+    add_up(&a, &b, &c, &d, bins as usize, counts);
 }
 
 // The same for at most 1024 bins.
@@ -193,12 +192,13 @@ fn count_four_wide(
     factor: u32,
     counts: &mut [u32],
 )
-    requires { ⌜ AddAsks (now picture) stride rect min max bins factor (now counts) × (bins ≤ 1024) ⌝ }
-    ensures { λ _. ⌜ now (counts .exit) ≡ addedOf min max bins (now (counts .entry)) (greysOf (now (picture .entry)) stride rect) ⌝ }
+    requires { ⌜ CountAsks (now picture) stride rect min max bins (length (now counts)) × (factor ≡ factorOf min max bins) × (bins ≤ 1024) ⌝ }
+    ensures { λ _. ⌜ now (counts .exit) ≡ onto (now (counts .entry)) (countsOf min max bins (greysOf (now (picture .entry)) stride rect)) ⌝ }
 {
-    let mut b = [0u32; 1024];
-    let mut c = [0u32; 1024];
-    let mut d = [0u32; 1024];
+    let mut a = [0u32; 1040];
+    let mut b = [0u32; 1040];
+    let mut c = [0u32; 1040];
+    let mut d = [0u32; 1040];
     count_rows(
         picture,
         stride,
@@ -207,15 +207,15 @@ fn count_four_wide(
         max,
         bins,
         factor,
-        counts,
+        &mut a,
         &mut b,
         &mut c,
         &mut d,
     );
-    add_up(counts, &b, &c, &d, bins as usize);
+    add_up(&a, &b, &c, &d, bins as usize, counts);
 }
 
-// The same for any number of bins. The larger the three counts, the longer they take to clear: so there are three sizes.
+// The same for any number of bins. The larger the four counts, the longer they take to clear: so there are three sizes.
 fn count_four_widest(
     picture: &[u16],
     stride: usize,
@@ -226,12 +226,13 @@ fn count_four_widest(
     factor: u32,
     counts: &mut [u32],
 )
-    requires { ⌜ AddAsks (now picture) stride rect min max bins factor (now counts) × (bins ≤ 4096) ⌝ }
-    ensures { λ _. ⌜ now (counts .exit) ≡ addedOf min max bins (now (counts .entry)) (greysOf (now (picture .entry)) stride rect) ⌝ }
+    requires { ⌜ CountAsks (now picture) stride rect min max bins (length (now counts)) × (factor ≡ factorOf min max bins) × (bins ≤ 4096) ⌝ }
+    ensures { λ _. ⌜ now (counts .exit) ≡ onto (now (counts .entry)) (countsOf min max bins (greysOf (now (picture .entry)) stride rect)) ⌝ }
 {
-    let mut b = [0u32; 4096];
-    let mut c = [0u32; 4096];
-    let mut d = [0u32; 4096];
+    let mut a = [0u32; 4112];
+    let mut b = [0u32; 4112];
+    let mut c = [0u32; 4112];
+    let mut d = [0u32; 4112];
     count_rows(
         picture,
         stride,
@@ -240,15 +241,15 @@ fn count_four_widest(
         max,
         bins,
         factor,
-        counts,
+        &mut a,
         &mut b,
         &mut c,
         &mut d,
     );
-    add_up(counts, &b, &c, &d, bins as usize);
+    add_up(&a, &b, &c, &d, bins as usize, counts);
 }
 
-// The counts of a rectangle of a picture `stride` pixels wide, in the first `bins` entries; entries behind keep their contents.
+// The counts of a rectangle of a picture `stride` pixels wide, in the first `bins` entries; entries behind keep their contents. Where a bin has fewer than four pixels, four counts cost more to clear and to add up than they gain.
 pub fn count(
     picture: &[u16],
     stride: usize,
@@ -261,13 +262,13 @@ pub fn count(
     requires { ⌜ CountAsks (now picture) stride rect min max bins (length (now counts)) ⌝ }
     ensures { λ _. ⌜ now (counts .exit) ≡ onto (now (counts .entry)) (countsOf min max bins (greysOf (now (picture .entry)) stride rect)) ⌝ }
 {
-    lists::clear(counts, bins as usize);
     let factor = binning::bin_factor(min, max, bins);
     if bins <= 256 {
         count_four_ways(picture, stride, rect, min, max, bins, factor, counts);
         return;
     }
-    if rect.width * rect.height < (bins as usize) {
+    if rect.width * rect.height / 4 < (bins as usize) {
+        lists::clear(counts, bins as usize);
         count_plain(picture, stride, rect, min, max, bins, factor, counts);
         return;
     }

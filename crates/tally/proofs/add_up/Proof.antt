@@ -1,13 +1,12 @@
--- `tally::add_up` meets its contract: the entries passed are added up, those ahead are as they were.
+-- `tally::add_up` meets its contract: the entries passed are the sums.
 -- Assumes nothing.
 use Prim.Native.Nat.{_≤_, _-_}
-use mathlib.Core.Path.{_≡_, refl, ap, _∙_}
-use lib.ListN.{length, length-set, getD}
+use mathlib.Core.Path.{_≡_, refl}
+use lib.ListN.{length, length-set}
 use native.Mathlib.Omega.{arith}
 use borrow.Author.Needs.{needs}
 use Rattle.lists.specs.Lists.{filled}
 use Rattle.lists.proofs.Fills.{filled-none, filled-step, filled-end}
-use Rattle.lists.proofs.Windows.{getD-behind}
 use Rattle.tally.specs.Tally.{fourAt}
 use Rattle.tally.proofs.add_up.Statement.{statement}
 use Rattle.tally.proofs.add_up.Tie as tie
@@ -15,56 +14,52 @@ use Rattle.tally.proofs.add_up.Reads as reads
 use Rattle.tally.proofs.add_up.Lts as lts
 
 abbrev Inv-loop : tie.InvT-loop
-Inv-loop a₀ b c d bins k₀ a k = (k ≤ bins) × (length a ≡ length a₀) × (a ≡ filled (fourAt a₀ b c d) a₀ k)
+Inv-loop a b c d bins counts₀ k₀ counts k = (k ≤ bins) × (length counts ≡ length counts₀) × (counts ≡ filled (fourAt a b c d) counts₀ k)
 
 abbrev μ-loop : tie.MeasureT-loop
-μ-loop a₀ b c d bins k₀ a k = bins - k
+μ-loop a b c d bins counts₀ k₀ counts k = bins - k
 
 loop-holds : tie.Need-loop-holds Inv-loop μ-loop
 loop-holds c = (search needs, refl, filled-none _ _)
 
--- an entry ahead is as it was
-behind : (c : tie.In-loop Inv-loop μ-loop) → getD (c .before .loop .a) (c .before .loop .k) 0 ≡ getD (c .before .before .args .a .now) (c .before .loop .k) 0
-behind c = ap (λ t. getD t (c .before .loop .k) 0) (c .before .loop .inv .2) ∙ getD-behind _ _ _ _ (omega arith)
+mul-counts : tie.Need-mul-counts Inv-loop μ-loop
+mul-counts c = search needs
 
-mul-a : tie.Need-mul-a Inv-loop μ-loop
-mul-a c = search needs
+shared-slice-read-counts : tie.Need-shared-slice-read-counts Inv-loop μ-loop
+shared-slice-read-counts c = search needs
 
-slice-read-a : tie.Need-slice-read-a Inv-loop μ-loop
-slice-read-a c = search needs
+mul-counts-2 : tie.Need-mul-counts-2 Inv-loop μ-loop
+mul-counts-2 c = search needs
 
-mul-a-2 : tie.Need-mul-a-2 Inv-loop μ-loop
-mul-a-2 c = search needs
+shared-slice-read-counts-2 : tie.Need-shared-slice-read-counts-2 Inv-loop μ-loop
+shared-slice-read-counts-2 c = search needs
 
-shared-slice-read-a : tie.Need-shared-slice-read-a Inv-loop μ-loop
-shared-slice-read-a c = search needs
+add-counts : tie.Need-add-counts Inv-loop μ-loop
+add-counts c = omega (arith, c .before .before .before .before .pre .fits (c .before .before .before .loop .k) (omega arith))
 
-add-a : tie.Need-add-a Inv-loop μ-loop
-add-a c = omega (arith, behind (c .before .before), c .before .before .before .before .pre .4 (c .before .before .before .loop .k) (omega arith))
+mul-counts-3 : tie.Need-mul-counts-3 Inv-loop μ-loop
+mul-counts-3 c = search needs
 
-mul-a-3 : tie.Need-mul-a-3 Inv-loop μ-loop
-mul-a-3 c = search needs
+shared-slice-read-counts-3 : tie.Need-shared-slice-read-counts-3 Inv-loop μ-loop
+shared-slice-read-counts-3 c = search needs
 
-shared-slice-read-a-2 : tie.Need-shared-slice-read-a-2 Inv-loop μ-loop
-shared-slice-read-a-2 c = search needs
+add-counts-2 : tie.Need-add-counts-2 Inv-loop μ-loop
+add-counts-2 c = omega (arith, c .before .before .before .before .before .pre .fits (c .before .before .before .before .loop .k) (omega arith))
 
-add-a-2 : tie.Need-add-a-2 Inv-loop μ-loop
-add-a-2 c = omega (arith, behind (c .before .before .before), c .before .before .before .before .before .pre .4 (c .before .before .before .before .loop .k) (omega arith))
+mul-counts-4 : tie.Need-mul-counts-4 Inv-loop μ-loop
+mul-counts-4 c = search needs
 
-mul-a-4 : tie.Need-mul-a-4 Inv-loop μ-loop
-mul-a-4 c = search needs
+shared-slice-read-counts-4 : tie.Need-shared-slice-read-counts-4 Inv-loop μ-loop
+shared-slice-read-counts-4 c = search needs
 
-shared-slice-read-a-3 : tie.Need-shared-slice-read-a-3 Inv-loop μ-loop
-shared-slice-read-a-3 c = search needs
+add-counts-3 : tie.Need-add-counts-3 Inv-loop μ-loop
+add-counts-3 c = omega (arith, c .before .before .before .before .before .before .pre .fits (c .before .before .before .before .before .loop .k) (omega arith))
 
-add-a-3 : tie.Need-add-a-3 Inv-loop μ-loop
-add-a-3 c = omega (arith, behind (c .before .before .before .before), c .before .before .before .before .before .before .pre .4 (c .before .before .before .before .before .loop .k) (omega arith))
+mul-counts-5 : tie.Need-mul-counts-5 Inv-loop μ-loop
+mul-counts-5 c = search needs
 
-mul-a-5 : tie.Need-mul-a-5 Inv-loop μ-loop
-mul-a-5 c = search needs
-
-slice-write-a : tie.Need-slice-write-a Inv-loop μ-loop
-slice-write-a c = search needs
+slice-write-counts : tie.Need-slice-write-counts Inv-loop μ-loop
+slice-write-counts c = search needs
 
 add-k : tie.Need-add-k Inv-loop μ-loop
 add-k c = search needs
@@ -73,7 +68,7 @@ loop-less : tie.Need-loop-less Inv-loop μ-loop
 loop-less c = search needs
 
 loop-again : tie.Need-loop-again Inv-loop μ-loop
-loop-again c = (search needs, rw length-set (search needs), filled-step _ _ (c .before .before .before .before .before .loop .inv .2) (omega arith) (omega (arith, behind (c .before .before .before .before))))
+loop-again c = (search needs, rw length-set (search needs), filled-step _ _ (c .before .before .before .before .before .loop .inv .2) (omega arith) refl)
 
 same-length : tie.Need-same-length Inv-loop μ-loop
 same-length c = search needs
@@ -88,19 +83,19 @@ add-up-spec =
     Inv-loop
     μ-loop
     loop-holds
-    mul-a
-    slice-read-a
-    mul-a-2
-    shared-slice-read-a
-    add-a
-    mul-a-3
-    shared-slice-read-a-2
-    add-a-2
-    mul-a-4
-    shared-slice-read-a-3
-    add-a-3
-    mul-a-5
-    slice-write-a
+    mul-counts
+    shared-slice-read-counts
+    mul-counts-2
+    shared-slice-read-counts-2
+    add-counts
+    mul-counts-3
+    shared-slice-read-counts-3
+    add-counts-2
+    mul-counts-4
+    shared-slice-read-counts-4
+    add-counts-3
+    mul-counts-5
+    slice-write-counts
     add-k
     loop-less
     loop-again

@@ -1,4 +1,4 @@
--- `tally::count` meets its contract: greys added to cleared counts are the counts.
+-- `tally::count` meets its contract: by four counts, or by greys added to cleared ones.
 -- Assumes nothing.
 use native.Mathlib.Omega.{arith}
 use borrow.Author.Needs.{needs}
@@ -14,61 +14,61 @@ use Rattle.tally.proofs.count_four_wide.Reads as count-four-wide-reads
 use Rattle.tally.proofs.count_four_widest.Reads as count-four-widest-reads
 use Rattle.tally.proofs.count_plain.Reads as count-plain-reads
 
-clear-requires : tie.Need-clear-requires
-clear-requires c κs = search needs
-
 bin-factor-requires : tie.Need-bin-factor-requires
 bin-factor-requires c κs = search needs
 
 count-four-ways-requires : tie.Need-count-four-ways-requires
-count-four-ways-requires c κs = (clear-asks _ (c .before .before .before .before .before .before .before .before .before .pre) (c .before .before .bin-factor .ensures) (c .before .before .before .before .before .clear .ensures), omega arith)
+count-four-ways-requires c κs = (c .before .before .before .before .before .pre, c .before .before .bin-factor .ensures, omega arith)
 
 same-length : tie.Need-same-length
 same-length c = search needs
 
 returns : tie.Need-returns
-returns c = clear-counts _ _ _ _ _ (c .before .before .before .before .before .before .before .before .clear .ensures) (c .before .before .count-four-ways .ensures)
+returns c = c .before .before .count-four-ways .ensures
 
 mul-if2 : tie.Need-mul-if2
 mul-if2 c = search needs
 
+clear-requires : tie.Need-clear-requires
+clear-requires c κs = search needs
+
 count-plain-requires : tie.Need-count-plain-requires
-count-plain-requires c κs = clear-asks _ (c .before .before .before .before .before .before .before .before .before .before .before .pre) (c .before .before .before .before .bin-factor .ensures) (c .before .before .before .before .before .before .before .clear .ensures)
+count-plain-requires c κs = clear-asks _ (c .before .before .before .before .before .before .before .before .before .before .before .pre) (c .before .before .before .before .before .before .before .before .bin-factor .ensures) (c .before .before .before .clear .ensures)
 
 same-length-2 : tie.Need-same-length-2
 same-length-2 c = search needs
 
 returns-2 : tie.Need-returns-2
-returns-2 c = clear-counts _ _ _ _ _ (c .before .before .before .before .before .before .before .before .before .before .clear .ensures) (c .before .before .count-plain .ensures)
+returns-2 c = clear-counts _ _ _ _ _ (c .before .before .before .before .before .before .clear .ensures) (c .before .before .count-plain .ensures)
 
 count-four-wide-requires : tie.Need-count-four-wide-requires
-count-four-wide-requires c κs = (clear-asks _ (c .before .before .before .before .before .before .before .before .before .before .before .before .pre) (c .before .before .before .before .before .bin-factor .ensures) (c .before .before .before .before .before .before .before .before .clear .ensures), omega arith)
+count-four-wide-requires c κs = (c .before .before .before .before .before .before .before .before .pre, c .before .before .before .before .before .bin-factor .ensures, omega arith)
 
 same-length-3 : tie.Need-same-length-3
 same-length-3 c = search needs
 
 returns-3 : tie.Need-returns-3
-returns-3 c = clear-counts _ _ _ _ _ (c .before .before .before .before .before .before .before .before .before .before .before .clear .ensures) (c .before .before .count-four-wide .ensures)
+returns-3 c = c .before .before .count-four-wide .ensures
 
 count-four-widest-requires : tie.Need-count-four-widest-requires
-count-four-widest-requires c κs = (clear-asks _ (c .before .before .before .before .before .before .before .before .before .before .before .before .pre) (c .before .before .before .before .before .bin-factor .ensures) (c .before .before .before .before .before .before .before .before .clear .ensures), c .before .before .before .before .before .before .before .before .before .before .before .before .pre .scale .few)
+count-four-widest-requires c κs = (c .before .before .before .before .before .before .before .before .pre, c .before .before .before .before .before .bin-factor .ensures, c .before .before .before .before .before .before .before .before .pre .scale .few)
 
 same-length-4 : tie.Need-same-length-4
 same-length-4 c = search needs
 
 returns-4 : tie.Need-returns-4
-returns-4 c = clear-counts _ _ _ _ _ (c .before .before .before .before .before .before .before .before .before .before .before .clear .ensures) (c .before .before .count-four-widest .ensures)
+returns-4 c = c .before .before .count-four-widest .ensures
 
 pub count-spec : {M : Type 1} → statement M
 count-spec =
     tie.close
     (tie.spec
-    clear-requires
     bin-factor-requires
     count-four-ways-requires
     same-length
     returns
     mul-if2
+    clear-requires
     count-plain-requires
     same-length-2
     returns-2

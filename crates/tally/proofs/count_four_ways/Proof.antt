@@ -1,5 +1,6 @@
 -- `tally::count_four_ways` meets its contract: four counts added up are the counts.
 -- Assumes nothing.
+use native.Mathlib.Omega.{arith}
 use borrow.Author.Needs.{needs}
 use Rattle.tally.proofs.Fours.{ways-asks, ways-fit, ways-end}
 use Rattle.tally.proofs.count_four_ways.Statement.{statement}
@@ -18,8 +19,11 @@ slice-aggregate-count-rows-2 c = search needs
 slice-aggregate-count-rows-3 : tie.Need-slice-aggregate-count-rows-3
 slice-aggregate-count-rows-3 c = search needs
 
+slice-aggregate-count-rows-4 : tie.Need-slice-aggregate-count-rows-4
+slice-aggregate-count-rows-4 c = search needs
+
 count-rows-requires : tie.Need-count-rows-requires
-count-rows-requires c κs = ways-asks (c .before .before .before .before .before .before .pre .0) (c .before .before .before .before .before .before .pre .1)
+count-rows-requires c κs = ways-asks {m = 272} (c .before .before .before .before .before .before .pre .0) (c .before .before .before .before .before .before .pre .1) (omega (arith, c .before .before .before .before .before .before .pre .2))
 
 slice-aggregate-add-up : tie.Need-slice-aggregate-add-up
 slice-aggregate-add-up c = search needs
@@ -30,14 +34,17 @@ slice-aggregate-add-up-2 c = search needs
 slice-aggregate-add-up-3 : tie.Need-slice-aggregate-add-up-3
 slice-aggregate-add-up-3 c = search needs
 
+slice-aggregate-add-up-4 : tie.Need-slice-aggregate-add-up-4
+slice-aggregate-add-up-4 c = search needs
+
 add-up-requires : tie.Need-add-up-requires
-add-up-requires c κs = ways-fit (c .before .before .before .before .before .before .before .before .before .before .before .before .before .before .before .before .pre .0) (c .before .before .before .before .before .before .before .before .before .before .before .before .before .before .before .before .pre .1) (c .before .before .before .before .before .before .before .before .before .count-rows .ensures)
+add-up-requires c κs = ways-fit {m = 272} (c .before .before .before .before .before .before .before .before .before .before .before .before .before .before .before .before .pre .0) (c .before .before .before .before .before .before .before .before .before .before .before .before .before .before .before .before .pre .1) (omega (arith, c .before .before .before .before .before .before .before .before .before .before .before .before .before .before .before .before .pre .2)) (c .before .before .before .before .before .before .before .before .before .count-rows .ensures)
 
 same-length : tie.Need-same-length
 same-length c = search needs
 
 returns : tie.Need-returns
-returns c = ways-end (c .before .before .before .before .before .before .before .before .before .before .before .before .before .before .before .before .before .before .before .pre .0) (c .before .before .before .before .before .before .before .before .before .before .before .before .before .before .before .before .before .before .before .pre .1) (c .before .before .before .before .before .before .before .before .before .before .before .before .count-rows .ensures) (c .before .before .add-up .ensures)
+returns c = ways-end {m = 272} (c .before .before .before .before .before .before .before .before .before .before .before .before .before .before .before .before .before .before .before .pre .0) (c .before .before .before .before .before .before .before .before .before .before .before .before .before .before .before .before .before .before .before .pre .1) (omega (arith, c .before .before .before .before .before .before .before .before .before .before .before .before .before .before .before .before .before .before .before .pre .2)) (c .before .before .before .before .before .before .before .before .before .before .before .before .count-rows .ensures) _ (c .before .before .add-up .ensures)
 
 pub count-four-ways-spec : {M : Type 1} → statement M
 count-four-ways-spec =
@@ -46,10 +53,12 @@ count-four-ways-spec =
     slice-aggregate-count-rows
     slice-aggregate-count-rows-2
     slice-aggregate-count-rows-3
+    slice-aggregate-count-rows-4
     count-rows-requires
     slice-aggregate-add-up
     slice-aggregate-add-up-2
     slice-aggregate-add-up-3
+    slice-aggregate-add-up-4
     add-up-requires
     same-length
     returns)

@@ -1,6 +1,6 @@
--- `tally::count_quarters` meets its contract: each quarter of the row goes to one of the counts, the rest to the first.
+-- `tally::count_quarters` meets its contract: each fourth grey goes to one of the counts, the rest to the first.
 -- Assumes nothing.
-use Prim.Native.Nat.{_+_, _-_, _/_}
+use Prim.Native.Nat.{_*_, _/_}
 use lib.ListN.{length}
 use native.Mathlib.Omega.{arith}
 use Rattle.tally.proofs.Fours.{rest-asks, quarters}
@@ -12,14 +12,8 @@ use Rattle.tally.proofs.count_quarters.Lts as lts
 use Rattle.tally.proofs.count_four.Reads as count-four-reads
 use Rattle.tally.proofs.count_row.Reads as count-row-reads
 
-add-t : tie.Need-add-t
-add-t c = search needs
-
-add-t-2 : tie.Need-add-t-2
-add-t-2 c = search needs
-
-add-t-3 : tie.Need-add-t-3
-add-t-3 c = search needs
+mul-t : tie.Need-mul-t
+mul-t c = search needs
 
 count-four-requires : tie.Need-count-four-requires
 count-four-requires c κs = search needs
@@ -37,9 +31,7 @@ part-count-row-end : tie.Need-part-count-row-end
 part-count-row-end c = search needs
 
 count-row-requires : tie.Need-count-row-requires
-count-row-requires c κs =
-    let w = length (c .before .before .before .before .before .before .before .before .before .before .before .before .before .before .before .before .before .before .before .before .args .row .now) / 4 in
-    rest-asks (c .before .before .before .before .before .before .before .before .before .before .before .before .before .before .before .before .before .before .before .before .pre) w (omega arith) (c .before .before .before .before .before .before .before .before .before .before .count-four .ensures) (length (c .before .before .before .before .before .before .before .before .before .before .before .before .before .before .before .before .before .before .before .before .args .row .now) - (w + w + w + w))
+count-row-requires c κs = rest-asks (c .before .before .before .before .before .before .before .before .before .before .before .before .before .before .before .before .before .before .before .before .pre) (length (c .before .before .before .before .before .before .before .before .before .before .before .before .before .before .before .before .before .before .before .before .args .row .now) / 4 * 4) (c .before .before .before .before .before .before .before .before .before .before .count-four .ensures) (omega arith)
 
 same-length : tie.Need-same-length
 same-length c = search needs
@@ -54,15 +46,13 @@ same-length-4 : tie.Need-same-length-4
 same-length-4 c = search needs
 
 returns : tie.Need-returns
-returns c = quarters (c .before .before .before .before .before .before .before .before .before .before .before .before .before .before .before .before .before .before .before .before .before .before .before .pre) (length (c .before .before .before .before .before .before .before .before .before .before .before .before .before .before .before .before .before .before .before .before .before .before .before .args .row .now) / 4) (omega arith) (c .before .before .before .before .before .before .before .before .before .before .before .before .before .count-four .ensures) (c .before .before .count-row .ensures)
+returns c = quarters (c .before .before .before .before .before .before .before .before .before .before .before .before .before .before .before .before .before .before .before .before .before .before .before .pre) (length (c .before .before .before .before .before .before .before .before .before .before .before .before .before .before .before .before .before .before .before .before .before .before .before .args .row .now) / 4 * 4) (c .before .before .before .before .before .before .before .before .before .before .before .before .before .count-four .ensures) (omega arith) (c .before .before .count-row .ensures)
 
 pub count-quarters-spec : {M : Type 1} → statement M
 count-quarters-spec =
     tie.close
     (tie.spec
-    add-t
-    add-t-2
-    add-t-3
+    mul-t
     count-four-requires
     mul-count-row
     sub-count-row
