@@ -2,23 +2,23 @@
 -- w and h are the film's width and height, pic its pixels, side the region's, o the target and t the scratch as lent.
 -- Assumes nothing.
 use Prim.Native.Nat.{ℕ, _+_, _*_, _%_, _≤_, _<_}
-use mathlib.Core.Bool.{true, false, not, cond}
+use mathlib.Core.Bool.{true, false, cond}
 use mathlib.Core.List.{List, [], _∷_, _++_, map}
 use mathlib.Core.Path.{_≡_}
 use lib.Dec.{ltb, eqb}
 use lib.ListN.{length, drop, getD}
-use Rattle.lists.specs.Lists.{tab, joined, times, filled, all}
-use Rattle.refuse.specs.Refuse.{Row, row, first, unless}
+use Rattle.lists.specs.Lists.{tab, joined, times, all}
+use Rattle.refuse.specs.Refuse.{Row, row, scratchRow, targetRow, first, unless}
 use Rattle.scan.specs.Scan.{within}
 use Rattle.binning.specs.Binning.{binOf, factorOf}
 use Rattle.tally.specs.Tally.{greysOf, Scale}
 use Rattle.tile.specs.Tile.{tileMapping}
 use Rattle.settings.specs.declared.Settings.{Settings}
 use Rattle.settings.specs.declared.Footer.{Footer}
-use Rattle.settings.specs.Settings.{binsOf, clipBad, clipOne, sizeRows, greyRows}
+use Rattle.settings.specs.Settings.{binsOf, clipBad, clipOne, outsideRow, sizeRows, greyRows}
 use Rattle.tiles.specs.Tiles.{footerOf}
 use Rattle.prepare.specs.declared.Enhanced.the-variants as Enhanced
-use Rattle.prepare.specs.Prepare.{Painted, painting}
+use Rattle.prepare.specs.Prepare.{scratchLeft, Painted, painting}
 use Rattle.slide.specs.Slide.{regionRect}
 
 -- ---- the refusals
@@ -29,8 +29,7 @@ regionRows side = row 39 (eqb (side % 2) 0) ∷ row 39 (ltb side 3) ∷ row 39 (
 
 -- "Scratch is twice the bins (12)"; "17 for the target as in order 12", straight after 12; 13
 unfoldable pub workRows : ℕ → ℕ → List ℕ → Settings → ℕ → ℕ → List Row
-workRows w h pic s scratch target =
-    row 12 (ltb scratch (2 * binsOf s)) ∷ row 17 (not (eqb target (w * h))) ∷ row 13 (not (all (within (s .min) (s .max)) pic)) ∷ []
+workRows w h pic s scratch target = scratchRow scratch (2 * binsOf s) ∷ targetRow w h target ∷ outsideRow pic s ∷ []
 
 -- 39 stands "in the place of 3 to 6", and "11 is never given"
 unfoldable pub aroundRows : ℕ → ℕ → List ℕ → ℕ → Settings → ℕ → ℕ → List Row
@@ -70,7 +69,7 @@ aroundedOf w h pic side s t =
     painting
     (Enhanced.Done (aroundFoot w h side s))
     (cond (clipOne (s .clip)) pic (aroundFilm w h pic side s))
-    (cond (clipOne (s .clip)) t (filled (λ k. 0) t (2 * binsOf s)))
+    (scratchLeft s t (2 * binsOf s))
 
 -- a refusal leaves all memory as it was
 unfoldable pub aroundOf : ℕ → ℕ → List ℕ → ℕ → Settings → List ℕ → List ℕ → Painted

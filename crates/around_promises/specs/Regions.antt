@@ -6,10 +6,9 @@ use mathlib.Core.Bool.{true, cond}
 use mathlib.Core.List.{List, [], _∷_, _++_}
 use mathlib.Core.Logic.{_⊎_}
 use mathlib.Core.Path.{_≡_}
-use lib.Dec.{ltb}
 use lib.Ieee.{Float}
 use lib.ListN.{length, getD}
-use Rattle.refuse.specs.Refuse.{Row, row}
+use Rattle.refuse.specs.Refuse.{Row, row, scratchRow}
 use Rattle.limit.specs.Limit.{limitOf}
 use Rattle.older.specs.Older.{levelOf}
 use Rattle.binning.specs.Binning.{binOf}
@@ -39,7 +38,7 @@ pub record SideFits (side : ℕ) : Type 0 where
 
 -- "17 for the target as in order 12", "after 12": where the target has another length, 1, 2, 39, 7 to 9, 31, 10 and 12, and 17 else
 abbrev pub otherRows : ℕ → ℕ → List ℕ → ℕ → Settings → ℕ → List Row
-otherRows w h pic side s scratch = sizeRows w h (length pic) ++ (regionRows side ++ (greyRows s ++ (row 12 (ltb scratch (2 * binsOf s)) ∷ row 17 true ∷ [])))
+otherRows w h pic side s scratch = sizeRows w h (length pic) ++ (regionRows side ++ (greyRows s ++ (scratchRow scratch (2 * binsOf s) ∷ row 17 true ∷ [])))
 
 -- the settings that around reads: bins 0 as 128, and no grid
 abbrev pub gridless : Settings → Settings

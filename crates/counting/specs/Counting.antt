@@ -3,7 +3,7 @@
 -- Assumes nothing.
 use Prim.Native.Nat.{ℕ, _*_, _≤_, _<_}
 use mathlib.Core.Path.{_≡_}
-use mathlib.Core.Bool.{true, not}
+use mathlib.Core.Bool.{true}
 use mathlib.Core.List.{List, [], _∷_, _++_}
 use lib.Dec.{ltb}
 use lib.ListN.{length, take, drop}
@@ -14,7 +14,7 @@ use Rattle.scan.specs.Scan.{within}
 use Rattle.tally.specs.Tally.{greysOf, countsOf}
 use Rattle.refuse.specs.Refuse.{Row, row, first, unless, Says, accepted, refused}
 use Rattle.settings.specs.declared.Settings.{Settings}
-use Rattle.settings.specs.Settings.{binsOf, entriesOf, sizeRows, gridRows, rangeRows, Tiled}
+use Rattle.settings.specs.Settings.{binsOf, entriesOf, outsideRow, sizeRows, gridRows, rangeRows, Tiled}
 use Rattle.tiles.specs.Tiles.{tileOf}
 use Rattle.counting.specs.declared.Counted.{Counted}
 use Rattle.counting.specs.declared.Counted.the-variants as Counted
@@ -41,7 +41,7 @@ countsRows s size = row 33 (ltb size (entriesOf s)) ∷ []
 
 -- 13: "a pixel outside Min to Max"
 unfoldable pub outsideRows : List ℕ → Settings → List Row
-outsideRows pic s = row 13 (not (all (within (s .min) (s .max)) pic)) ∷ []
+outsideRows pic s = outsideRow pic s ∷ []
 
 -- "1 to 9 with 31 after 9"
 unfoldable pub pictureRows : ℕ → ℕ → ℕ → Settings → List Row

@@ -3,18 +3,18 @@
 -- Assumes nothing.
 use Prim.Native.Nat.{ℕ, _+_, _*_, _≤_, _<_}
 use mathlib.Core.Path.{_≡_}
-use mathlib.Core.Bool.{Bool, true, false, not, cond}
+use mathlib.Core.Bool.{Bool, true, false, not}
 use mathlib.Core.List.{List, [], _∷_, _++_}
-use lib.Dec.{ltb, eqb}
+use lib.Dec.{eqb}
 use lib.ListN.{length}
-use Rattle.lists.specs.Lists.{joined, every, total, onto, filled}
-use Rattle.refuse.specs.Refuse.{Row, row, first, unless}
+use Rattle.lists.specs.Lists.{joined, every, total}
+use Rattle.refuse.specs.Refuse.{Row, row, scratchRow, first, unless}
 use Rattle.clip.specs.declared.Spent.{Spent}
 use Rattle.tile.specs.Tile.{countsMapping, spentBy}
 use Rattle.settings.specs.declared.Settings.{Settings}
-use Rattle.settings.specs.Settings.{binsOf, entriesOf, recordOf, clipBad, clipOne, sideRows, gridRows, greyRows, roomRows, Tiled}
-use Rattle.tiles.specs.Tiles.{pixelsIn, footOf, spentPair, spentEntries, Placed, AllPlaced}
-use Rattle.prepare.specs.Prepare.{preparedWith, preparedNot, Ended, ending}
+use Rattle.settings.specs.Settings.{binsOf, entriesOf, recordOf, clipBad, sideRows, gridRows, greyRows, roomRows, Tiled}
+use Rattle.tiles.specs.Tiles.{pixelsIn, footOf, spentPair, spentEntries, listRow, Placed, AllPlaced}
+use Rattle.prepare.specs.Prepare.{frontLeft, scratchLeft, preparedWith, preparedNot, Ended, ending}
 use Rattle.counting.specs.Counting.{countsIn, countsRows}
 
 -- ---- mappings from counts
@@ -47,7 +47,7 @@ tilingRows w h s = sideRows w h ++ (gridRows w h s ++ greyRows s)
 
 -- 11, 12, 32 and 33: what is lent is too short; 32 "straight after 12"
 unfoldable pub lentRows : Settings → ℕ → ℕ → ℕ → ℕ → List Row
-lentRows s room scratch list size = roomRows s room ++ (row 12 (ltb scratch (binsOf s)) ∷ row 32 (ltb list (spentEntries s)) ∷ countsRows s size)
+lentRows s room scratch list size = roomRows s room ++ (scratchRow scratch (binsOf s) ∷ listRow s list ∷ countsRows s size)
 
 -- 34: "a tile's counts don't add up to its pixels"
 unfoldable pub sumRows : ℕ → ℕ → Settings → List ℕ → List Row
@@ -64,9 +64,9 @@ unfoldable pub mapDoneOf : ℕ → ℕ → ℕ → Settings → List ℕ → Lis
 mapDoneOf film w h s cs m t n =
     record {
       answer = preparedWith (recordOf film w h s) (footOf w h s);
-      map = cond (clipOne (s .clip)) m (onto m (mappingsFrom w h s cs));
-      scratch = cond (clipOne (s .clip)) t (filled (λ k. 0) t (binsOf s));
-      list = cond (clipOne (s .clip)) n (onto n (spentsFrom w h s cs));
+      map = frontLeft s m (mappingsFrom w h s cs);
+      scratch = scratchLeft s t (binsOf s);
+      list = frontLeft s n (spentsFrom w h s cs);
     }
 
 -- a refusal leaves all memory as it was; where none applies, mapping does its work

@@ -2,29 +2,27 @@
 -- w and h are the film's width and height, pic its pixels, o the target and t the scratch as lent.
 -- Assumes nothing.
 use Prim.Native.Nat.{ℕ, _+_, _*_, _≤_, _<_}
-use mathlib.Core.Bool.{true, not, cond}
+use mathlib.Core.Bool.{true}
 use mathlib.Core.List.{List, [], _∷_, _++_}
 use mathlib.Core.Path.{_≡_}
-use lib.Dec.{ltb, eqb}
 use lib.ListN.{length, drop}
-use Rattle.lists.specs.Lists.{tab, joined, filled, all}
-use Rattle.refuse.specs.Refuse.{Row, row, first, unless}
+use Rattle.lists.specs.Lists.{tab, joined, all}
+use Rattle.refuse.specs.Refuse.{Row, scratchRow, targetRow, first, unless}
 use Rattle.scan.specs.Scan.{within}
 use Rattle.tally.specs.Tally.{greysOf, Scale}
 use Rattle.tile.specs.Tile.{mappedOf, tileCounts, tileDivides}
 use Rattle.settings.specs.declared.Settings.{Settings}
-use Rattle.settings.specs.Settings.{binsOf, entriesOf, clipOne, settingRows}
+use Rattle.settings.specs.Settings.{binsOf, entriesOf, outsideRow, settingRows}
 use Rattle.tiles.specs.Tiles.{tileOf, footOf, TilesAsk}
 use Rattle.prepare.specs.declared.Enhanced.the-variants as Enhanced
-use Rattle.prepare.specs.Prepare.{Painted, painting}
+use Rattle.prepare.specs.Prepare.{scratchLeft, Painted, painting}
 use Rattle.rule.specs.Rule.{ruleGrey, shownGrey}
 
 -- ---- the refusals
 
 -- 12, 17 and 13: "17 if the target's length is not width x height, after 12"
 unfoldable pub workRows : ℕ → ℕ → List ℕ → Settings → ℕ → ℕ → List Row
-workRows w h pic s scratch target =
-    row 12 (ltb scratch (binsOf s)) ∷ row 17 (not (eqb target (w * h))) ∷ row 13 (not (all (within (s .min) (s .max)) pic)) ∷ []
+workRows w h pic s scratch target = scratchRow scratch (binsOf s) ∷ targetRow w h target ∷ outsideRow pic s ∷ []
 
 -- "its refusals .. equal too, but for 11, which it never gives, and its own 17"
 unfoldable pub directRows : ℕ → ℕ → List ℕ → Settings → ℕ → ℕ → List Row
@@ -43,7 +41,7 @@ ruleRow w h pic s y = tab w (λ x. ruleGrey w h pic s x y)
 -- "It writes to a separate picture", with "only lent scratch for one tile's counts, left as enhance leaves it"
 unfoldable pub directedOf : ℕ → ℕ → List ℕ → Settings → List ℕ → Painted
 directedOf w h pic s t =
-    painting (Enhanced.Done (footOf w h s)) (shownFilm w h pic s) (cond (clipOne (s .clip)) t (filled (λ k. 0) t (binsOf s)))
+    painting (Enhanced.Done (footOf w h s)) (shownFilm w h pic s) (scratchLeft s t (binsOf s))
 
 -- a refusal leaves all memory as it was
 unfoldable pub directOf : ℕ → ℕ → List ℕ → Settings → List ℕ → List ℕ → Painted

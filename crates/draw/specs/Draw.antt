@@ -13,7 +13,7 @@ use Rattle.tally.specs.Tally.{greysOf}
 use Rattle.settings.specs.declared.Settings.{Settings}
 use Rattle.settings.specs.declared.MapRecord.{MapRecord}
 use Rattle.settings.specs.declared.Window.{Window}
-use Rattle.settings.specs.Settings.{binsOf, entriesOf, clipOne, sharedRows, Ready}
+use Rattle.settings.specs.Settings.{binsOf, entriesOf, clipOne, outsideRow, sharedRows, Ready}
 use Rattle.render.specs.Render.{renderOf, rectOf}
 use Rattle.held.specs.Held.{recordRows, windowRows, Held}
 use Rattle.frame.specs.Frame.{Framed}
@@ -23,7 +23,7 @@ use Rattle.draw.specs.declared.Drawn.the-variants.{Done, Refused}
 -- "then 13 over the window, then 18 (not at factor 1.0)": 18 is "one of the first (grid across) x (grid down) x B map entries outside Min to Max"
 unfoldable pub pixelRows : ℕ → List ℕ → Settings → Window → List ℕ → List Row
 pixelRows w pic s win m =
-    row 13 (not (all (within (s .min) (s .max)) (greysOf pic w (rectOf win))))
+    outsideRow (greysOf pic w (rectOf win)) s
     ∷ row 18 (not (clipOne (s .clip)) && not (all (within (s .min) (s .max)) (take (entriesOf s) m)))
     ∷ []
 

@@ -13,10 +13,14 @@ use Rattle.settings.specs.declared.MapRecord.{MapRecord}
 use Rattle.settings.specs.declared.Window.{Window}
 use Rattle.settings.specs.Settings.{binsOf, sameClip, sameEdition}
 
+-- 15: "size", a row for each side
+abbrev pub sidesRows : (w h width height : ℕ) → List Row
+sidesRows w h width height = row 15 (not (eqb w width)) ∷ row 15 (not (eqb h height)) ∷ []
+
 -- 15: "record differs in film number, size ..", a row for each
 unfoldable pub filmRows : ℕ → ℕ → ℕ → MapRecord → List Row
 filmRows film w h r =
-    row 15 (not (eqb film (r .film))) ∷ row 15 (not (eqb w (r .width))) ∷ row 15 (not (eqb h (r .height))) ∷ []
+    row 15 (not (eqb film (r .film))) ∷ sidesRows w h (r .width) (r .height)
 
 -- 15: ".. or any setting (bins 0 read as 128 on both sides)", a row for each
 unfoldable pub keptRows : Settings → Settings → List Row

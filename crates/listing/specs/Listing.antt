@@ -5,7 +5,7 @@ use mathlib.Core.Bool.{Bool, false, cond}
 use mathlib.Core.List.{List, [], _∷_}
 use lib.Dec.{ltb}
 use lib.ListN.{length, drop}
-use Rattle.refuse.specs.Refuse.{Row, row, first, unless}
+use Rattle.refuse.specs.Refuse.{Row, shortRow, first, unless}
 use Rattle.header.specs.declared.Head.{Head}
 use Rattle.header.specs.declared.Head.the-variants.{Found, Refused}
 use Rattle.header.specs.Header.{headerOf}
@@ -44,7 +44,7 @@ listingOf s =
 
 -- 27, "the caller's target too short": fewer than the 512 bytes that hold every listing
 unfoldable pub textRows : ℕ → List Row
-textRows room = row 27 (ltb room 512) ∷ []
+textRows room = shortRow room 512 ∷ []
 
 -- the text at the front of the output, and its length; a film's refusal is part of its text
 unfoldable pub listOf : List ℕ → List ℕ → Wrote

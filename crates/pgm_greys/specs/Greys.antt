@@ -2,22 +2,21 @@
 -- A file is a list of bytes. w, h and m are width, height and maxval.
 -- Assumes nothing.
 use Prim.Native.Nat.{ℕ, _-_, _*_, _≤_}
-use mathlib.Core.Bool.{true, not}
+use mathlib.Core.Bool.{true}
 use mathlib.Core.List.{List, [], _∷_, _++_}
 use mathlib.Core.Path.{_≡_}
-use lib.Dec.{ltb}
 use lib.ListN.{length, drop}
 use Rattle.lists.specs.Lists.{onto}
-use Rattle.refuse.specs.Refuse.{Row, row, first, unless, Says, accepted, refused}
+use Rattle.refuse.specs.Refuse.{Row, shortRow, first, unless, Says, accepted, refused}
 use Rattle.samples.specs.Samples.{isWide, unpacked, noneAbove}
-use Rattle.raster.specs.Raster.{headRows, rasterRows, RasterAsks}
+use Rattle.raster.specs.Raster.{headRows, aboveRow, rasterRows, RasterAsks}
 use Rattle.pgm_greys.specs.declared.Turned.{Turned}
 use Rattle.pgm_greys.specs.declared.Turned.the-variants as Turned
 
 -- 27 and 26: "the caller's target too short", "a sample above maxval"
 unfoldable pub targetRows : List ℕ → ℕ → ℕ → ℕ → ℕ → ℕ → List Row
 targetRows bytes start w h m room =
-    row 27 (ltb room (w * h)) ∷ row 26 (not (noneAbove m (unpacked (isWide m) (drop start bytes) (w * h)))) ∷ []
+    shortRow room (w * h) ∷ aboveRow m (unpacked (isWide m) (drop start bytes) (w * h)) ∷ []
 
 -- "Turning a raster into greys: 22, 23, 24, 25, 27, 26": the raster is what stands in `bytes` from `start` on, `room` the target's length
 unfoldable pub turnRows : List ℕ → ℕ → ℕ → ℕ → ℕ → ℕ → List Row

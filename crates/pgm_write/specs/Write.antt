@@ -2,16 +2,15 @@
 -- A file is a list of bytes. w, h and m are width, height and maxval.
 -- Assumes nothing.
 use Prim.Native.Nat.{ℕ, _*_, _≤_}
-use mathlib.Core.Bool.{true, not}
+use mathlib.Core.Bool.{true}
 use mathlib.Core.List.{List, [], _∷_, _++_}
 use mathlib.Core.Path.{_≡_}
-use lib.Dec.{ltb, eqb}
 use lib.ListN.{length}
 use Rattle.lists.specs.Lists.{onto}
-use Rattle.refuse.specs.Refuse.{Row, row, first, unless, Says, accepted, refused}
+use Rattle.refuse.specs.Refuse.{Row, lengthRow, shortRow, first, unless, Says, accepted, refused}
 use Rattle.header.specs.Header.{headerBytes}
 use Rattle.samples.specs.Samples.{isWide, packed, noneAbove}
-use Rattle.raster.specs.Raster.{headRows, Within}
+use Rattle.raster.specs.Raster.{headRows, aboveRow, Within}
 use Rattle.pgm_write.specs.declared.Written.{Written}
 use Rattle.pgm_write.specs.declared.Written.the-variants as Written
 
@@ -21,11 +20,11 @@ fileOf pic w h m = headerBytes w h m ++ packed (isWide m) pic
 
 -- 22, 23, 2 and 26: the refusals of a picture that is to be written, whatever its file's form
 unfoldable pub pictureRows : List ℕ → ℕ → ℕ → ℕ → List Row
-pictureRows pic w h m = headRows w h m ++ (row 2 (not (eqb (length pic) (w * h))) ∷ row 26 (not (noneAbove m pic)) ∷ [])
+pictureRows pic w h m = headRows w h m ++ (lengthRow w h (length pic) ∷ aboveRow m pic ∷ [])
 
 -- "Write: 22, 23, 2, 26, 27.", of the file that is to be written
 unfoldable pub writtenRows : List ℕ → ℕ → ℕ → ℕ → List ℕ → ℕ → List Row
-writtenRows pic w h m file room = pictureRows pic w h m ++ (row 27 (ltb room (length file)) ∷ [])
+writtenRows pic w h m file room = pictureRows pic w h m ++ (shortRow room (length file) ∷ [])
 
 -- of the raw one
 abbrev pub writeRows : List ℕ → ℕ → ℕ → ℕ → ℕ → List Row

@@ -5,10 +5,10 @@ use Prim.Native.Nat.{ℕ, _*_, _≤_}
 use mathlib.Core.Bool.{true, not}
 use mathlib.Core.List.{List, [], _∷_, _++_}
 use mathlib.Core.Path.{_≡_}
-use lib.Dec.{ltb, eqb}
+use lib.Dec.{eqb}
 use lib.ListN.{length, drop}
 use Rattle.lists.specs.Lists.{onto}
-use Rattle.refuse.specs.Refuse.{Row, row, first, unless}
+use Rattle.refuse.specs.Refuse.{Row, row, shortRow, first, unless}
 use Rattle.header.specs.declared.Head.{Head}
 use Rattle.header.specs.declared.Head.the-variants as Head
 use Rattle.header.specs.Header.{whiteOf}
@@ -26,7 +26,7 @@ sampleRows (Scan.Refused n) s = row n true ∷ []
 
 -- 22 and 23 "as 01 does, then 27, then 24 or 26 at the first sample", and "then 25"
 unfoldable pub plainRows : List ℕ → ℕ → ℕ → ℕ → ℕ → ℕ → List Row
-plainRows s w h m at room = headRows w h m ++ (row 27 (ltb room (w * h)) ∷ sampleRows (scanOf (w * h) m s at) s)
+plainRows s w h m at room = headRows w h m ++ (shortRow room (w * h) ∷ sampleRows (scanOf (w * h) m s at) s)
 
 -- what the rows tell where none applies: samples that are in order, nothing but white space behind them, and room for their greys
 pub record PlainAsks (s : List ℕ) (w h m at room : ℕ) : Type 0 where

@@ -2,19 +2,17 @@
 -- w and h are the film's width and height, pic its pixels, m the map buffer, t the scratch and n the list as lent.
 -- Assumes nothing.
 use Prim.Native.Nat.{ℕ}
-use mathlib.Core.Bool.{not, cond}
+use mathlib.Core.Bool.{cond}
 use mathlib.Core.List.{List, [], _∷_, _++_}
-use lib.Dec.{ltb}
 use lib.ListN.{length}
-use Rattle.lists.specs.Lists.{onto, filled, all}
-use Rattle.refuse.specs.Refuse.{Row, row, first, unless, Says, accepted, refused}
-use Rattle.scan.specs.Scan.{within}
+use Rattle.lists.specs.Lists.{onto, filled}
+use Rattle.refuse.specs.Refuse.{Row, scratchRow, first, unless, Says, accepted, refused}
 use Rattle.settings.specs.declared.Settings.{Settings}
 use Rattle.settings.specs.declared.MapRecord.{MapRecord}
 use Rattle.settings.specs.declared.Footer.{Footer}
-use Rattle.settings.specs.Settings.{binsOf, recordOf, noRecord, clipOne, sharedRows}
+use Rattle.settings.specs.Settings.{binsOf, recordOf, noRecord, clipOne, outsideRow, sharedRows}
 use Rattle.render.specs.Render.{renderOf, whole}
-use Rattle.tiles.specs.Tiles.{mappings, spents, spentEntries, footOf}
+use Rattle.tiles.specs.Tiles.{mappings, spents, listRow, footOf}
 use Rattle.prepare.specs.declared.Prepared.{Prepared}
 use Rattle.prepare.specs.declared.Made.{Made}
 use Rattle.prepare.specs.declared.Made.the-variants as Made
@@ -23,12 +21,11 @@ use Rattle.prepare.specs.declared.Enhanced.the-variants as Enhanced
 
 -- 12 and 13: "scratch shorter than B", "a pixel outside Min to Max"
 unfoldable pub workRows : List ℕ → Settings → ℕ → List Row
-workRows pic s scratch = row 12 (ltb scratch (binsOf s)) ∷ row 13 (not (all (within (s .min) (s .max)) pic)) ∷ []
+workRows pic s scratch = scratchRow scratch (binsOf s) ∷ outsideRow pic s ∷ []
 
 -- order 7: 32, "this list is shorter than twice the number of tiles, straight after 12"
 unfoldable pub listedRows : List ℕ → Settings → ℕ → ℕ → List Row
-listedRows pic s scratch list =
-    row 12 (ltb scratch (binsOf s)) ∷ row 32 (ltb list (spentEntries s)) ∷ row 13 (not (all (within (s .min) (s .max)) pic)) ∷ []
+listedRows pic s scratch list = scratchRow scratch (binsOf s) ∷ listRow s list ∷ outsideRow pic s ∷ []
 
 -- "Prepare and enhance: 1 to 14 upward", of which order 2 strikes 14; 31 stands behind 9: enhance, which is lent no list
 unfoldable pub enhanceRows : ℕ → ℕ → List ℕ → Settings → ℕ → ℕ → List Row
@@ -37,6 +34,16 @@ enhanceRows w h pic s room scratch = sharedRows w h (length pic) s room ++ workR
 -- and prepare, with 32
 unfoldable pub prepareRows : ℕ → ℕ → List ℕ → Settings → ℕ → ℕ → ℕ → List Row
 prepareRows w h pic s room scratch list = sharedRows w h (length pic) s room ++ listedRows pic s scratch list
+
+-- ---- what a call leaves in lent memory: "Factor 1.0: .. map and scratch stay as they were", and so does order 7's list
+
+-- in the map buffer and in the list: what is laid down at the front
+abbrev pub frontLeft : Settings → List ℕ → List ℕ → List ℕ
+frontLeft s lent made = cond (clipOne (s .clip)) lent (onto lent made)
+
+-- in the scratch: zeros in the first entries that are asked of it
+abbrev pub scratchLeft : Settings → List ℕ → ℕ → List ℕ
+scratchLeft s t asked = cond (clipOne (s .clip)) t (filled (λ k. 0) t asked)
 
 -- ---- the answers
 
@@ -82,9 +89,9 @@ unfoldable pub preparedOf : ℕ → ℕ → ℕ → List ℕ → Settings → Li
 preparedOf film w h pic s m t n =
     record {
       answer = preparedWith (recordOf film w h s) (footOf w h s);
-      map = cond (clipOne (s .clip)) m (onto m (mappings w h pic s));
-      scratch = cond (clipOne (s .clip)) t (filled (λ k. 0) t (binsOf s));
-      list = cond (clipOne (s .clip)) n (onto n (spents w h pic s));
+      map = frontLeft s m (mappings w h pic s);
+      scratch = scratchLeft s t (binsOf s);
+      list = frontLeft s n (spents w h pic s);
     }
 
 -- "The first that applies is given", and all memory stays as it was; where none applies, prepare does its work
@@ -121,8 +128,8 @@ enhancedOf w h pic s m t =
     record {
       answer = Enhanced.Done (footOf w h s);
       picture = cond (clipOne (s .clip)) pic (renderOf w h s (mappings w h pic s) (whole w h) pic);
-      map = cond (clipOne (s .clip)) m (onto m (mappings w h pic s));
-      scratch = cond (clipOne (s .clip)) t (filled (λ k. 0) t (binsOf s));
+      map = frontLeft s m (mappings w h pic s);
+      scratch = scratchLeft s t (binsOf s);
     }
 
 -- the refusals are prepare's but for 32, since enhance is lent no list, and leave the picture and all memory as they were; where none applies, enhance does its work

@@ -2,12 +2,13 @@
 -- A file is a list of bytes. w, h and m are width, height and maxval.
 -- Assumes nothing.
 use Prim.Native.Nat.{ℕ, _+_, _*_, _≤_, _<_}
+use mathlib.Core.Bool.{not}
 use mathlib.Core.List.{List, [], _∷_}
 use mathlib.Core.Path.{_≡_}
 use lib.Dec.{ltb, eqb}
 use lib.ListN.{length}
 use Rattle.refuse.specs.Refuse.{Row, row}
-use Rattle.samples.specs.Samples.{isWide, sizeOf}
+use Rattle.samples.specs.Samples.{isWide, sizeOf, noneAbove}
 
 -- the bytes of a raster: "samples take one byte if maxval is below 256, else two"
 abbrev pub rasterSize : ℕ → ℕ → ℕ → ℕ
@@ -17,6 +18,10 @@ rasterSize w h m = w * h * sizeOf (isWide m)
 unfoldable pub headRows : ℕ → ℕ → ℕ → List Row
 headRows w h m =
     row 22 (eqb w 0) ∷ row 22 (ltb 4096 w) ∷ row 22 (eqb h 0) ∷ row 22 (ltb 4096 h) ∷ row 23 (eqb m 0) ∷ row 23 (ltb 4095 m) ∷ []
+
+-- 26: "a sample above maxval"
+abbrev pub aboveRow : ℕ → List ℕ → Row
+aboveRow m greys = row 26 (not (noneAbove m greys))
 
 -- 24 and 25: "raster too short / bytes behind it", of a raster of `size` bytes
 unfoldable pub rasterRows : ℕ → ℕ → ℕ → ℕ → List Row

@@ -1,10 +1,10 @@
 -- Document 01, the refusal table: "The first that applies is given."
 -- Assumes nothing.
-use Prim.Native.Nat.{ℕ, zero, suc}
-use mathlib.Core.Bool.{Bool, true, false, cond}
+use Prim.Native.Nat.{ℕ, zero, suc, _*_}
+use mathlib.Core.Bool.{Bool, true, false, not, cond}
 use mathlib.Core.List.{List, [], _∷_}
 use mathlib.Core.Path.{_≡_}
-use lib.Dec.{ltb}
+use lib.Dec.{ltb, eqb}
 use Rattle.lists.specs.Lists.{all}
 
 -- a row of a table: a refusal's number, and whether it applies
@@ -15,6 +15,26 @@ pub data Row : Type 0 where
 unfoldable pub first : List Row → ℕ
 first [] = 0
 first (row n b ∷ rows) = cond b n (first rows)
+
+-- ---- rows that several tables have
+
+-- 2: "picture length is not width x height"
+abbrev pub lengthRow : (w h size : ℕ) → Row
+lengthRow w h size = row 2 (not (eqb size (w * h)))
+
+-- 12: "scratch shorter than" what is asked of it
+abbrev pub scratchRow : (scratch asked : ℕ) → Row
+scratchRow scratch asked = row 12 (ltb scratch asked)
+
+-- 17: "if the target's length is not width x height"
+abbrev pub targetRow : (w h target : ℕ) → Row
+targetRow w h target = row 17 (not (eqb target (w * h)))
+
+-- 27: "the caller's target too short"
+abbrev pub shortRow : (room asked : ℕ) → Row
+shortRow room asked = row 27 (ltb room asked)
+
+-- ---- what a table says
 
 -- "A refusal returns its number alone": where a row applies, what its number leaves, and where none does, what the call does
 abbrev pub unless : {A : Type 0} → ℕ → (ℕ → A) → A → A

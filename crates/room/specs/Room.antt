@@ -14,7 +14,7 @@ use Rattle.settings.specs.declared.Footer.{Footer}
 use Rattle.settings.specs.Settings.{binsOf, sameClip, settingRows}
 use Rattle.tiles.specs.Tiles.{footOf}
 use Rattle.prepare.specs.Prepare.{prepareRows, Ended, preparedOf}
-use Rattle.held.specs.Held.{keptRows, editionRows, windowRows}
+use Rattle.held.specs.Held.{sidesRows, keptRows, editionRows, windowRows}
 use Rattle.draw.specs.declared.Drawn.the-variants as Drawn
 use Rattle.draw.specs.Draw.{pixelRows, drawnPixels, Shows, showing}
 use Rattle.sets.specs.declared.Set.{Set}
@@ -81,7 +81,7 @@ storedRows film room = row 38 (not (among film (held room))) ∷ []
 -- 15, of a set: another size, or other settings. Its number is the call's own, and its edges and centres follow from these
 unfoldable pub setRows : ℕ → ℕ → Settings → Set → List Row
 setRows w h s r =
-    row 15 (not (eqb w (r .width))) ∷ row 15 (not (eqb h (r .height))) ∷ (keptRows s (r .settings) ++ editionRows s (r .settings))
+    sidesRows w h (r .width) (r .height) ++ (keptRows s (r .settings) ++ editionRows s (r .settings))
 
 -- what the rows of 15 tell of a set where none applies: it was made for this size and these settings
 pub record SetHeld (w h : ℕ) (s : Settings) (r : Set) : Type 0 where

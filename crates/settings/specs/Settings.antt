@@ -6,13 +6,15 @@ use mathlib.Core.List.{List, [], _∷_, _++_}
 use mathlib.Core.Path.{_≡_}
 use lib.Dec.{leb, ltb, eqb}
 use lib.Ieee.{eq}
+use Rattle.lists.specs.Lists.{all}
 use Rattle.limit.specs.declared.Clip.{Clip}
 use Rattle.limit.specs.declared.Clip.the-variants.{Off, Factor}
 use Rattle.limit.specs.declared.Edition.{Edition}
 use Rattle.limit.specs.declared.Edition.the-variants.{Ours, Of1986}
 use Rattle.limit.specs.Limit.{allowed, isOne}
 use Rattle.grid.specs.Grid.{axisOf, noAxis}
-use Rattle.refuse.specs.Refuse.{Row, row}
+use Rattle.scan.specs.Scan.{within}
+use Rattle.refuse.specs.Refuse.{Row, row, lengthRow}
 use Rattle.settings.specs.declared.Settings.{Settings}
 use Rattle.settings.specs.declared.MapRecord.{MapRecord}
 
@@ -76,7 +78,7 @@ sideRows w h = row 1 (eqb w 0) ∷ row 1 (ltb 4096 w) ∷ row 1 (eqb h 0) ∷ ro
 
 -- 2: "picture length is not width x height"
 unfoldable pub lengthRows : ℕ → ℕ → ℕ → List Row
-lengthRows w h size = row 2 (not (eqb size (w * h))) ∷ []
+lengthRows w h size = lengthRow w h size ∷ []
 
 -- 1 and 2
 unfoldable pub sizeRows : ℕ → ℕ → ℕ → List Row
@@ -114,6 +116,10 @@ greyRows s = rangeRows s ++ clipRows s
 -- 11: "map buffer shorter than (grid across) x (grid down) x B"
 unfoldable pub roomRows : Settings → ℕ → List Row
 roomRows s room = row 11 (ltb room (entriesOf s)) ∷ []
+
+-- 13: "a pixel outside Min to Max", of the greys that a call looks at
+abbrev pub outsideRow : List ℕ → Settings → Row
+outsideRow greys s = row 13 (not (all (within (s .min) (s .max)) greys))
 
 -- the rows 1 to 9, 31 and 10
 unfoldable pub settingRows : ℕ → ℕ → ℕ → Settings → List Row

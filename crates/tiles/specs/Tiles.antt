@@ -7,6 +7,7 @@ use mathlib.Core.Bool.{true, false, cond}
 use mathlib.Core.List.{List, [], _∷_}
 use lib.IntN.{pos}
 use lib.Ieee.{Float, fin}
+use lib.Dec.{ltb}
 use lib.ListN.{length, drop}
 use Rattle.lists.specs.Lists.{joined, onto, over, filled, all}
 use Rattle.limit.specs.declared.Clip.{Clip}
@@ -18,6 +19,7 @@ use Rattle.scan.specs.Scan.{within}
 use Rattle.tally.specs.Tally.{greysOf}
 use Rattle.clip.specs.declared.Spent.{Spent}
 use Rattle.tile.specs.Tile.{tileMapping, tileSpent}
+use Rattle.refuse.specs.Refuse.{Row, row}
 use Rattle.settings.specs.declared.Settings.{Settings}
 use Rattle.settings.specs.declared.Footer.{Footer}
 use Rattle.settings.specs.Settings.{binsOf, clipBad, clipOne, Tiled, Ready}
@@ -69,6 +71,10 @@ spents w h pic s = joined (s .across * s .down) (λ k. spentPair (spentIn w h pi
 -- its entries: "twice the number of tiles"
 abbrev pub spentEntries : Settings → ℕ
 spentEntries s = 2 * (s .across * s .down)
+
+-- 32: "this list is shorter than twice the number of tiles"
+abbrev pub listRow : Settings → ℕ → Row
+listRow s list = row 32 (ltb list (spentEntries s))
 
 -- ---- the footer
 
