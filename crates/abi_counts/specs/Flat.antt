@@ -9,7 +9,7 @@ use Rattle.settings.specs.declared.Settings.{Settings}
 use Rattle.counting.specs.Counting.{Tallied, countedSays}
 use Rattle.flat.specs.Flat.{returned}
 
--- "Counting .. never looks at the clip": the settings of five arguments, with clip off and our edition
+-- counting never looks at the clip: the settings of five arguments, with clip off and our edition
 abbrev pub unclipped : ℕ → ℕ → ℕ → ℕ → ℕ → Settings
 unclipped across down bins min max = record { across = across; down = down; bins = bins; min = min; max = max; clip = Off; edition = Ours }
 

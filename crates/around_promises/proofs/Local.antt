@@ -191,7 +191,7 @@ pub record PartOf (c d : AroundCall) (left top i j : ℕ) : Type 0 where
   pub across : Margin (c .side) (c .width) left (d .width) i
   pub down : Margin (c .side) (c .height) top (d .height) j
 
--- "a part of the film with a margin of half a side shows the same pixels"
+-- a part of the film with a margin of half a side shows the same pixels
 pub around-part : {c d : AroundCall} {foot foot′ : Footer} → Arounds c → enhancedSays (c .answer) ≡ accepted foot → Arounds d → enhancedSays (d .answer) ≡ accepted foot′
     → (left top i j : ℕ) → PartOf c d left top i j → getD (d .target′) (j * d .width + i) 0 ≡ getD (c .target′) ((top + j) * c .width + (left + i)) 0
 around-part {c} {d} ran done ran′ done′ left top i j p =

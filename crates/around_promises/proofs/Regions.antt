@@ -94,7 +94,7 @@ module _ {c : AroundCall} {foot : Footer} (ran : Arounds c) (done : enhancedSays
         shown = around-by-rule ran done (on-not-one on) i j l k ∙ around-grey (c .width) (c .height) (c .pixels) (c .side) (c .settings) i j;
       }
 
-  -- order 2, of every region: "L x B is never below N, and L is the least that can hold the tile where the factor would give less"
+  -- order 2, of every region: L x B is never below N, and L is the least that can hold the region where the factor would give less
   pub regions-limit-fits : LimitFits f (regionPixels (c .width) (c .height) (c .side) i j) (binsOf (c .settings)) (regionLimit (c .width) (c .height) (c .side) (c .settings) f i j)
   regions-limit-fits =
       record {

@@ -14,7 +14,7 @@ use Rattle.held.specs.Held.{recordRows, windowRows}
 use Rattle.draw.specs.Draw.{pixelRows, drawnPixels, Shows, showing, WindowReady}
 use Rattle.profile.specs.Profile.{byteRows, Profile}
 
--- "1 to 10 as they stand, then 30 .., then 11 and on as in the wide call"; 31 stands behind 9
+-- 1 to 10 with 31 after 9, "30 for a setting outside the profile, after 10", then 11 and on as in the wide call
 unfoldable pub byteDrawRows : ℕ → ℕ → ℕ → List ℕ → Settings → MapRecord → Window → List ℕ → ℕ → List Row
 byteDrawRows film w h pic s r win m room =
     byteRows w h (length pic) s (length m) ++ (recordRows film w h s r ++ (windowRows w h win room ++ pixelRows w pic s win m))

@@ -15,7 +15,7 @@ use Rattle.tiles.specs.Tiles.{tileMap, mappings, spentEntries, Work}
 use Rattle.prepare.specs.Prepare.{preparedNot, workRows, listedRows, Ended, ending, preparedOf, Over, overing, enhancedOf}
 use Rattle.profile.specs.Profile.{byteRows, Profile}
 
--- "1 to 10 as they stand, then 30 .., then 11 and on as in the wide call"; 31 stands behind 9
+-- 1 to 10 with 31 after 9, "30 for a setting outside the profile, after 10", then 11 and on as in the wide call
 unfoldable pub byteEnhanceRows : ℕ → ℕ → List ℕ → Settings → ℕ → ℕ → List Row
 byteEnhanceRows w h pic s room scratch = byteRows w h (length pic) s room ++ workRows pic s scratch
 

@@ -26,7 +26,7 @@ use Rattle.byte_promises.proofs.Runs.{PreparesBytes, prepare-bytes-ends
 
 -- ---- what each answer says
 
--- prepare on bytes: the number of the first row that applies, "1 to 10 as they stand, then 30 .., then 11 and on as in the wide call", or the wide call's record and footer
+-- prepare on bytes: the number of the first row that applies, 30 after 10 and the others as in the wide call, or the wide call's record and footer
 pub prepare-bytes-says : {p : PrepareCall} → PreparesBytes p
     → preparedSays (p .answer)
     ≡ says (first (bytePrepareRows (p .width) (p .height) (p .pixels) (p .settings) (length (p .map)) (length (p .scratch)) (length (p .list))))
@@ -116,7 +116,7 @@ draw-bytes-never-13-18 {d} ran =
     let never = draw-never-13-18 (d .film) (d .width) (d .height) (d .pixels) (d .settings) (d .kept) (d .window) (d .map) (length (d .out)) (byte-at (d .pixels) bytes) (byte-at (d .map) entries) in
     ((λ q. never .0 (says-refused _ _ (sym (draw-bytes-says ran) ∙ q))), (λ q. never .1 (says-refused _ _ (sym (draw-bytes-says ran) ∙ q))))
 
--- ---- outside the profile: "refusal 30", where none of 1 to 10 applies; with the laws above, all memory is as it was
+-- ---- outside the profile: refusal 30, where none of 1 to 10 applies; with the laws above, all memory is as it was
 
 pub prepare-bytes-thirty : {p : PrepareCall} → PreparesBytes p → first (profileRows (p .settings)) ≢ 0 → first (settingRows (p .width) (p .height) (length (p .pixels)) (p .settings)) ≡ 0
     → preparedSays (p .answer) ≡ refused 30

@@ -14,7 +14,7 @@ use Rattle.settings.specs.Settings.{binsOf}
 use Rattle.tiles.specs.Tiles.{one}
 use Rattle.promises.specs.Films.{BinUnreached}
 
--- the factor used "may be above the factor asked, but is never below 1.0"
+-- order 2: the factor used may be above the factor asked, but is never below 1.0
 abbrev pub NotBelowOne : Float → Type 0
 NotBelowOne f = le one f ≡ true
 

@@ -90,7 +90,7 @@ module _ {d : MapCall} {r : MapRecord} {foot : Footer} (ran : Maps d) (mapped : 
   pub mapped-bins-reached : BinsReached (d .settings)
   mapped-bins-reached = tiled-reached (known .tiled)
 
-  -- order 2: "L x B is never below N, and L is the least that can hold the tile where the factor would give less", of each tile and its own limit
+  -- order 2: L x B is never below N, and L is the least that can hold the tile where the factor would give less, of each tile and its own limit
   pub mapped-limit-fits : {f : Float} → ClippingOn (d .settings .clip) f → (k : ℕ)
       → LimitFits f (pixelsIn (d .width) (d .height) (d .settings) k) (binsOf (d .settings)) (limitIn (d .width) (d .height) (d .settings) f k)
   mapped-limit-fits {f} on k = tiled-limit-fits (known .tiled) f k

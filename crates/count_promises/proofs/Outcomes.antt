@@ -69,7 +69,7 @@ pub map-says : {d : MapCall} → Maps d
     (recordOf (d .film) (d .width) (d .height) (d .settings), footOf (d .width) (d .height) (d .settings))
 map-says ran = ap (λ (y : Ended). preparedSays (y .answer)) (map-ends ran) ∙ table-says (map-table _ _ _ _ _ _ _ _)
 
--- counting "never looks at the clip": a factor that mapping refuses is counted all the same
+-- counting never looks at the clip: a factor that mapping refuses is counted all the same
 pub count-says-no-10 : {c : CountCall} → Counts c → countedSays (c .answer) ≢ refused 10
 count-says-no-10 {c} ran q = count-never-10 (c .width) (c .height) (c .pixels) (c .settings) (length (c .counts)) (says-refused _ _ (sym (count-says ran) ∙ q))
 

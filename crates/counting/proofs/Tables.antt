@@ -39,7 +39,7 @@ pub count-numbers : (w h : ℕ) (pic : List ℕ) (s : Settings) (size : ℕ) →
 unfolding numbersOf countRows countsRows outsideRows
 count-numbers w h pic s size = numbers-append (pictureRows w h (length pic) s) (countsRows s size ++ outsideRows pic s)
 
--- counting "never looks at the clip": 10 is not among them
+-- counting never looks at the clip: 10 is not among them
 pub count-never-10 : (w h : ℕ) (pic : List ℕ) (s : Settings) (size : ℕ) → first (countRows w h pic s size) ≢ 10
 unfolding all
 count-never-10 w h pic s size =

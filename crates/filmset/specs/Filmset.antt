@@ -120,7 +120,7 @@ elevenOf row =
 unfoldable pub clipOf : Eleven → Clip
 clipOf t = cond (eqb (t .clip) 0) Off (Factor (t .factor))
 
--- "an edition of 0 is ours, any other number that of 1986"
+-- an edition of 0 is ours, any other number that of 1986
 unfoldable pub editionOf : Eleven → Edition
 editionOf t = cond (eqb (t .edition) 0) Ours Of1986
 

@@ -35,7 +35,7 @@ use Rattle.promises.specs.Fitted.{tileWidth, tileHeight, fitRect, fitPixels, fi
 
 -- ---- refusals
 
--- "3 / 4: grid across / down is not 2 to 16", "5 / 6: width / height is no multiple of the grid"
+-- 3 / 4 "grid across / down is not 2 to 16", 5 / 6 "width / height is no multiple of the grid"
 unfoldable pub fitGridRows : ℕ → ℕ → Settings → List Row
 fitGridRows w h s =
     row 3 (ltb (s .across) 2)

@@ -145,7 +145,7 @@ edition-back : (e : Edition) → editionFrom (editionNumber e) ≡ e
 edition-back Ours = refl
 edition-back Of1986 = refl
 
--- "A record is ten numbers and its factor apart.", and its edges and centres: those that tz_prepare hands out are read by tz_draw as the same record
+-- a record is ten numbers, its factor, and its edges and centres: those that tz_prepare hands out are read by tz_draw as the same record
 pub record-back : (r : MapRecord) → recordFrom (recordNumbers r) (clipFactor (r .settings .clip)) (axesAfter r) ≡ r
 record-back r =
     ap₂ (λ c e. record {

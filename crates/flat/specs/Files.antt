@@ -1,5 +1,5 @@
 -- What the tz_ calls on PGM files leave: 0 or the refusal's number, and all lent memory, as the calls beneath them give it.
--- The quoted sentences are document 01's, and those of docs/DECISIONS.md, "The C interface and the command line".
+-- The quoted sentences are document 01's; docs/RULES.md, 8, has the calls.
 -- Assumes nothing.
 use Prim.Native.Nat.{ℕ, _-_}
 use mathlib.Core.List.{List, [], _∷_}
@@ -24,7 +24,7 @@ unfoldable pub flatSizes : Says (ℕ × ℕ × ℕ) → List ℕ → Answer
 flatSizes (accepted v) old = answered 0 (v .0 ∷ v .1 ∷ v .2 ∷ [])
 flatSizes (refused n) old = answered n old
 
--- "`tz_read_raster` hands out where the raster starts and how long it is", in a file of `size` bytes; a refusal leaves what stood there
+-- tz_read_raster hands out where the raster starts and how long it is, in a file of `size` bytes; a refusal leaves what stood there
 unfoldable pub flatRaster : Head → ℕ → List ℕ → Answer
 flatRaster (Head.Found w h m at) size old = answered 0 (at ∷ (size - at) ∷ [])
 flatRaster (Head.Refused n) size old = answered n old

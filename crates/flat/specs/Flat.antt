@@ -1,5 +1,5 @@
 -- Settings, records and answers as the C interface passes them: flat numbers, and arrays where a record goes in or out.
--- The quoted sentences are document 01's, and those of docs/DECISIONS.md, "The C interface and the command line".
+-- The quoted sentences are document 01's; docs/RULES.md, 8, has the calls.
 -- Assumes nothing.
 use Prim.Native.Nat.{ℕ, zero, suc}
 use mathlib.Core.Bool.{false}
@@ -22,7 +22,7 @@ abbrev pub returned : {A : Type 0} → Says A → ℕ
 returned (accepted v) = 0
 returned (refused n) = n
 
--- "A clip of 0 is off, any other number is the factor."
+-- a clip of 0 is off, with any other number the factor counts
 abbrev pub clipFrom : ℕ → Float → Clip
 clipFrom zero f = Off
 clipFrom (suc n) f = Factor f
@@ -52,7 +52,7 @@ abbrev pub settingsFrom : ℕ → ℕ → ℕ → ℕ → ℕ → ℕ → Float 
 settingsFrom across down bins min max clip factor edition =
     record { across = across; down = down; bins = bins; min = min; max = max; clip = clipFrom clip factor; edition = editionFrom edition }
 
--- "A record is ten numbers and its factor apart.": film, width, height, across, down, bins, min, max, clip, edition
+-- a record is ten numbers, and its factor apart: film, width, height, across, down, bins, min, max, clip, edition
 abbrev pub recordNumbers : MapRecord → List ℕ
 recordNumbers r =
     r .film

@@ -195,12 +195,12 @@ pub limit-least : (f : Float) (n b : ℕ) → 1 ≤ limitOf f n b
 unfolding limitOf
 limit-least f n b = omega (arith, floored-least f n b)
 
--- "L x B is never below N": the bins, none above the limit, hold the tile's pixels
+-- L x B is never below N: the bins, none above the limit, hold the tile's pixels
 pub limit-holds : (f : Float) (n b : ℕ) → 0 < b → n ≤ limitOf f n b * b
 unfolding limitOf
 limit-holds f n b p = le-trans (rounded-holds n b p) (mul-le-mul-right b (le-max-right (flooredOf f n b) (roundedUp n b)))
 
--- "L is the least that can hold the tile where the factor would give less"
+-- L is the least that can hold the tile where the factor would give less
 pub limit-tight : (f : Float) (n b l : ℕ) → 0 < b → flooredOf f n b * b < n → n ≤ l * b → limitOf f n b ≤ l
 unfolding limitOf
 limit-tight f n b l p h k = max-le (le-of-mul-le-mul-right (le-trans (le-of-lt h) k) p) (rounded-least n b l p k)

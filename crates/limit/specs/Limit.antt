@@ -62,11 +62,11 @@ flooredOf nan n b = 1
 flooredOf (inf s) n b = 1
 flooredOf (fin s m e) n b = max 1 (m * up e * n / (down e * b))
 
--- "N / B rounded up"
+-- "the tile's pixels over the bins, rounded up"
 abbrev pub roundedUp : ℕ → ℕ → ℕ
 roundedUp n b = (n + (b - 1)) / b
 
--- order 2: "L is the larger of today's L and N / B rounded up"
+-- order 2: "the larger of today's L and the tile's pixels over the bins, rounded up"
 unfoldable pub limitOf : Float → ℕ → ℕ → ℕ
 limitOf f n b = max (flooredOf f n b) (roundedUp n b)
 

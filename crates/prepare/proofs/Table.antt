@@ -88,7 +88,7 @@ module _ (w h : ℕ) (pic : List ℕ) (s : Settings) (room scratch list : ℕ) w
       numbers-append (sharedRows w h (length pic) s room) (listedRows pic s scratch list)
       ∙ ap (λ ns. numbersOf (sharedRows w h (length pic) s room) ++ ns) (listed-numbers pic s scratch list)
 
-  -- "14 is struck": no film is refused for its clip setting
+  -- "Strike 14, with the proof": no film is refused for its clip setting
   pub table-never-14 : first (prepareRows w h pic s room scratch list) ≢ 14
   unfolding all
   table-never-14 = first-never 14 (prepareRows w h pic s room scratch list) refl (rw (table-numbers, shared-numbers w h (length pic) s room) refl)
@@ -164,7 +164,7 @@ module _ (w h : ℕ) (pic : List ℕ) (s : Settings) (room scratch : ℕ) where
   pub over-rows : first (prepareRows w h pic s room scratch 512) ≡ first (enhanceRows w h pic s room scratch)
   over-rows = table-over w h pic s room scratch 512 (λ z. omega (arith, tiles-most (ready w h (length pic) s room z .tiled)))
 
-  -- so "14 is struck" here too
+  -- so 14 is struck here too
   pub over-never-14 : first (enhanceRows w h pic s room scratch) ≢ 14
   over-never-14 q = table-never-14 w h pic s room scratch 512 (over-rows ∙ q)
 

@@ -1,4 +1,4 @@
--- Order 1, "Outside this profile: refusal 30": the table that the byte calls share gives the number of 1 to 9, 31 and 10 where one of them applies, and else 30.
+-- Order 1, "30 for a setting outside the profile, after 10": the table that the byte calls share gives the number of 1 to 9, 31 and 10 where one of them applies, and else 30.
 -- Assumes nothing.
 use Prim.Native.Nat.{ℕ, zero, suc}
 use mathlib.Core.Bool.{Bool, true, false, _||_, cond}

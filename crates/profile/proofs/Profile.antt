@@ -32,7 +32,7 @@ pub profile-numbered : (s : Settings) → Numbered (profileRows s)
 unfolding all
 profile-numbered s = rw (profile-numbers s) refl
 
--- "1 to 10 as they stand, then 30 .., then 11"; 31 stands behind 9
+-- 1 to 10 with 31 after 9, "30 for a setting outside the profile, after 10", then 11
 pub byte-numbers : (w h size : ℕ) (s : Settings) (room : ℕ)
     → numbersOf (byteRows w h size s room)
     ≡ 1 ∷ 1 ∷ 1 ∷ 1 ∷ 2 ∷ 3 ∷ 3 ∷ 4 ∷ 4 ∷ 5 ∷ 6 ∷ 7 ∷ 8 ∷ 9 ∷ 9 ∷ 31 ∷ 10 ∷ 30 ∷ 30 ∷ 30 ∷ 30 ∷ 30 ∷ 30 ∷ 11 ∷ []

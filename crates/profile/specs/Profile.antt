@@ -14,7 +14,7 @@ use Rattle.settings.specs.Settings.{binsOf, sameEdition, settingRows, roomRows,
 abbrev pub binsIn : ℕ → Bool
 binsIn b = eqb b 64 || (eqb b 128 || eqb b 256)
 
--- 30: "Min 0, Max 255, grid 8 by 8 only, bins 64, 128 (or 0) or 256 .. Outside this profile: refusal 30", a row for each; order 8: "The byte profile keeps the present edition only."
+-- "30 for a setting outside the profile": "Min 0, Max 255, grid 8 by 8 only, bins 64, 128 (or 0) or 256", a row for each; order 8: "The byte profile keeps the present edition only."
 unfoldable pub profileRows : Settings → List Row
 profileRows s =
     row 30 (not (eqb (s .across) 8))

@@ -50,7 +50,7 @@ module _ {p : PrepareCall} {r : MapRecord} {foot : Footer} (ran : Prepares p) (d
   pub prepared-tiles-older : {f : Float} → ClippingOn (p .settings .clip) f → p .settings .edition ≡ Of1986 → FilmOlder (p .width) (p .height) (p .pixels) (p .settings) f (p .map′)
   prepared-tiles-older on other = rw (ap (λ (z : Ended). z .map) (prepare-ends ran)) (tiles-older _ _ _ _ _ (p .map) (p .scratch) (p .list) prepared on other)
 
-  -- "L x B is never below N, and L is the least that can hold the tile where the factor would give less": of each tile and its own limit
+  -- L x B is never below N, and L is the least that can hold the tile where the factor would give less: of each tile and its own limit
   pub prepared-limit-fits : {f : Float} → ClippingOn (p .settings .clip) f → (k : ℕ)
       → LimitFits f (pixelsIn (p .width) (p .height) (p .settings) k) (binsOf (p .settings)) (limitIn (p .width) (p .height) (p .settings) f k)
   prepared-limit-fits {f} on k = limit-fits (prepare-work _ _ _ _ _ (p .map) (p .scratch) (p .list) prepared) f k
@@ -76,7 +76,7 @@ module _ {e : EnhanceCall} {foot : Footer} (ran : Enhances e) (done : enhancedSa
   pub enhanced-tiles-older : {f : Float} → ClippingOn (e .settings .clip) f → e .settings .edition ≡ Of1986 → FilmOlder (e .width) (e .height) (e .pixels) (e .settings) f (e .map′)
   enhanced-tiles-older on other = rw (ap (λ (z : Over). z .map) (enhance-ends ran)) (tiles-older-enhance _ _ _ _ (e .map) (e .scratch) enhanced on other)
 
-  -- "L x B is never below N, and L is the least that can hold the tile where the factor would give less"
+  -- L x B is never below N, and L is the least that can hold the tile where the factor would give less
   pub enhanced-limit-fits : {f : Float} → ClippingOn (e .settings .clip) f → (k : ℕ)
       → LimitFits f (pixelsIn (e .width) (e .height) (e .settings) k) (binsOf (e .settings)) (limitIn (e .width) (e .height) (e .settings) f k)
   enhanced-limit-fits {f} on k = limit-fits (enhance-work _ _ _ _ (e .map) (e .scratch) enhanced) f k

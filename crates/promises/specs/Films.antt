@@ -127,9 +127,9 @@ FilmSound w h pic s f m =
 
 -- order 2: a limit l of a tile of n pixels and b bins, with the factor f
 pub record LimitFits (f : Float) (n b l : ℕ) : Type 0 where
-  -- "L x B is never below N"
+  -- L x B is never below N
   pub holds : n ≤ l * b
-  -- "L is the least that can hold the tile where the factor would give less"
+  -- L is the least that can hold the tile where the factor would give less
   pub least : flooredOf f n b * b < n → (k : ℕ) → n ≤ k * b → l ≤ k
   -- and elsewhere it is what the factor gives
   pub given : n ≤ flooredOf f n b * b → l ≡ flooredOf f n b
