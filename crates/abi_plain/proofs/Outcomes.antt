@@ -15,7 +15,7 @@ use Rattle.promises.proofs.Files.{write-table}
 use Rattle.flat.specs.Files.{Answer, answered, flatSizes, FlatWritten, flatWritten}
 use Rattle.flat.proofs.Kept.{Keeps, kept}
 use Rattle.plain.specs.Plain.{plainHeadOf}
-use Rattle.plain_read.specs.PlainRead.{PlainRead, plainReadAs, plainOf, limitedOf}
+use Rattle.plain_read.specs.PlainRead.{plainOf, limitedOf}
 use Rattle.plain_write.specs.PlainWrite.{plainWriteOf}
 use Rattle.plain_write.proofs.Parts.{roomy}
 use Rattle.plain_promises.proofs.Outcomes.{read-says-kept}

@@ -2,12 +2,12 @@
 -- Assumes nothing.
 use Prim.Native.Nat.{ℕ, _+_, _-_, _*_, _≤_, _<_}
 use mathlib.Core.List.{List}
-use mathlib.Core.Path.{_≡_, refl, sym, ap, _∙_}
+use mathlib.Core.Path.{_≡_, refl, ap, _∙_}
 use native.Mathlib.Omega.{arith}
 use lib.ListN.{length, take, drop, getD, length-drop}
 use lib.Seq.{length-take-le}
 use borrow.Rule.Slice.PartMut.{putMid}
-use Rattle.lists.specs.Lists.{joined, blocks, onto}
+use Rattle.lists.specs.Lists.{blocks, onto}
 use Rattle.lists.proofs.Fills.{length-over}
 use Rattle.lists.proofs.Maps.{over-part}
 use Rattle.lists.proofs.Blocks.{blocks-over, blocks-end}

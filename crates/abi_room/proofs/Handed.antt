@@ -2,12 +2,12 @@
 -- Assumes nothing.
 use Prim.Native.Nat.{ℕ, _+_, _*_, _<_}
 use mathlib.Core.List.{List}
-use mathlib.Core.Path.{_≡_, refl, sym, ap, ap₂, _∙_}
+use mathlib.Core.Path.{_≡_, refl, sym, ap, _∙_}
 use native.Mathlib.Nat.{add-zero}
 use native.Mathlib.Omega.{arith}
 use lib.Ieee.{nan}
 use lib.ListN.{length, getD}
-use Rattle.lists.specs.Lists.{tab, joined}
+use Rattle.lists.specs.Lists.{tab}
 use Rattle.lists.proofs.Tabs.{getD-tab, tab-cong, tab-all}
 use Rattle.lists.proofs.Blocks.{getD-joined}
 use Rattle.grid.specs.Grid.{noAxis}

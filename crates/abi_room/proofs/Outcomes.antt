@@ -3,7 +3,7 @@
 -- Of every run of the calls by their contracts (Runs); a name with ′ is lent memory, or the room record's cells, at the end.
 -- A float's cell is told up to the float in it: which of a NaN's bits stand there is left open.
 -- Assumes nothing.
-use Prim.Native.Nat.{ℕ, _<_}
+use Prim.Native.Nat.{_<_}
 use mathlib.Core.Path.{_≡_, refl, sym, ap, _∙_}
 use Rattle.draw.specs.Draw.{drawnSays}
 use Rattle.room.specs.Room.{storedSays, storedOf, storeOf, showOf, droppedSays, droppedOf, dropOf}

@@ -7,7 +7,6 @@ use mathlib.Core.List.{List, [], _∷_, _++_}
 use mathlib.Core.Path.{_≡_, refl, sym, ap, ap₂, subst, _∙_}
 use native.Mathlib.Omega.{arith}
 use lib.ListN.{length, take, drop}
-use Rattle.lists.specs.Lists.{tab}
 use Rattle.lists.proofs.Tabs.{length-tab}
 use Rattle.refuse.specs.Refuse.{first}
 use Rattle.settings.specs.declared.Footer.{Footer}
@@ -25,7 +24,7 @@ use Rattle.room_promises.proofs.Kept.{Kept, storesOf, store-kept, drop-kept}
 use Rattle.room_promises.proofs.Alone.{Among, OfFilm, of-film, Alone, alone-shows}
 use Rattle.flat.specs.Flat.{returned}
 use Rattle.flat.specs.Films.{Foot, FlatDrawn, flatDrawn, drawnAs}
-use Rattle.abi_room.specs.Flat.{RoomCells, roomFrom, cellsOf, FlatStored, storedAs, flatStored, FlatDropped, droppedAs, flatDropped}
+use Rattle.abi_room.specs.Flat.{RoomCells, roomFrom, cellsOf, FlatStored, flatStored, FlatDropped, flatDropped}
 use Rattle.abi_room.proofs.Handed.{room-back}
 use Rattle.abi_room.proofs.Runs.{TzStoreCall, TzStores, tz-store-ends, TzShowCall, TzShows, tz-show-ends, TzDropCall, TzDrops, tz-drop-ends}
 

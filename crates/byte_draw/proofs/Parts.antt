@@ -1,14 +1,13 @@
 -- The table of draw on bytes: 13 and 18 are never given, and outside the profile it gives 30 or an earlier number.
 -- Assumes nothing.
 use Prim.Native.Nat.{ℕ, zero, suc, _<_}
-use mathlib.Core.Bool.{Bool, true, false, not, _&&_, cond}
+use mathlib.Core.Bool.{Bool, true, not, _&&_, cond}
 use mathlib.Core.List.{List}
 use mathlib.Core.Logic.{_≢_}
 use mathlib.Core.Path.{_≡_, refl, sym, ap, _∙_}
 use native.Mathlib.Omega.{arith}
 use lib.Dec.{eqb}
 use lib.ListN.{length, getD}
-use borrow.Author.Tests.{eq-eqb, eqb-false}
 use Rattle.lists.specs.Lists.{all}
 use Rattle.refuse.specs.Refuse.{first}
 use Rattle.refuse.proofs.Walk.{each-first}

@@ -1,17 +1,14 @@
 -- The byte draw's table: none of its rows gives 13 or 18, since a byte lies in 0 to 255; and what its parts tell where none applies.
 -- Assumes nothing.
 use Prim.Native.Nat.{ℕ, zero, suc, _<_}
-use mathlib.Core.Bool.{true}
 use mathlib.Core.List.{List, _++_}
 use mathlib.Core.Path.{_≡_, refl, sym, _∙_}
 use lib.ListN.{length, getD}
 use native.Mathlib.Omega.{arith}
-use Rattle.lists.specs.Lists.{all}
-use Rattle.lists.proofs.Alls.{all-from, all-take}
+use Rattle.lists.proofs.Alls.{all-take}
 use Rattle.refuse.specs.Refuse.{first}
 use Rattle.refuse.proofs.Walk.{first-both, front, behind}
 use Rattle.scan.specs.Scan.{within}
-use Rattle.scan.proofs.Spans.{within-both}
 use Rattle.tally.proofs.Greys.{greys-all}
 use Rattle.settings.specs.declared.Settings.{Settings}
 use Rattle.settings.specs.declared.MapRecord.{MapRecord}
@@ -24,7 +21,7 @@ use Rattle.held.proofs.Tables.{record-numbered, window-numbered, window-inside}
 use Rattle.frame.proofs.Frames.{framed}
 use Rattle.draw.proofs.Tables.{pixels-within}
 use Rattle.draw.proofs.Like.{pixel-free}
-use Rattle.profile.specs.Profile.{byteRows, Profile}
+use Rattle.profile.specs.Profile.{byteRows}
 use Rattle.profile.proofs.Greys.{bytes-within}
 use Rattle.profile.proofs.Profile.{byte-numbered, byte-ready}
 use Rattle.byte_draw.specs.Bytes.{byteDrawRows, ByteWindowReady}

@@ -3,7 +3,6 @@
 -- Assumes nothing.
 use Prim.Native.Nat.{ℕ}
 use mathlib.Core.List.{List, _++_}
-use mathlib.Core.Path.{_≡_}
 use lib.ListN.{length}
 use Rattle.refuse.specs.Refuse.{Row, first, unless}
 use Rattle.settings.specs.declared.Settings.{Settings}

@@ -1,7 +1,7 @@
 -- The tables of prepare and enhance on bytes: their parts, that 13 is never given, nor 32 by enhance, and that outside the profile they give 30 or an earlier number.
 -- What is said of prepare's with every list is said of enhance's by Tables: `rows-enough`.
 -- Assumes nothing.
-use Prim.Native.Nat.{ℕ, zero, suc, _≤_}
+use Prim.Native.Nat.{ℕ, zero, suc}
 use mathlib.Core.Bool.{Bool, true, false, cond}
 use mathlib.Core.List.{List, _++_}
 use mathlib.Core.Logic.{_≢_}

@@ -5,13 +5,12 @@ use Prim.Native.Nat.{ℕ, _*_, _≤_, _<_}
 use mathlib.Core.Bool.{false}
 use mathlib.Core.List.{List, _++_}
 use mathlib.Core.Path.{_≡_}
-use lib.ListN.{length, drop}
-use Rattle.lists.specs.Lists.{onto, over, filled}
+use lib.ListN.{length}
 use Rattle.refuse.specs.Refuse.{Row, first, unless}
 use Rattle.settings.specs.declared.Settings.{Settings}
-use Rattle.settings.specs.Settings.{binsOf, clipOne}
+use Rattle.settings.specs.Settings.{clipOne}
 use Rattle.prepare.specs.declared.Enhanced.the-variants as Enhanced
-use Rattle.tiles.specs.Tiles.{tileMap, mappings, spentEntries, Work}
+use Rattle.tiles.specs.Tiles.{spentEntries, Work}
 use Rattle.prepare.specs.Prepare.{preparedNot, workRows, listedRows, Ended, ending, preparedOf, Over, overing, enhancedOf}
 use Rattle.profile.specs.Profile.{byteRows, Profile}
 

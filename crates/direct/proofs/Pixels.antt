@@ -24,7 +24,7 @@ use Rattle.settings.specs.Settings.{binsOf, Tiled}
 use Rattle.settings.proofs.Records.{tiled-columns, tiled-rows}
 use Rattle.render.specs.Render.{columnPlace, rowPlace}
 use Rattle.tiles.specs.Tiles.{tileOf}
-use Rattle.rule.specs.Rule.{tileValue, ruleGrey}
+use Rattle.rule.specs.Rule.{tileValue}
 use Rattle.rule.proofs.Rule.{value-at, rule-corners}
 use Rattle.direct.specs.Direct.{cornerValue, CornerAsks, PaintAsks, BinAsks, PixelAsks, Behind, Greyed}
 use Rattle.direct.proofs.Values.{paint-scale, corner-most}

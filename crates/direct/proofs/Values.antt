@@ -10,7 +10,7 @@ use Rattle.lists.proofs.Fills.{drop-onto, length-onto}
 use Rattle.tally.specs.declared.Rect.{Rect}
 use Rattle.tally.specs.Tally.{greysOf, countsOf, CountAsks, Scale}
 use Rattle.tally.proofs.Greys.{length-greys}
-use Rattle.tile.specs.Tile.{mappedOf, tileCounts, tileDivides, Holds, TileAsks}
+use Rattle.tile.specs.Tile.{tileCounts, tileDivides, Holds, TileAsks}
 use Rattle.tile.proofs.Mapped.{mapped-high}
 use Rattle.tile.proofs.Tiles.{length-tile-counts, total-tile-counts, tile-part}
 use Rattle.value.specs.Value.{ValueAsks, ValueGiven}

@@ -11,7 +11,7 @@ use lib.Ieee.{Float, nan, inf, fin, up, down, binary32, ofBits, le, eq}
 use lib.Ieee.Fits.{down-pos}
 use borrow.Author.Tests.{ltb-true, ltb-false, leb-true, leb-false, eqb-true, eqb-false, ne-eqb}
 use Rattle.limit.specs.declared.Clip.{Clip}
-use Rattle.limit.specs.declared.Clip.the-variants.{Off, Factor}
+use Rattle.limit.specs.declared.Clip.the-variants.{Factor}
 use Rattle.limit.specs.declared.Judged.the-variants as Judged
 use Rattle.limit.specs.Limit.{allowed, isOne, judgeOf, judgedBy}
 

@@ -1,10 +1,10 @@
 -- Document 01, "Settings and sizes" and "From pixels to mappings", rule 2, and the footer's factor used.
 -- A float is `nan`, an infinity, or `fin s m e`: m x 2 ^ e, negative where s is true; 2 ^ e is the fraction up e / down e.
 -- Assumes nothing.
-use Prim.Native.Nat.{ℕ, _+_, _-_, _*_, _/_, _≤_, _<_, _^_, max}
+use Prim.Native.Nat.{ℕ, _+_, _-_, _*_, _/_, _≤_, _<_, max}
 use mathlib.Core.Bool.{Bool, true, false, not, _&&_}
 use mathlib.Core.Path.{_≡_}
-use lib.Dec.{leb, ltb, eqb}
+use lib.Dec.{leb, eqb}
 use lib.IntN.{pos}
 use lib.Ieee.{Float, nan, inf, fin, up, down, div, ofInt, binary64}
 use Rattle.limit.specs.declared.Clip.{Clip}

@@ -1,6 +1,6 @@
 -- Laws of `filled`, `onto`, `over`, `joined` and `blocks`: slices that are filled from the front, or in the middle.
 -- Assumes nothing.
-use Prim.Native.Nat.{ℕ, zero, suc, _+_, _-_, _*_, _≤_, _<_}
+use Prim.Native.Nat.{ℕ, zero, suc, _+_, _*_, _≤_, _<_}
 use mathlib.Core.List.{List, _++_}
 use mathlib.Core.Path.{_≡_, refl, sym, ap, ap₂, _∙_}
 use lib.ListN.{length, take, drop, getD, set, length-append, length-drop}

@@ -5,7 +5,7 @@ use mathlib.Core.Bool.{Bool, true, false}
 use mathlib.Core.List.{List, [], _∷_, map}
 use mathlib.Core.Logic.{_⊎_, inl, inr}
 use mathlib.Core.Path.{_≡_, refl, sym, ap, _∙_}
-use lib.Dec.{leb, ltb}
+use lib.Dec.{ltb}
 use lib.ListN.{length, length-map, getD}
 use native.Mathlib.Nat.{suc-mul, zero-mul, mul-comm, mul-add, le-refl, mul-one, mul-zero}
 use native.Mathlib.Omega.{arith}

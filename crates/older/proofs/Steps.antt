@@ -8,10 +8,10 @@ use mathlib.Core.Path.{_≡_, refl, sym, ap, _∙_}
 use lib.Dec.{leb}
 use lib.ListN.{length, getD, drop}
 use lib.Seq.{drop-cons}
-use native.Mathlib.Nat.{mul-comm, mul-add, mul-zero, mul-one, le-refl, mul-sub, le-div-iff-mul-le, div-lt-iff-lt-mul, not-suc-le-zero, le-of-suc-le-suc, suc-mul}
+use native.Mathlib.Nat.{mul-comm, mul-add, mul-zero, mul-one, le-refl, le-div-iff-mul-le, div-lt-iff-lt-mul, not-suc-le-zero, le-of-suc-le-suc, suc-mul}
 use native.Mathlib.Numerals.{add-one}
 use native.Mathlib.Omega.{arith}
-use borrow.Author.Tests.{le-leb, lt-leb, leb-true, leb-false}
+use borrow.Author.Tests.{le-leb, lt-leb}
 use Rattle.lists.specs.Lists.{total}
 use Rattle.lists.proofs.Orders.{lt-or-ge}
 use Rattle.clip.specs.Clip.{excess}

@@ -20,7 +20,7 @@ use Rattle.plain.specs.declared.Sample.the-variants as Sample
 use Rattle.plain.specs.declared.Scan.the-variants as Scan
 use Rattle.plain.specs.Plain.{endsAt, judgedOf, tokenOf, sampleOf, thenScan, scanOf, thenGreys, greysFrom}
 use Rattle.plain.specs.Grammar.{SampleIn, Samples}
-use Rattle.plain.proofs.Samples.{judged-grey, token-read, sample-token, scan-within}
+use Rattle.plain.proofs.Samples.{judged-grey, token-read, sample-token}
 
 -- ---- where a sample may end
 

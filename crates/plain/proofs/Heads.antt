@@ -2,7 +2,7 @@
 -- Assumes nothing.
 use Prim.Native.Nat.{ℕ, zero, suc, _+_, _-_, _≤_, _<_}
 use mathlib.Core.Bool.{Bool, true, false, _&&_, cond}
-use mathlib.Core.List.{List, [], _∷_, _++_}
+use mathlib.Core.List.{List, _∷_, _++_}
 use mathlib.Core.Logic.{_↔_, _⊎_, inl, ⊎-elim}
 use mathlib.Core.Path.{_≡_, refl, sym, ap, _∙_}
 use lib.Dec.{eqb}
@@ -15,10 +15,9 @@ use Rattle.lists.proofs.Tabs.{and-left, and-right}
 use Rattle.header.specs.declared.Head.{Head}
 use Rattle.header.specs.declared.Head.the-variants as Head
 use Rattle.header.specs.Header.{fieldsOf, headerOf, headerBytes}
-use Rattle.header.specs.Grammar.{Header}
 use Rattle.header.proofs.Reading.{test-within, header-fields, fields-same}
 use Rattle.header.proofs.Grammar.{header-complete, header-longer, header-rest, header-sound}
-use Rattle.header.proofs.Refusals.{hash-complete, hash-sound, other-exactly}
+use Rattle.header.proofs.Refusals.{hash-complete, hash-sound}
 use Rattle.header.proofs.Laws.{refused-number, header-written}
 use Rattle.plain.specs.Plain.{plainHeadOf, plainHeadBytes}
 use Rattle.plain.specs.Grammar.{PlainHeader, PlainHash}

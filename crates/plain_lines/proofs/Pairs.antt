@@ -8,7 +8,6 @@ use native.Mathlib.Omega.{arith}
 use Rattle.lists.specs.Lists.{over}
 use Rattle.lists.proofs.Tabs.{length-tab, getD-tab}
 use Rattle.lists.proofs.Overs.{over-over, set-over, over-two, over-step}
-use Rattle.header.specs.Header.{decimalOf}
 use Rattle.header.proofs.Writing.{decimal-one, decimal-more}
 use Rattle.plain.specs.Plain.{lineOf}
 use Rattle.plain_lines.specs.Pairs.{twoOf, pairOf, pairs100}

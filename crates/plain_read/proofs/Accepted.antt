@@ -1,11 +1,10 @@
 -- A plain file is accepted exactly where the grammar has one within the limits, with room for its greys, and these are what is left.
 -- Assumes nothing.
 use Prim.Native.Nat.{ℕ, zero, suc, _-_, _*_, _≤_}
-use mathlib.Core.Bool.{true}
 use mathlib.Core.List.{List}
 use mathlib.Core.Logic.{_↔_}
 use mathlib.Core.Path.{_≡_, refl, sym, ap, _∙_}
-use lib.ListN.{length, drop, length-drop}
+use lib.ListN.{length, drop}
 use native.Mathlib.Omega.{arith}
 use Rattle.lists.specs.Lists.{onto}
 use Rattle.refuse.specs.Refuse.{first, unless}

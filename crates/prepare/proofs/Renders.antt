@@ -1,6 +1,6 @@
 -- How enhance ends: refused, with the factor 1.0, or with the picture rendered.
 -- Assumes nothing.
-use Prim.Native.Nat.{ℕ, zero, suc}
+use Prim.Native.Nat.{ℕ}
 use mathlib.Core.Bool.{Bool, true, false}
 use mathlib.Core.List.{List}
 use mathlib.Core.Path.{_≡_, refl, sym, ap, _∙_}
@@ -15,13 +15,13 @@ use Rattle.lists.proofs.Fills.{take-onto, length-onto}
 use Rattle.scan.specs.Scan.{within}
 use Rattle.settings.specs.declared.Settings.{Settings}
 use Rattle.settings.specs.declared.Footer.{Footer}
-use Rattle.settings.specs.Settings.{binsOf, entriesOf, clipOne, Ready}
+use Rattle.settings.specs.Settings.{entriesOf, clipOne, Ready}
 use Rattle.render.specs.Render.{renderOf, whole, Mapped, Shown}
 use Rattle.render.proofs.Laws.{render-front, ready-mapped}
 use Rattle.tiles.specs.Tiles.{mappings, footOf, Work, TilesAsk, TilesDone}
 use Rattle.tiles.proofs.Films.{length-mappings, mappings-within}
 use Rattle.prepare.specs.declared.Enhanced.the-variants as Enhanced
-use Rattle.prepare.specs.Prepare.{enhanceRows, Over, overing, enhancedOf, enhanceOf}
+use Rattle.prepare.specs.Prepare.{enhanceRows, overing, enhancedOf, enhanceOf}
 use Rattle.prepare.proofs.Table.{over-work}
 
 -- ---- what rendering asks, once the mappings are laid down

@@ -1,6 +1,6 @@
 -- How drop judges and ends.
 -- Assumes nothing.
-use Prim.Native.Nat.{ℕ, _+_, _-_, _≤_, _<_}
+use Prim.Native.Nat.{ℕ, _+_, _≤_, _<_}
 use mathlib.Core.Bool.{true, false}
 use mathlib.Core.List.{List}
 use mathlib.Core.Logic.{_≢_}
@@ -8,7 +8,7 @@ use mathlib.Core.Path.{_≡_, refl, sym, ap, _∙_}
 use native.Mathlib.Omega.{arith}
 use lib.Dec.{ltb}
 use lib.ListN.{length, take}
-use borrow.Author.Tests.{lt-ltb, le-ltb, ltb-true, ltb-false, not-false}
+use borrow.Author.Tests.{lt-ltb, le-ltb, ltb-true, not-false}
 use Rattle.lists.specs.Lists.{all}
 use Rattle.refuse.specs.Refuse.{first, unless, numbersOf, Numbered}
 use Rattle.refuse.proofs.Walk.{front, behind, first-both, first-none, each-append, unless-refused}

@@ -1,7 +1,7 @@
 -- Document 01's 15, of a set: its rows, and how they are judged.
 -- Assumes nothing.
 use Prim.Native.Nat.{ℕ, _*_}
-use mathlib.Core.Bool.{true, false, not}
+use mathlib.Core.Bool.{false, not}
 use mathlib.Core.List.{List, [], _∷_, _++_}
 use mathlib.Core.Path.{_≡_, refl, sym, ap, ap₂, _∙_}
 use lib.Dec.{eqb}
@@ -12,7 +12,7 @@ use Rattle.refuse.proofs.Walk.{front, behind, first-none, first-both, numbers-a
 use Rattle.settings.specs.declared.Settings.{Settings}
 use Rattle.settings.specs.Settings.{binsOf, entriesOf, keptOf, clipBad}
 use Rattle.held.specs.Held.{keptRows, editionRows}
-use Rattle.held.proofs.Tables.{kept-numbers, edition-numbers, kept-numbered, edition-numbered, kept-held, edition-held}
+use Rattle.held.proofs.Tables.{kept-numbers, edition-numbers, kept-numbered, kept-held, edition-held}
 use Rattle.held.proofs.Laws.{own-settings, own-edition, settings-kept, edition-kept}
 use Rattle.sets.specs.declared.Set.{Set}
 use Rattle.sets.specs.Sets.{setFor}

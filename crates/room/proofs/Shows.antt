@@ -1,7 +1,7 @@
 -- Document 02, order 11: a room draw is draw with the film's own record and its set's entries, and so draws "as if it alone had been prepared".
 -- Over the outcomes that the contracts of the room's draw and of draw cite.
 -- Assumes nothing.
-use Prim.Native.Nat.{ℕ, _+_, _-_, _*_, _≤_, _<_}
+use Prim.Native.Nat.{ℕ, _+_, _-_, _≤_, _<_}
 use mathlib.Core.Bool.{Bool, false, not}
 use mathlib.Core.List.{List, _++_, append-assoc}
 use mathlib.Core.Path.{_≡_, refl, sym, ap, ap₂, _∙_}

@@ -20,7 +20,7 @@ use Rattle.blend.proofs.Moves.{sides-are}
 use Rattle.render.specs.Render.{columnPlace, rowPlace}
 use Rattle.tiles.specs.Tiles.{tileOf}
 use Rattle.rule.specs.Rule.{tileValue, greyFrom, ruleGrey, shownGrey}
-use Rattle.rule.specs.Reach.{LiesIn, AgreeOn, Weighed, cornerTiles, inUse, usedTiles, AgreeTiles, Alike}
+use Rattle.rule.specs.Reach.{AgreeOn, Weighed, cornerTiles, inUse, usedTiles, AgreeTiles, Alike}
 
 -- ---- the tiles that are used
 

@@ -1,12 +1,12 @@
 -- Document 02, order 10, how far a scratch reaches: films that differ in a rectangle alone are alike for every pixel beyond it.
 -- Assumes nothing.
-use Prim.Native.Nat.{ℕ, zero, suc, _+_, _*_, _/_, _%_, _≤_, _<_}
+use Prim.Native.Nat.{ℕ, zero, suc, _+_, _*_, _≤_, _<_}
 use native.Mathlib.Nat.{mul-zero, zero-mul}
 use native.Mathlib.Omega.{arith}
 use lib.Arith.{digits-div, digits-mod}
 use mathlib.Core.Bool.{Bool, true, false}
 use mathlib.Core.List.{List}
-use mathlib.Core.Path.{_≡_, refl, sym, ap, _∙_}
+use mathlib.Core.Path.{_≡_, refl, ap, _∙_}
 use lib.Dec.{ltb}
 use borrow.Author.Tests.{ltb-true, ltb-false}
 use Rattle.tally.specs.declared.Rect.{Rect}
@@ -16,7 +16,7 @@ use Rattle.settings.specs.declared.Settings.{Settings}
 use Rattle.settings.specs.Settings.{Tiled}
 use Rattle.settings.proofs.Records.{tiled-columns, tiled-rows}
 use Rattle.blend.specs.declared.Place.{Place}
-use Rattle.blend.specs.Blend.{placeOf, Sound}
+use Rattle.blend.specs.Blend.{placeOf}
 use Rattle.blend.proofs.Places.{by-cases, place-sound}
 use Rattle.render.specs.Render.{columnPlace, rowPlace}
 use Rattle.tiles.specs.Tiles.{tileOf}

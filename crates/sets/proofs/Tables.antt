@@ -1,8 +1,8 @@
 -- The rows of 40, and where a set comes from that moves down a place: each way of the code.
 -- Assumes nothing.
-use Prim.Native.Nat.{ℕ, zero, suc, _+_, _-_, _≤_, _<_}
+use Prim.Native.Nat.{ℕ, _+_, _≤_, _<_}
 use mathlib.Core.Bool.{Bool, true, false, cond, _&&_, _||_}
-use mathlib.Core.List.{List, [], _∷_}
+use mathlib.Core.List.{[], _∷_}
 use mathlib.Core.Logic.{_≢_}
 use mathlib.Core.Path.{_≡_, refl, sym, ap, ap₂, _∙_}
 use native.Mathlib.Omega.{arith}
@@ -11,9 +11,8 @@ use borrow.Author.Tests.{ltb-true, ltb-false, lt-ltb, le-ltb, le-leb, lt-leb, eq
 use Rattle.lists.specs.Lists.{all}
 use Rattle.refuse.specs.Refuse.{first, numbersOf, Numbered}
 use Rattle.refuse.proofs.Walk.{first-none, each-first}
-use Rattle.sets.specs.declared.Set.{Set}
 use Rattle.sets.specs.declared.Room.{Room}
-use Rattle.sets.specs.Sets.{noSet, held, spanOf, twice, fitRows, movedFrom, withoutSet}
+use Rattle.sets.specs.Sets.{held, spanOf, twice, fitRows, movedFrom}
 
 module _ (room : Room) (size : ℕ) where
   pub fit-many : 8 < room .count → 40 ≡ first (fitRows room size)

@@ -3,12 +3,12 @@
 use Prim.Native.Nat.{ℕ, zero, suc}
 use mathlib.Core.Bool.{cond}
 use mathlib.Core.List.{_++_}
-use mathlib.Core.Path.{_≡_, refl, ap, ap₂}
+use mathlib.Core.Path.{_≡_, refl, ap₂}
 use native.Mathlib.Omega.{arith}
 use lib.Dec.{eqb}
 use borrow.Author.Tests.{ne-eqb}
 use Rattle.settings.specs.declared.Settings.{Settings}
-use Rattle.settings.specs.Settings.{binsOf, keptOf, sizeRows, gridRows, rangeRows, clipRows, greyRows, roomRows, settingRows, sharedRows}
+use Rattle.settings.specs.Settings.{binsOf, keptOf, gridRows, rangeRows, clipRows, greyRows, roomRows, settingRows, sharedRows}
 
 -- these settings with other bins
 abbrev withBins : Settings → ℕ → Settings

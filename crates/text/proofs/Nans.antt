@@ -2,7 +2,7 @@
 use Prim.Native.Nat.{ℕ, _+_, _*_, _/_}
 use native.Mathlib.Omega.{arith}
 use mathlib.Core.Bool.{true, false, not}
-use mathlib.Core.Path.{_≡_, refl, sym, ap, subst⁻¹, _∙_}
+use mathlib.Core.Path.{_≡_, sym, ap, subst⁻¹}
 use lib.Dec.{T}
 use lib.Ieee.{Float, Format, nan, inf, fin, eq, ne, isNan, toBits, ones, hid}
 use lib.Ieee.Compare.{differs-from-itself}

@@ -2,7 +2,6 @@
 -- Assumes nothing.
 use Prim.Native.Nat.{ℕ, _+_, _*_, _≤_}
 use mathlib.Core.List.{List}
-use mathlib.Core.Path.{_≡_}
 use native.Mathlib.Nat.{mul-le-mul-right}
 use native.Mathlib.Omega.{arith}
 use lib.ListN.{length}
@@ -12,7 +11,6 @@ use Rattle.limit.specs.declared.Clip.the-variants.{Off, Factor}
 use Rattle.limit.specs.declared.Edition.{Edition}
 use Rattle.limit.specs.declared.Edition.the-variants.{Ours, Of1986}
 use Rattle.limit.specs.Limit.{limitOf}
-use Rattle.clip.specs.declared.Spent.{Spent}
 use Rattle.clip.specs.Clip.{left}
 use Rattle.clip.proofs.Shares.{excess-most, total-first}
 use Rattle.clip.proofs.Laws.{looks-within}

@@ -24,7 +24,7 @@ use Rattle.older.proofs.Levels.{length-older, older-between, older-most}
 use Rattle.scan.specs.Scan.{within}
 use Rattle.tally.specs.Tally.{countsOf, greysOf}
 use Rattle.tile.specs.declared.Clipped.{Clipped}
-use Rattle.tile.specs.Tile.{clippedIn, clippedBy, dividedIn, dividedBy, mappedOf, mappingOf, countsMapping, tileCounts, tileDivides, tileMapping, tookIn, spentBy, tileSpent, Holds, factor, ClipInAsks, ClipByAsks, InClipped, ByClipped, MapAsks, FromAsks, FromMapped, TileAsks, TileMapped}
+use Rattle.tile.specs.Tile.{clippedIn, clippedBy, dividedIn, dividedBy, mappedOf, mappingOf, countsMapping, tileCounts, tileDivides, tileMapping, tookIn, spentBy, tileSpent, Holds, factor, ClipInAsks, ClipByAsks, InClipped, ByClipped, MapAsks, FromAsks, TileAsks, TileMapped}
 use Rattle.tally.specs.declared.Rect.{Rect}
 use Rattle.tally.proofs.Greys.{length-greys}
 use Rattle.tally.proofs.Counts.{length-counts, total-counts}

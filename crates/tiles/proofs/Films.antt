@@ -27,7 +27,7 @@ use Rattle.tile.specs.Tile as tile
 use Rattle.tally.proofs.Greys.{greys-all}
 use Rattle.tile.proofs.Tiles.{length-tile-counts, tile-mapping-from, length-tile-mapping, getD-tile-mapping, tile-mapping-within}
 use Rattle.settings.specs.declared.Settings.{Settings}
-use Rattle.settings.specs.Settings.{binsOf, entriesOf, clipBad, clipOne, Ready}
+use Rattle.settings.specs.Settings.{binsOf, entriesOf, clipBad, Ready}
 use Rattle.settings.proofs.Ready.{entries-small}
 use Rattle.tiles.specs.Tiles.{tileOf, pixelsIn, tileMap, mappings, spentIn, TilesAsk, TileAsks, TileDone}
 use Rattle.tiles.proofs.Tiles.{tile-area, length-tile-greys, tile-inside}

@@ -2,12 +2,10 @@
 -- Assumes nothing.
 use Prim.Native.Nat.{_-_, _≤_}
 use mathlib.Core.Path.{_≡_, refl, ap}
-use native.Mathlib.Omega.{arith}
 use lib.ListN.{length}
 use borrow.Author.Needs.{needs}
 use Rattle.lists.specs.Lists.{blocks}
 use Rattle.lists.proofs.Fills.{blocks-none}
-use Rattle.abi_room.specs.Flat.{roomNumbers}
 use Rattle.abi_room.proofs.Cells.{numbersAt, numbers-fit, numbers-next, length-next, numbers-end}
 use Rattle.abi_room.proofs.room_numbers.Statement.{statement}
 use Rattle.abi_room.proofs.room_numbers.Tie as tie

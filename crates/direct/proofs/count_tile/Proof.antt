@@ -1,6 +1,5 @@
 -- `count_tile` counts a tile: greys added to cleared counts are the counts.
 -- Assumes nothing.
-use native.Mathlib.Omega.{arith}
 use borrow.Author.Needs.{needs}
 use Rattle.tally.proofs.Turns.{clear-asks, clear-counts}
 use Rattle.direct.proofs.count_tile.Statement.{statement}

@@ -2,7 +2,6 @@
 -- Assumes nothing.
 use native.Mathlib.Omega.{arith}
 use lib.ListN.{length}
-use denote.Ref.{now}
 use Rattle.room.proofs.Drops.{dropping, drop-moves, drop-refused, drop-done}
 use borrow.Author.Needs.{needs}
 use Rattle.room.proofs.drop_film.Statement.{statement}

@@ -1,11 +1,10 @@
 -- `sets::entries` meets its contract.
 -- Assumes nothing.
-use mathlib.Core.Path.{refl, ap, _∙_}
+use mathlib.Core.Path.{refl}
 use native.Mathlib.Nat.{mul-le-mul, lt-of-le-of-lt}
 use native.Mathlib.Omega.{arith}
-use lib.Dec.{lit<, ltb}
-use Prim.Native.Nat.{_≤_, _*_, _/_}
-use Rattle.sets.proofs.Sizes.{bins-some}
+use lib.Dec.{lit<}
+use Prim.Native.Nat.{_≤_}
 use borrow.Author.Needs.{needs}
 use Rattle.sets.proofs.entries.Statement.{statement}
 use Rattle.sets.proofs.entries.Tie as tie

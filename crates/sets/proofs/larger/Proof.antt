@@ -1,10 +1,9 @@
 -- `sets::larger` meets its contract.
 -- Assumes nothing.
-use mathlib.Core.Path.{refl, ap, _∙_}
 use native.Mathlib.Nat.{mul-le-mul, lt-of-le-of-lt}
 use native.Mathlib.Omega.{arith}
-use lib.Dec.{lit<, ltb}
-use Prim.Native.Nat.{_≤_, _*_, _/_}
+use lib.Dec.{lit<}
+use Prim.Native.Nat.{_≤_, _*_}
 use Rattle.sets.proofs.Sizes.{bins-some, larger-is}
 use borrow.Author.Needs.{needs}
 use Rattle.sets.proofs.larger.Statement.{statement}

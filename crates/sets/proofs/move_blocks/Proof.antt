@@ -1,12 +1,11 @@
 -- `sets::move_blocks` meets its contract: the blocks that were moved so far lie at their place, and all else is as it was.
 -- Assumes nothing.
-use Prim.Native.Nat.{_≤_, _-_, _+_}
-use mathlib.Core.Path.{_≡_, refl, _∙_}
+use Prim.Native.Nat.{_≤_, _-_}
+use mathlib.Core.Path.{_≡_, refl}
 use lib.ListN.{length}
-use native.Mathlib.Omega.{arith}
 use borrow.Author.Needs.{needs}
 use Rattle.sets.specs.Sets.{movedDown}
-use Rattle.sets.proofs.Moves.{moved-none, moved-on, length-moved}
+use Rattle.sets.proofs.Moves.{moved-none, moved-on}
 use Rattle.sets.proofs.move_blocks.Statement.{statement}
 use Rattle.sets.proofs.move_blocks.Tie as tie
 use Rattle.sets.proofs.move_blocks.Reads as reads

@@ -1,6 +1,6 @@
 -- `sets::move_each` meets its contract: what was moved so far lies at its place, and all else is as it was.
 -- Assumes nothing.
-use Prim.Native.Nat.{_≤_, _-_, _+_}
+use Prim.Native.Nat.{_≤_, _-_}
 use mathlib.Core.Path.{_≡_, refl}
 use lib.ListN.{length}
 use native.Mathlib.Omega.{arith}

@@ -1,6 +1,5 @@
 -- `sets::moved_from` meets its contract.
 -- Assumes nothing.
-use native.Mathlib.Omega.{arith}
 use Rattle.sets.proofs.Tables.{moved-stays, moved-comes, moved-last}
 use borrow.Author.Needs.{needs}
 use Rattle.sets.proofs.moved_from.Statement.{statement}

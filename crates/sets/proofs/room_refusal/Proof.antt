@@ -1,6 +1,5 @@
 -- `sets::room_refusal` meets its contract.
 -- Assumes nothing.
-use native.Mathlib.Omega.{arith}
 use Rattle.sets.proofs.Tables.{fit-many, fit-twice, fit-long, fit-well}
 use borrow.Author.Needs.{needs}
 use Rattle.sets.proofs.room_refusal.Statement.{statement}

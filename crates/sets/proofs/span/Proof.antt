@@ -1,14 +1,12 @@
 -- `sets::span` meets its contract.
 -- Assumes nothing.
 use Prim.Native.Nat.{_+_, _-_, _≤_}
-use mathlib.Core.Path.{_≡_, refl, sym, ap, _∙_}
+use mathlib.Core.Path.{_≡_, sym, ap, _∙_}
 use native.Mathlib.Omega.{arith}
 use lib.ListN.{take}
 use borrow.Author.Needs.{needs}
-use borrow.Author.Tests.{lt-ltb, le-ltb, ltb-true, ltb-false}
-use Rattle.settings.specs.Settings.{entriesOf}
 use Rattle.sets.specs.Sets.{held, spanOf}
-use Rattle.sets.proofs.Finds.{span-next, span-most, span-none, span-whole}
+use Rattle.sets.proofs.Finds.{span-next, span-most, span-none}
 use Rattle.sets.proofs.span.Statement.{statement}
 use Rattle.sets.proofs.span.Tie as tie
 use Rattle.sets.proofs.span.Reads as reads

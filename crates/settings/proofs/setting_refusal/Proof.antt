@@ -1,6 +1,5 @@
 -- `setting_refusal` gives the first of 1 to 9, 31 and 10 that applies.
 -- Assumes nothing.
-use mathlib.Core.Path.{refl, sym, _∙_}
 use borrow.Author.Needs.{needs}
 use Rattle.refuse.proofs.Walk.{front, behind}
 use Rattle.settings.specs.Settings.{settingRows}

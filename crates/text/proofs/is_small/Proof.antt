@@ -1,5 +1,4 @@
 -- `text::is_small` meets its contract: 1 to 64. Assumes nothing.
-use borrow.Author.Needs.{needs}
 use mathlib.Core.Path.{refl}
 use native.Mathlib.Omega.{arith}
 use borrow.Author.Tests.{lt-ltb}

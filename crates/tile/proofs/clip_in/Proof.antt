@@ -1,7 +1,7 @@
 -- `clip_in` leaves the counts as the edition's rule has them, and answers what their mapping divides by.
 -- Assumes nothing.
 use borrow.Author.Needs.{needs}
-use Rattle.tile.proofs.Tiles.{clip-asks, few-asks, older-asks, in-ours, in-older}
+use Rattle.tile.proofs.Tiles.{in-ours, in-older}
 use Rattle.tile.proofs.clip_in.Statement.{statement}
 use Rattle.tile.proofs.clip_in.Tie as tie
 

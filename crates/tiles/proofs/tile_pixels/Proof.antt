@@ -3,11 +3,9 @@
 use mathlib.Core.Path.{ap, _∙_}
 use lib.Dec.{lit<}
 use native.Mathlib.Nat.{lt-of-le-of-lt}
-use native.Mathlib.Omega.{arith}
 use Prim.Native.Nat.{_*_}
 use Rattle.tally.specs.declared.Rect.{Rect}
 use Rattle.tiles.proofs.Tiles.{rect-asks, tile-area, tile-pixels-most}
-use borrow.Author.Needs.{needs}
 use Rattle.tiles.proofs.tile_pixels.Statement.{statement}
 use Rattle.tiles.proofs.tile_pixels.Tie as tie
 use Rattle.tiles.proofs.tile_pixels.Reads as reads

@@ -3,7 +3,7 @@ use borrow.Author.Needs.{needs}
 use native.Mathlib.Omega.{arith}
 use Prim.Native.Nat.{_≤_, _-_, min}
 use lib.ListN.{length, take}
-use mathlib.Core.Path.{_≡_, refl}
+use mathlib.Core.Path.{_≡_}
 use Rattle.text.specs.Text.{run}
 use Rattle.filmset.specs.Filmset.{mixed}
 use Rattle.filmset.proofs.Digests.{from-first, first-start, first-step, first-end}

@@ -1,5 +1,4 @@
 -- `filmset::kept::factor_of` meets its contract: a pattern at most the infinity's, but for its sign, is no NaN's. Assumes nothing.
-use borrow.Author.Needs.{needs}
 use Rattle.filmset.proofs.Nans.{low-no-nan}
 use mathlib.Core.Path.{refl}
 use lib.Ieee.{div, ofBits}

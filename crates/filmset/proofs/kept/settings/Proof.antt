@@ -1,6 +1,5 @@
 -- `filmset::kept::settings` meets its contract: the settings among the eleven. Assumes nothing.
 use borrow.Author.Needs.{needs}
-use mathlib.Core.Path.{refl}
 use Rattle.filmset.specs.Filmset.{settingsOf}
 use Rattle.filmset.proofs.kept.settings.Statement.{statement}
 use Rattle.filmset.proofs.kept.settings.Tie as tie

@@ -2,7 +2,7 @@
 use borrow.Author.Needs.{needs}
 use Prim.Native.Nat.{_≤_, _-_}
 use lib.ListN.{length}
-use mathlib.Core.Path.{_≡_, refl, ap}
+use mathlib.Core.Path.{_≡_, ap}
 use Rattle.text.specs.Text.{run}
 use Rattle.filmset.specs.Filmset.{lookedLine, freshLine}
 use Rattle.text.proofs.Runs.{from, run-start, run-step, run-end}

@@ -1,9 +1,8 @@
 -- `filmset::whole::rest` meets its contract: a remainder by 0 is 0. Assumes nothing.
 use borrow.Author.Needs.{needs}
-use native.Mathlib.Nat.{div-zero}
 use borrow.Author.Tests.{eq-eqb, ne-eqb}
 use Rattle.filmset.specs.Filmset.{restOf}
-use mathlib.Core.Path.{refl, sym}
+use mathlib.Core.Path.{refl}
 use Rattle.filmset.proofs.whole.rest.Statement.{statement}
 use Rattle.filmset.proofs.whole.rest.Tie as tie
 
