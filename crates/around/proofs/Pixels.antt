@@ -15,7 +15,7 @@ use Rattle.lists.proofs.Alls.{all-at}
 use Rattle.lists.proofs.Fills.{length-onto, drop-onto}
 use Rattle.scan.specs.Scan.{within}
 use Rattle.scan.proofs.Spans.{within-low, within-high}
-use Rattle.binning.specs.Binning.{binOf, factorOf, binBy}
+use Rattle.binning.specs.Binning.{binOf, binBy}
 use Rattle.binning.proofs.Bins.{bin-below, bin-by}
 use Rattle.tally.specs.declared.Rect.{Rect}
 use Rattle.tally.specs.Tally.{greysOf, countsOf, Inside, Scale, CountAsks}
@@ -24,12 +24,11 @@ use Rattle.tally.proofs.Counts.{length-counts, total-counts, counts-by, counts-
 use Rattle.tile.specs.Tile.{clippedBy, dividedBy, mappedOf, tileMapping, Holds}
 use Rattle.tile.proofs.Tiles.{length-clipped-by, tile-counts-by, tile-divides-by, length-tile-mapping, getD-tile-mapping, tile-mapping-within}
 use Rattle.settings.specs.declared.Settings.{Settings}
-use Rattle.settings.specs.Settings.{binsOf}
 use Rattle.tiles.proofs.Films as films
 use Rattle.slide.specs.Slide.{regionRect, RegionAsks, SlideAsks, Slid}
 use Rattle.slide.proofs.Regions.{region-inside}
 use Rattle.value.specs.Value.{ValueAsks, ValueGiven}
-use Rattle.around.specs.Around.{regionPixels, regionMapping, aroundGrey, Counted, FilmAsks, BinAsks, PixelAsks, Greyed, Held, StartAsks}
+use Rattle.around.specs.Around.{regionPixels, regionMapping, aroundGrey, FilmAsks, BinAsks, PixelAsks, Greyed, Held, StartAsks}
 use Rattle.around.proofs.Twins.{twin-length, twin-part, twin-front, twin-behind, twin-size}
 
 -- ---- the bin of a grey

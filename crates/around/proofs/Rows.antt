@@ -15,7 +15,7 @@ use Rattle.lists.proofs.Windows.{length-block, blocks-whole}
 use Rattle.binning.specs.Binning.{factorOf}
 use Rattle.settings.specs.declared.Settings.{Settings}
 use Rattle.settings.specs.Settings.{binsOf}
-use Rattle.around.specs.Around.{aroundRow, FilmAsks, PixelAsks, Held, StartAsks, RowAsks, PaintAsks, Behind}
+use Rattle.around.specs.Around.{aroundRow, PixelAsks, Held, StartAsks, RowAsks, PaintAsks, Behind}
 
 -- ---- a row
 

@@ -2,7 +2,7 @@
 -- Assumes nothing.
 use Prim.Native.Nat.{ℕ, _+_, _-_, _≤_, _<_}
 use mathlib.Core.List.{List, [], _∷_, _++_}
-use mathlib.Core.Path.{_≡_, refl, sym, ap, _∙_}
+use mathlib.Core.Path.{_≡_, sym, ap, _∙_}
 use lib.ListN.{length, take, drop, getD, set}
 use lib.Seq.{take-suc, take-at, drop-at, length-take-le, getD-take, drop-drop}
 use native.Mathlib.Numerals.{add-one}

@@ -1,7 +1,7 @@
 -- Order 13: "Moving one pixel right drops one column of counts and adds another; prove that this gives a fresh region's counts", borders included: of every run of slide by its contract.
 -- A name with ′ is lent memory at the end.
 -- Assumes nothing.
-use Prim.Native.Nat.{ℕ, _+_, _≤_, _<_}
+use Prim.Native.Nat.{ℕ, _+_, _≤_}
 use mathlib.Core.List.{List}
 use mathlib.Core.Path.{_≡_, _∙_}
 use native.Mathlib.Omega.{arith}

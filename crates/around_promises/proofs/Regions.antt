@@ -1,7 +1,7 @@
 -- Order 13: "prove .. demand 3's (or order 8's) facts for every region", of every film that around accepts with a factor above one.
 -- Of every run of around by its contract (Runs); a name with ′ is lent memory at the end.
 -- Assumes nothing.
-use Prim.Native.Nat.{ℕ, _+_, _*_, _≤_, _<_}
+use Prim.Native.Nat.{ℕ, _+_, _*_, _<_}
 use mathlib.Core.Bool.{Bool, true, false}
 use mathlib.Core.Path.{_≡_, refl, subst, _∙_}
 use native.Mathlib.Nat.{mul-comm}

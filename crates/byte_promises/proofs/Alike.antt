@@ -23,11 +23,11 @@ use Rattle.draw.specs.Draw.{Shows, showing}
 use Rattle.draw.proofs.Like.{draw-kept, draw-kept-record, draw-front}
 use Rattle.profile.specs.Profile.{profileRows}
 use Rattle.profile.proofs.Profile.{profile-kept}
-use Rattle.byte_film.specs.Bytes.{bytePrepareRows, byteEnhanceRows, bytePrepareOf, byteEnhanceOf}
+use Rattle.byte_film.specs.Bytes.{bytePrepareOf, byteEnhanceOf}
 use Rattle.byte_film.proofs.Tables.{rows-enough}
 use Rattle.byte_film.proofs.Parts.{bytes-outside}
 use Rattle.byte_film.proofs.Endings.{prepare-inside, enhance-inside}
-use Rattle.byte_draw.specs.Bytes.{byteDrawRows, byteDrawOf}
+use Rattle.byte_draw.specs.Bytes.{byteDrawOf}
 use Rattle.byte_draw.proofs.Parts.{draw-outside}
 use Rattle.promises.proofs.Runs.{PrepareCall, prepare-read, EnhanceCall, enhance-read, DrawCall, draw-read}
 use Rattle.byte_promises.proofs.Inside.{prepare-bytes-table, enhance-bytes-table, draw-bytes-table, draw-inside}

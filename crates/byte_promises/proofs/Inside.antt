@@ -26,7 +26,7 @@ use Rattle.byte_film.specs.Bytes.{bytePrepareRows, byteEnhanceRows, bytePrepare
 use Rattle.byte_film.proofs.Tables.{bytes-profile, enhance-profile}
 use Rattle.byte_film.proofs.Endings.{prepare-inside, enhance-inside}
 use Rattle.byte_draw.specs.Bytes.{byteDrawRows, byteDrawOf}
-use Rattle.promises.proofs.Accepted.{ByTable, table-accepted, table-done}
+use Rattle.promises.proofs.Accepted.{ByTable, table-accepted}
 
 -- ---- prepare and enhance
 

@@ -19,7 +19,7 @@ use Rattle.tally.specs.Tally.{greysOf}
 use Rattle.render.specs.Render.{renderOf, rectOf, whole}
 use Rattle.render.proofs.Laws.{render-within}
 use Rattle.tiles.specs.Tiles.{mappings, Work, TilesAsk}
-use Rattle.prepare.specs.Prepare.{prepareRows, enhanceRows, Ended, ending, preparedOf, prepareOf, Over, enhancedOf, enhanceOf}
+use Rattle.prepare.specs.Prepare.{prepareRows, enhanceRows, Ended, preparedOf, prepareOf, Over, enhancedOf, enhanceOf}
 use Rattle.prepare.proofs.Table.{work, over-work}
 use Rattle.tiles.proofs.Films.{mappings-within}
 use Rattle.prepare.proofs.Renders.{whole-shown, laid-mapped, laid-render}

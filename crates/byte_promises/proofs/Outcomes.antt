@@ -1,10 +1,10 @@
 -- The byte calls, demand 1 and how tight their promises are: what each answer says, that a refusal keeps all lent memory, that two runs of the same end the same, that 13, 14
 -- and 18 are never given, nor 32 by enhance, and that outside the profile there is 30 or an earlier number. Of every run by the contracts (Runs); a name with ′ is lent memory at the end.
 -- Assumes nothing.
-use Prim.Native.Nat.{ℕ, zero, suc}
+use Prim.Native.Nat.{ℕ}
 use mathlib.Core.Bool.{cond}
 use mathlib.Core.Logic.{_≢_}
-use mathlib.Core.Path.{_≡_, refl, sym, ap, _∙_}
+use mathlib.Core.Path.{_≡_, sym, ap, _∙_}
 use lib.Dec.{eqb}
 use lib.ListN.{length}
 use Rattle.refuse.specs.Refuse.{first, refused, says}

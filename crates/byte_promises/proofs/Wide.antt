@@ -1,14 +1,13 @@
 -- Order 1: "Widening the film, running the present rules and narrowing again must give the same picture and mappings": the way over the wide calls, of every run of widen, the wide
 -- call and narrow by their contracts (Runs), each handed what the one before left. What narrow asks is met.
 -- Assumes nothing.
-use Prim.Native.Nat.{ℕ, _≤_}
-use mathlib.Core.Bool.{Bool, true, false, cond}
-use mathlib.Core.List.{List, _++_}
+use Prim.Native.Nat.{ℕ}
+use mathlib.Core.Bool.{true}
+use mathlib.Core.List.{List}
 use mathlib.Core.Path.{_≡_, refl, sym, ap, _∙_}
 use native.Mathlib.Nat.{le-of-eq}
-use native.Mathlib.Omega.{arith}
 use lib.ListN.{length}
-use Rattle.lists.specs.Lists.{onto, all}
+use Rattle.lists.specs.Lists.{all}
 use Rattle.lists.proofs.Maps.{onto-whole}
 use Rattle.refuse.specs.Refuse.{first}
 use Rattle.prepare.specs.Prepare.{ending, Ended, prepareOf, overing, Over, enhanceOf}

@@ -1,9 +1,9 @@
 -- What the clipped counts are: as many as the counts, adding up to the same, none above the limit, each with its even share or at the limit. How many looks they took at most.
 -- Assumes nothing.
-use Prim.Native.Nat.{ℕ, zero, suc, _+_, _-_, _*_, _≤_, _<_, min}
-use mathlib.Core.List.{List, [], _∷_, map}
+use Prim.Native.Nat.{ℕ, _+_, _*_, _≤_, _<_}
+use mathlib.Core.List.{List, map}
 use mathlib.Core.Logic.{_⊎_, inl, inr}
-use mathlib.Core.Path.{_≡_, refl, sym, ap, _∙_}
+use mathlib.Core.Path.{_≡_, sym, ap, _∙_}
 use lib.ListN.{length, length-map, getD}
 use native.Mathlib.Nat.{mul-left-comm}
 use native.Mathlib.Omega.{arith}

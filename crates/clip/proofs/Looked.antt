@@ -5,7 +5,7 @@ use mathlib.Core.Bool.{Bool, true, false}
 use lib.Dec.{ltb}
 use mathlib.Core.List.{List, [], _∷_}
 use mathlib.Core.Logic.{_⊎_, inl, inr}
-use mathlib.Core.Path.{_≡_, refl, sym, ap, ap₂, _∙_}
+use mathlib.Core.Path.{_≡_, refl, sym, ap, _∙_}
 use lib.Arith.{digits-div}
 use lib.ListN.{length, getD, set}
 use native.Mathlib.Nat.{not-suc-le-zero, le-of-suc-le-suc, le-refl, div-eq-of-lt, add-div-right, div-le-self, div-add-mod', mod-lt, mod-le, suc-mul, zero-mul, mul-suc, mul-zero, mul-add, mul-one, mul-le-mul, le-of-lt}

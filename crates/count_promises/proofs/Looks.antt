@@ -13,9 +13,9 @@ use Rattle.limit.specs.declared.Clip.the-variants.{Off}
 use Rattle.limit.specs.declared.Edition.the-variants.{Ours, Of1986}
 use Rattle.settings.specs.declared.MapRecord.{MapRecord}
 use Rattle.settings.specs.declared.Footer.{Footer}
-use Rattle.settings.specs.Settings.{binsOf, clipOne}
+use Rattle.settings.specs.Settings.{clipOne}
 use Rattle.tiles.specs.Tiles.{spentEntries}
-use Rattle.prepare.specs.Prepare.{preparedSays, Ended, prepareOf}
+use Rattle.prepare.specs.Prepare.{preparedSays, Ended}
 use Rattle.counting.specs.Counting.{countsIn}
 use Rattle.counts.specs.Counts.{spentFrom, spentsFrom, mapDoneOf, ListAsks}
 use Rattle.counts.proofs.Tables.{map-ready}

@@ -1,7 +1,7 @@
 -- Order 10 of the plain engine: two films that are alike for a pixel show the same grey there, and a scratch alters nothing beyond the neighbouring tiles' centres.
 -- Of every run of the calls by their contracts; a name with ′ is lent memory at the end, or the second film's.
 -- Assumes nothing.
-use Prim.Native.Nat.{ℕ, _+_, _*_, _<_}
+use Prim.Native.Nat.{ℕ, _<_}
 use mathlib.Core.Path.{_≡_, sym, ap, _∙_}
 use lib.ListN.{length}
 use Rattle.refuse.specs.Refuse.{first, accepted}

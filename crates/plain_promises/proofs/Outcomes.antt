@@ -15,7 +15,7 @@ use Rattle.raster.specs.Raster.{headRows, Within}
 use Rattle.pgm.specs.declared.Sizes.{Sizes}
 use Rattle.pgm.specs.declared.Sizes.the-variants as Sizes
 use Rattle.pgm.specs.Pgm.{sizesSays}
-use Rattle.pgm_write.specs.Write.{pictureRows, writtenSays, Wrote, writtenOf}
+use Rattle.pgm_write.specs.Write.{pictureRows, writtenSays, Wrote}
 use Rattle.plain.specs.Plain.{plainHeadOf, greysFrom}
 use Rattle.plain.specs.Grammar.{PlainHeader, PlainHash, PlainFile}
 use Rattle.plain.proofs.Heads.{head-complete, plain-hash-exactly, plain-refused-number, plain-other-exactly}

@@ -1,19 +1,16 @@
 -- What an answer tells, in document 01's terms: a refusal which row of its table was met, and that all memory stayed; that all is done, that no row was.
 -- Assumes nothing.
 use Prim.Native.Nat.{ℕ, zero, suc, _<_}
-use mathlib.Core.Bool.{cond}
 use mathlib.Core.List.{List}
 use mathlib.Core.Path.{_≡_, refl, sym, ap, _∙_}
 use native.Mathlib.Omega.{arith}
 use lib.ListN.{length}
 use Rattle.refuse.specs.Refuse.{first, Says, accepted, refused, says}
-use Rattle.tally.specs.Tally.{greysOf}
 use Rattle.settings.specs.declared.Settings.{Settings}
 use Rattle.settings.specs.declared.MapRecord.{MapRecord}
 use Rattle.settings.specs.declared.Footer.{Footer}
 use Rattle.settings.specs.declared.Window.{Window}
-use Rattle.settings.specs.Settings.{binsOf, recordOf, clipOne}
-use Rattle.render.specs.Render.{renderOf, rectOf}
+use Rattle.settings.specs.Settings.{recordOf}
 use Rattle.prepare.specs.declared.Enhanced.the-variants as Enhanced
 use Rattle.tiles.specs.Tiles.{footOf, Work}
 use Rattle.prepare.specs.Prepare.{preparedNot, enhanceRows, prepareRows, preparedSays, enhancedSays, Ended, ending, preparedOf, prepareOf, Over, overing, enhancedOf, enhanceOf}

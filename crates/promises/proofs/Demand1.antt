@@ -7,7 +7,7 @@ use lib.ListN.{length}
 use Rattle.refuse.specs.Refuse.{first, accepted, refused, says}
 use Rattle.settings.specs.declared.MapRecord.{MapRecord}
 use Rattle.settings.specs.declared.Footer.{Footer}
-use Rattle.settings.specs.Settings.{binsOf, recordOf}
+use Rattle.settings.specs.Settings.{recordOf}
 use Rattle.tiles.specs.Tiles.{footOf}
 use Rattle.prepare.specs.Prepare.{enhanceRows, prepareRows, preparedSays, enhancedSays, Ended, prepareOf, Over, enhanceOf}
 use Rattle.draw.specs.Draw.{drawRows, drawnSays, Shows}

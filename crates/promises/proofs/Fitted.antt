@@ -16,7 +16,6 @@ use Rattle.refuse.specs.Refuse.{accepted}
 use Rattle.grid.specs.Grid.{edgeOf, sizeOf, centreOf, Fits}
 use Rattle.grid.proofs.Edges.{edge-fitted, size-fitted, centre-fitted}
 use Rattle.tally.specs.declared.Rect.{Rect}
-use Rattle.blend.specs.declared.Place.{Place}
 use Rattle.blend.specs.Blend.{alone, placeOf}
 use Rattle.blend.proofs.Places.{place-first, place-between, place-last}
 use Rattle.settings.specs.declared.Settings.{Settings}

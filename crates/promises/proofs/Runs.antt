@@ -6,7 +6,6 @@ use Prim.Native.Nat.{ℕ, _+_}
 use mathlib.Core.List.{List}
 use mathlib.Core.Path.{_≡_}
 use denote.Ref.{now, ptr}
-use lib.Ieee.{Float}
 use lib.ListN.{take}
 use Rattle.refuse.specs.Run.{Run, Ran}
 use Rattle.limit.specs.declared.Clip.{Clip}

@@ -16,7 +16,6 @@ use Rattle.limit.specs.Limit.{isOne, AboveOne, flooredOf, limitOf, usedOf}
 use Rattle.clip.specs.Clip.{share}
 use Rattle.scan.specs.Scan.{within}
 use Rattle.binning.specs.Binning.{binOf}
-use Rattle.tally.specs.declared.Rect.{Rect}
 use Rattle.tally.specs.Tally.{greysOf}
 use Rattle.tile.specs.Tile.{mappedOf, tileCounts, tileDivides}
 use Rattle.settings.specs.declared.Settings.{Settings}

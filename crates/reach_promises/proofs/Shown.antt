@@ -1,6 +1,6 @@
 -- What each call leaves of a pixel of an accepted film: the grey of `rule: shownGrey`, by the rule, and the film's own at the factor 1.0.
 -- Assumes nothing.
-use Prim.Native.Nat.{ℕ, _+_, _*_, _≤_, _<_}
+use Prim.Native.Nat.{ℕ, _+_, _*_, _<_}
 use mathlib.Core.Path.{_≡_, ap}
 use native.Mathlib.Omega.{arith}
 use lib.ListN.{getD}

@@ -4,7 +4,7 @@
 use Prim.Native.Nat.{ℕ, zero, suc, _+_, _-_, _*_, _≤_, _<_}
 use mathlib.Core.Bool.{Bool, true, false, cond}
 use mathlib.Core.List.{List, [], _∷_, _++_, map}
-use mathlib.Core.Path.{_≡_, refl, sym, ap, ap₂, subst, _∙_}
+use mathlib.Core.Path.{_≡_, refl, sym, ap, subst, _∙_}
 use native.Mathlib.Omega.{arith}
 use native.Mathlib.Numerals.{add-one}
 use lib.Dec.{eqb}
@@ -26,8 +26,6 @@ use Rattle.sets.specs.Sets.{held, spanOf, twice, before, withSet, withoutSet, m
 use Rattle.sets.proofs.Laid.{Laid, spans, laid-room, laid-front, laid-more, laid-less, less, past, later}
 use Rattle.sets.proofs.Moves.{moved-over}
 use Rattle.sets.proofs.Holds.{length-held, held-more, twice-more, held-less, twice-less, before-cons, span-map}
-use Rattle.room.specs.declared.Stored.the-variants as Stored
-use Rattle.room.specs.declared.Dropped.the-variants as Dropped
 use Rattle.room.specs.Room.{storeRows, Keeps, storedOf, storeOf, dropRows, droppedOf, dropOf}
 use Rattle.room.proofs.Stores.{Storing, storing}
 use Rattle.room.proofs.Drops.{dropping}

@@ -2,7 +2,7 @@
 -- alters nothing beyond the centres of the tiles beside its own. The other film may be rendered from another room, or by any of the ways of `reach_promises`.
 -- Of every run of the calls by their contracts (Runs); a name with ′ is lent memory at the end, or the second film's.
 -- Assumes nothing.
-use Prim.Native.Nat.{ℕ, _+_, _*_, _<_}
+use Prim.Native.Nat.{ℕ, _+_, _<_}
 use mathlib.Core.Path.{_≡_, sym, ap₂, _∙_}
 use native.Mathlib.Omega.{arith}
 use Rattle.refuse.specs.Refuse.{accepted}

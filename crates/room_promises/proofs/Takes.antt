@@ -11,14 +11,12 @@ use lib.Seq.{drop-at, length-take-le}
 use Rattle.lists.specs.Lists.{onto}
 use Rattle.lists.proofs.Fills.{take-onto}
 use Rattle.refuse.specs.Refuse.{first, accepted, says}
-use Rattle.settings.specs.declared.Settings.{Settings}
 use Rattle.settings.specs.declared.Footer.{Footer}
 use Rattle.settings.specs.Settings.{entriesOf, clipOne}
 use Rattle.settings.proofs.Like.{bins-kept}
 use Rattle.tiles.specs.Tiles.{footOf, mappings}
 use Rattle.tiles.proofs.Films.{length-mappings}
 use Rattle.prepare.specs.Prepare.{prepareRows, preparedOf}
-use Rattle.sets.specs.declared.Set.{Set}
 use Rattle.sets.specs.declared.Room.{Room}
 use Rattle.sets.specs.Sets.{setFor, held, sizeOf, spanOf, among, before, setOf}
 use Rattle.sets.proofs.Laid.{less}

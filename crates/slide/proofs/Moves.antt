@@ -1,11 +1,11 @@
 -- "Moving one pixel right drops one column of counts and adds another": this gives a fresh region's counts.
 -- Assumes nothing.
-use Prim.Native.Nat.{ℕ, zero, suc, _+_, _-_, _*_, _/_, _≤_, _<_, min}
+use Prim.Native.Nat.{ℕ, zero, suc, _+_, _-_, _*_, _≤_, _<_}
 use mathlib.Core.List.{List, map, _++_}
-use mathlib.Core.Path.{_≡_, refl, sym, ap, ap₂, _∙_}
+use mathlib.Core.Path.{_≡_, refl, sym, ap, _∙_}
 use native.Mathlib.Omega.{arith}
-use lib.ListN.{length, getD}
-use Rattle.lists.specs.Lists.{tab, joined, times, filled, onto}
+use lib.ListN.{getD}
+use Rattle.lists.specs.Lists.{tab, joined, times, filled}
 use Rattle.lists.proofs.Tabs.{tab-cong, map-append, length-tab, getD-tab}
 use Rattle.lists.proofs.Maps.{onto-whole}
 use Rattle.lists.proofs.Steps.{tab-parts}

@@ -1,13 +1,12 @@
 -- Where a region lies in its film, and what it loses as it moves right.
 -- Assumes nothing.
 use Prim.Native.Nat.{ℕ, zero, suc, _+_, _-_, _*_, _/_, _≤_, _<_, min}
-use mathlib.Core.Bool.{true}
 use mathlib.Core.List.{List, [], _++_, map}
 use mathlib.Core.Path.{_≡_, refl, sym, ap, ap₂, _∙_}
 use native.Mathlib.Nat.{mul-comm, mul-le-mul-right, mul-le-mul}
 use native.Mathlib.Omega.{arith}
 use lib.ListN.{length, drop, getD, length-map}
-use Rattle.lists.specs.Lists.{tab, joined, times, all}
+use Rattle.lists.specs.Lists.{tab, joined, times}
 use Rattle.scan.specs.Scan.{within}
 use Rattle.binning.specs.Binning.{binOf}
 use Rattle.tally.specs.declared.Rect.{Rect}

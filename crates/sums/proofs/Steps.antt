@@ -10,16 +10,16 @@ use borrow.Author.Tests.{ltb-true, ltb-false, eq-eqb, ne-eqb}
 use native.Mathlib.Nat.{mul-le-mul}
 use native.Mathlib.Numerals.{add-one}
 use native.Mathlib.Omega.{arith}
-use Rattle.lists.specs.Lists.{tab, filled}
+use Rattle.lists.specs.Lists.{filled}
 use Rattle.lists.proofs.Fills.{filled-step, filled-end}
 use Rattle.lists.proofs.Windows.{getD-behind, filled-whole}
 use Rattle.blend.specs.declared.Place.{Place}
-use Rattle.blend.specs.Blend.{pairOf, sidesOf, greyOf, Sound, moved}
+use Rattle.blend.specs.Blend.{pairOf, Sound, moved}
 use Rattle.blend.proofs.Laws.{moved-sound, pair-most, side-small, sides-weighed, sides-most, sides-grey}
 use Rattle.blend.proofs.Moves.{left-holds, sum-moves, sides-are}
 use Rattle.sums.specs.declared.Ends.{Ends}
 use Rattle.sums.specs.declared.Sum.{Sum}
-use Rattle.sums.specs.Sums.{blendedAt, blendedRun, sideAt, likeBefore, movedTo, movedIn, Ended, Tiles, Stands, PixelAsks, RunAsks, Within}
+use Rattle.sums.specs.Sums.{blendedAt, blendedRun, sideAt, likeBefore, movedTo, movedIn, Ended, Stands, PixelAsks, RunAsks, Within}
 
 -- ---- the least and the greatest
 

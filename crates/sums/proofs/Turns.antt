@@ -6,7 +6,7 @@ use mathlib.Core.Path.{_≡_, refl, sym, ap, ap₂, _∙_}
 use lib.ListN.{length, getD, set}
 use native.Mathlib.Nat.{div-le-of-le-mul, mul-comm, mul-assoc, one-mul, mul-le-mul, mul-le-mul-left, mul-le-mul-right}
 use native.Mathlib.Omega.{arith}
-use Rattle.lists.specs.Lists.{tab, filled}
+use Rattle.lists.specs.Lists.{filled}
 use Rattle.lists.proofs.Tabs.{tab-cong}
 use Rattle.lists.proofs.Fills.{filled-step, length-filled}
 use Rattle.lists.proofs.Puts.{put, put-from}
@@ -14,11 +14,11 @@ use Rattle.lists.proofs.Windows.{getD-behind, filled-whole}
 use Rattle.lists.proofs.Tallies.{getD-filled}
 use Rattle.lists.proofs.Inverses.{by-inverse}
 use Rattle.blend.specs.declared.Place.{Place}
-use Rattle.blend.specs.Blend.{pairOf, sidesOf, greyOf, Sound, moved}
+use Rattle.blend.specs.Blend.{sidesOf, moved}
 use Rattle.blend.proofs.Laws.{mean-most, sides-grey}
 use Rattle.weave.specs.Weave.{patchOf}
 use Rattle.weave.proofs.Patches.{patch-read, patch-next, patch-end, patch-none, patch-fills}
-use Rattle.sums.specs.Sums.{blendedAt, blendedRun, sideAt, startOf, stepOf, entryOf, sumAt, movedAt, movedBy, movedRun, Tiles, Scaled, Moves, MoveAsks, RunAsks, Within}
+use Rattle.sums.specs.Sums.{blendedAt, blendedRun, sideAt, startOf, stepOf, entryOf, sumAt, movedAt, movedBy, movedRun, Scaled, Moves, MoveAsks, RunAsks, Within}
 use Rattle.sums.proofs.Tables.{entry-start, entry-step, pair-fits, sum-moved}
 
 -- ---- patches

@@ -1,7 +1,7 @@
 -- Document 01, "From pixels to mappings", rule 1: the counts of a rectangle of a picture.
 -- lo and hi are Min and Max, b the bins B. A picture is a list of greys, row by row.
 -- Assumes nothing.
-use Prim.Native.Nat.{ℕ, _+_, _-_, _*_, _/_, _≤_, _<_}
+use Prim.Native.Nat.{ℕ, _+_, _-_, _*_, _≤_, _<_}
 use mathlib.Core.Bool.{true}
 use mathlib.Core.List.{List, map}
 use mathlib.Core.Path.{_≡_}

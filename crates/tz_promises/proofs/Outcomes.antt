@@ -3,7 +3,7 @@
 -- Of every run of the calls by their contracts (Runs); a name with ′ is lent memory at the end.
 -- A float's cell is told up to the float in it, as of the wide calls.
 -- Assumes nothing.
-use Prim.Native.Nat.{ℕ, _<_}
+use Prim.Native.Nat.{_<_}
 use mathlib.Core.Path.{_≡_, refl, sym, ap, _∙_}
 use Rattle.prepare.specs.Prepare.{preparedSays, preparedOf, enhancedSays, enhancedOf}
 use Rattle.counting.specs.Counting.{countedSays, countOf}

@@ -15,7 +15,6 @@ use Rattle.weave.specs.Weave.{patchOf, oneBin, steadyAt, Stretch}
 use Rattle.weave.proofs.Patches.{patch-read, patch-next, patch-same, patch-fills}
 use Rattle.weave.proofs.Stretches.{one-bin-same}
 use Rattle.settings.specs.declared.Settings.{Settings}
-use Rattle.settings.specs.Settings.{binsOf}
 use Rattle.weigh.specs.Weigh.{cornersOf, sideOf, weighedRun, cornersAt, CornerAsks, WeighPartAsks, WeighAsks}
 use Rattle.weigh.proofs.Pixels.{corners-small, corners-sides}
 

@@ -1,6 +1,5 @@
 -- `looks_behind` gives the looks at each step-th bin from a place on.
 -- Assumes nothing.
-use native.Mathlib.Omega.{arith}
 use borrow.Author.Needs.{needs}
 use Rattle.clip.proofs.Looked.{apart-none}
 use Rattle.clip.proofs.looks_behind.Statement.{statement}

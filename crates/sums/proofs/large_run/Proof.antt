@@ -2,7 +2,6 @@
 -- Assumes nothing.
 use Prim.Native.Nat.{_*_}
 use mathlib.Core.Path.{refl}
-use native.Mathlib.Omega.{arith}
 use Rattle.sums.proofs.Tables.{none-scaled}
 use Rattle.sums.proofs.Turns.{none-divides, table-length, run-asks, run-blended, run-sums}
 use borrow.Author.Needs.{needs}

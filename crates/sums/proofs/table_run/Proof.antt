@@ -1,6 +1,6 @@
 -- `sums::table_run` meets its contract: a factor of 2^50 stands in the table.
 -- Assumes nothing.
-use Prim.Native.Nat.{_*_, _/_}
+use Prim.Native.Nat.{_*_}
 use native.Mathlib.Nat.{div-le-self}
 use native.Mathlib.Omega.{arith}
 use Rattle.blend.proofs.Laws.{spans-some}
