@@ -1,7 +1,8 @@
 """Holds the papers to the repository. PROMISES.md: each theorem and definition that it names stands in the module that it
-names, each function is there, and each must-fail edit is named. RULES.md and CHANGING.md: what they name as `crate: name`
-stands in that crate. crates.txt: each crate names what it uses itself. Must-fail edits: what each replaces stands once.
-A program over the calls for C has the rows and the stored text of the one over the calls themselves.
+names, each function is there, and each must-fail edit is named. All papers but the notes of landings, which tell of the tree
+as it was: what they have in backticks as `crate: name`, `crate::function`, `crate/edit`, a path or a single word is there,
+and so is each page that they link to. crates.txt: each crate names what it uses itself. Must-fail edits: what each replaces
+stands once. A program over the calls for C has the rows and the stored text of the one over the calls themselves.
 
 Run: python3 -B docs/check.py
 """
@@ -15,6 +16,10 @@ TOP = os.path.dirname(os.path.dirname(os.path.abspath(__file__)))
 STATED = re.compile(r"^ *(?:(?:pub|unfoldable|abbrev|record|data) )*([^\s:(){}]+)(?: \([^)]*\)| \{[^}]*\})* :\s", re.M)
 # a part of a cell: a crate's name may stand before the module's, and the module's before its names
 PART = re.compile(r"^(?:`(?P<crate>\w+)` )?(?P<module>[A-Z]\w*): ")
+
+# words in backticks that are other people's: packages, instructions of a processor, a browser's file names
+OUTSIDE = {"qemu-user", "chromium-driver", "python3-selenium", "side31", "tool-ID"}
+OUTSIDE.update({"paddd", "pmulhuw", "pmullw", "pmuludq", "psubusw"})
 
 # a crate that holds a value of another's type without naming anything of it
 REACHED = {"listing_program": {"pgm_write"}, "draw": {"limit"}, "byte_draw": {"limit"}}
@@ -43,12 +48,12 @@ def modules():
 
 
 def functions():
-    """The functions of each crate, by their own names and with the crate's before it."""
+    """The functions of each crate, by their own names and with the crate's before it, and with their module's between."""
     found = set()
     for path in glob.glob(TOP + "/crates/*/src/*.rt"):
-        crate = path.split("/")[-3]
-        for name in re.findall(r'^(?:pub )?(?:extern "C" )?fn (\w+)', read(path), re.M):
-            found.update([name, f"{crate}::{name}"])
+        crate, module = path.split("/")[-3], os.path.basename(path)[:-len(".rt")]
+        for name in re.findall(r'^ *(?:pub(?:\(crate\))? )?(?:extern "C" )?fn (\w+)', read(path), re.M):
+            found.update([name, f"{crate}::{name}", f"{crate}::{module}::{name}"])
     return found
 
 
@@ -65,16 +70,58 @@ def missing(part, stated, known):
             if not any(name in own for own in where.values())]
 
 
+def tree():
+    """The paths of the repository's files, without what is built."""
+    for folder, inner, files in os.walk(TOP):
+        inner[:] = [name for name in inner if name not in (".git", "target", "__pycache__")]
+        for name in files:
+            yield os.path.relpath(os.path.join(folder, name), TOP)
+
+
+def words(paths):
+    """Each word that stands in a file which is no paper, no picture and no stored text, and the name of each file and folder."""
+    found = set(OUTSIDE)
+    for path in paths:
+        for part in path.split("/"):
+            found.update([part, part.split(".")[0]])
+        if not path.endswith((".md", ".png", ".pgm", "stdin", "stdout")):
+            with open(os.path.join(TOP, path), encoding="utf-8", errors="ignore") as text:
+                found.update(re.findall(r"[\w′-]+", text.read()))
+    return found
+
+
+def there(quoted, own, calls, known):
+    """Whether the tree has what a paper has in backticks, as far as that is a name or a path; capitals stand for any name."""
+    said = re.fullmatch(r"([a-z_0-9]+): (\S+)", quoted)
+    if said:
+        return said[2] in own.get(said[1], ()) or f"{said[1]}::{said[2]}" in calls
+    if re.fullmatch(r"[a-z_0-9]+(::[a-z_0-9]+)+", quoted):
+        return quoted in calls
+    if re.fullmatch(r"[A-Za-z_][\w′-]*", quoted):
+        return quoted in known
+    path = quoted.split(" ")[0]
+    first, slash, rest = path.partition("/")
+    if slash and first in own:
+        return os.path.exists(f"{TOP}/crates/{first}/must-fail/{rest}.edit")
+    if slash and first not in ("", ".", "target") and os.path.exists(f"{TOP}/{first}"):
+        return bool(glob.glob(f"{TOP}/" + re.sub(r"\b[A-Z]{2,}\b", "*", path)))
+    return True
+
+
 def papers(stated):
-    """What RULES.md and CHANGING.md name as `crate: name` and is not there."""
-    own = {}
-    for (crate, _), names in stated.items():
-        own.setdefault(crate, set()).update(names)
-    calls = functions()
-    return [f"{paper}: {crate}: {name} is not there"
-            for paper in ("RULES.md", "CHANGING.md")
-            for crate, name in re.findall(r"`([a-z_]+): ([^`]+)`", read("docs/" + paper))
-            if name not in own.get(crate, ()) and f"{crate}::{name}" not in calls]
+    """What the papers name, or link to, and is not there; the notes of landings tell of the tree as it was."""
+    own = {os.path.basename(path): set() for path in glob.glob(TOP + "/crates/*")}
+    for (crate, module), names in stated.items():
+        own[crate].update(names, [module])
+    paths, calls, faults = list(tree()), functions(), []
+    known = words(paths)
+    for paper in sorted(path for path in paths if path.endswith(".md") and "landings" not in path):
+        text, folder = read(paper), os.path.dirname(paper)
+        faults += [f"{paper}: {name} is named and is not there"
+                   for name in sorted(set(re.findall(r"`([^`\n]+)`", text))) if not there(name, own, calls, known)]
+        faults += [f"{paper}: {page} is linked to and is not there"
+                   for page in sorted(set(re.findall(r"\]\(([^)#:]+)[)#]", text))) if not os.path.exists(os.path.join(TOP, folder, page))]
+    return faults
 
 
 def uses(crate):
