@@ -79,12 +79,12 @@ def tree():
 
 
 def words(paths):
-    """Each word that stands in a file which is no paper, no picture and no stored text, and the name of each file and folder."""
+    """Each word of the files that are no papers, pictures or stored texts, and the name of each file and folder."""
     found = set(OUTSIDE)
     for path in paths:
         for part in path.split("/"):
             found.update([part, part.split(".")[0]])
-        if not path.endswith((".md", ".png", ".pgm", "stdin", "stdout")):
+        if not path.endswith((".md", ".txt", ".png", ".pgm", "stdin", "stdout")):
             with open(os.path.join(TOP, path), encoding="utf-8", errors="ignore") as text:
                 found.update(re.findall(r"[\w′-]+", text.read()))
     return found
