@@ -1,8 +1,9 @@
 """Holds the papers to the repository. PROMISES.md: each theorem and definition that it names stands in the module that it
-names, each function is there, and each must-fail edit is named. All papers but the notes of landings, which tell of the tree
-as it was: what they have in backticks as `crate: name`, `crate::function`, `crate/edit`, a path or a single word is there,
-and so is each page that they link to. crates.txt: each crate names what it uses itself. Must-fail edits: what each replaces
-stands once. A program over the calls for C has the rows and the stored text of the one over the calls themselves.
+names, each function is there, each must-fail edit is named, and no row is longer than a screen. All papers but the notes of
+landings, which tell of the tree as it was: what they have in backticks as `crate: name`, `crate::function`, `crate/edit`, a
+path or a single word is there, and so is each page that they link to. crates.txt: each crate names what it uses itself.
+Must-fail edits: what each replaces stands once. A program over the calls for C has the rows and the stored text of the one
+over the calls themselves.
 
 Run: python3 -B docs/check.py
 """
@@ -177,7 +178,8 @@ def calls():
 def main():
     """Says what is named and not there, and what is there and not named."""
     edits = {f"{path.split('/')[-3]}/{os.path.basename(path)[:-len('.edit')]}" for path in glob.glob(TOP + "/crates/*/must-fail/*.edit")}
-    rows = [[cell.strip() for cell in line.split("|")] for line in read("docs/PROMISES.md").split("\n") if line.startswith("| ")]
+    lines = [line for line in read("docs/PROMISES.md").split("\n") if line.startswith("| ")]
+    rows = [[cell.strip() for cell in line.split("|")] for line in lines]
     stated = modules()
     known = set().union(*stated.values(), functions(), {crate for crate, _ in stated})
     named = set(re.findall(r"`([^`]+/[^`]+)`", "\n".join(row[5] for row in rows)))
@@ -185,6 +187,7 @@ def main():
     faults = ["PROMISES.md: " + fault for part in parts for fault in missing(part, stated, known)]
     faults += [f"PROMISES.md: {name} is named and is no edit" for name in sorted(named - edits)]
     faults += [f"PROMISES.md: {name} is an edit and is not named" for name in sorted(edits - named)]
+    faults += [f"PROMISES.md: '{line[:40]}..' is a row of {len(line)} characters: part it" for line in lines if len(line) > 600]
     faults += papers(stated) + listed() + stale() + calls()
     for fault in faults:
         print(fault, file=sys.stderr)
