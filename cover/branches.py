@@ -11,8 +11,9 @@ import re
 import sys
 
 # What is not ours: the kit's libraries, the compiler's own, and the test programs themselves.
-OTHERS = ("libc", "io", "std", "check", "os", "text", "filmset", "films", "calls", "byte_set", "byte_films", "byte_calls", "count_set",
-          "count_films", "count_calls", "direct_films", "around_films", "listing_set", "numbers", "rattle-llvm-checks")
+OTHERS = ("libc", "io", "std", "check", "os", "rattle-llvm-checks", "text", "filmset", "byte_set", "count_set", "films", "calls",
+          "byte_films", "byte_calls", "count_films", "count_calls", "plain_films", "reach_films", "room_films", "direct_films",
+          "around_films", "listing_set", "numbers")
 
 # How many counters counts.c has room for.
 MOST = 100000
