@@ -17,6 +17,7 @@
 
 #include "calls.h"
 #include "film.h"
+#include "products.h"
 
 #define GRID 8u
 #define BINS 128u
@@ -260,21 +261,22 @@ static void calls_table(const char *opencv)
 
 /* ---- bytes ---- */
 
-static void bytes_row(uint32_t side, const char *call, double bytes, double wide)
+static void bytes_row(uint32_t side, const char *call, double bytes, double wide, double opencv)
 {
     printf("| %4u | %-7s | %8.3f | %8.3f |", (unsigned)side, call, bytes, wide);
     ratio(bytes, wide);
+    ratio(bytes, opencv);
     printf("\n");
 }
 
-static void bytes_rows(uint32_t side)
+static void bytes_rows(uint32_t side, const char *opencv)
 {
     struct subject of = usual(NOISY, side, 8);
     struct result r = measure(&of, BYTES | ONE(ENHANCE) | ONE(PREPARE) | ONE(DRAW));
     const double *best = r.best;
-    bytes_row(side, "enhance", best[ENHANCE_BYTES] / r.pixels, best[ENHANCE] / r.pixels);
-    bytes_row(side, "prepare", best[PREPARE_BYTES] / r.pixels, best[PREPARE] / r.pixels);
-    bytes_row(side, "draw", best[DRAW_BYTES] / r.area, best[DRAW] / r.area);
+    bytes_row(side, "enhance", best[ENHANCE_BYTES] / r.pixels, best[ENHANCE] / r.pixels, time_of(opencv, &of, "bytes"));
+    bytes_row(side, "prepare", best[PREPARE_BYTES] / r.pixels, best[PREPARE] / r.pixels, 0);
+    bytes_row(side, "draw", best[DRAW_BYTES] / r.area, best[DRAW] / r.area, 0);
     fflush(stdout);
 }
 
@@ -288,13 +290,14 @@ static void memory_row(uint32_t side)
     printf("\n");
 }
 
-static void bytes_table(void)
+static void bytes_table(const char *opencv)
 {
     printf("\n### Bytes\n\n"
-           "The calls on bytes against the wide ones on the same noisy film of 8 bits, nanoseconds a pixel.\n\n");
-    printf("| side | call | bytes | wide | bytes of wide |\n|---|---|---|---|---|\n");
+           "The calls on bytes against the wide ones on the same noisy film of 8 bits, nanoseconds a pixel, and against OpenCV's\n"
+           "CLAHE at its own 8 bits.\n\n");
+    printf("| side | call | bytes | wide | bytes of wide | of OpenCV's 8 bits |\n|---|---|---|---|---|---|\n");
     for (size_t i = 0; i < MANY(sides); i++)
-        bytes_rows(sides[i]);
+        bytes_rows(sides[i], opencv);
     printf("\nWhat enhance wants lent, KiB: picture, map buffer and scratch.\n\n"
            "| side | bytes | wide | bytes of wide |\n|---|---|---|---|\n");
     for (size_t i = 0; i < MANY(sides); i++)
@@ -387,6 +390,90 @@ static void edition_table(void)
         for (size_t j = 0; j < MANY(plates); j++)
             for (size_t k = 0; k < MANY(bins); k++)
                 edition_row(plates[j], ends[i], bins[k]);
+}
+
+/* ---- an even film ---- */
+
+/* Made to be bad for rendering: no pixel has its neighbour's bin, and a run has more bins than tables pay for. */
+static void even_table(void)
+{
+    printf("\n### An even film\n\n"
+           "Each pixel has any grey of the range. Nanoseconds a pixel, 12 bits.\n\n");
+    printf("| side | film | bins | share | enhance | prepare | rendering | 1994 | enhance of 1994 |\n"
+           "|---|---|---|---|---|---|---|---|---|\n");
+    bins_row(EVEN, 512, 1024);
+    bins_row(EVEN, 4096, 1024);
+}
+
+/* ---- products ---- */
+
+/* The sample film, read by the library. */
+static uint16_t *sample_film(const char *path, tz_sizes *sizes)
+{
+    static uint8_t file[2 * 512 * 512 + 64];
+    tz_part part;
+    FILE *from = fopen(path, "rb");
+    size_t count = from == NULL ? 0 : fread(file, 1, sizeof file, from);
+    if (from == NULL || fclose(from) != 0 || tzofnadir_read_sizes(file, count, sizes) != TZ_DONE ||
+        tzofnadir_read_raster(file, count, &part) != TZ_DONE)
+        end("the sample film cannot be read", (long)count);
+    size_t pixels = (size_t)sizes->width * sizes->height;
+    uint16_t *film = calloc(pixels, sizeof *film);
+    if (film == NULL || tzofnadir_read_greys(file, count, part.start, sizes, film, pixels) != TZ_DONE)
+        end("the sample film has no greys", (long)pixels);
+    return film;
+}
+
+static void products_row(const char *name, struct weighed of, uint32_t bins)
+{
+    of.bins = bins;
+    struct products p = products_of(&of);
+    double pixels = (double)p.pixels;
+    printf("| %-6s | %4u by %-4u | %4u by %-4u | %4u |", name, (unsigned)of.width, (unsigned)of.height, (unsigned)of.wide,
+           (unsigned)of.high, (unsigned)bins);
+    printf(" %5.2f | %5.2f | %5.2f | %5.2f | %5.1f |\n", 6.0, (double)p.tables / pixels, (double)p.each / pixels,
+           (double)(p.tables + p.each) / pixels, 100 * (double)p.moved / pixels);
+}
+
+/* The whole film, or a window of 100 by 100 in its middle. */
+static void products_rows(const char *name, const uint16_t *film, uint32_t width, uint32_t height, int window)
+{
+    static const uint32_t bins[] = {64, 128, 256, 512, 1024, 2048, 4096};
+    struct weighed of = {film, width, height, 4096, GRID, 0, 0, 0, width, height};
+    if (window) {
+        of.left = width / 2 - 50;
+        of.top = height / 2 - 50;
+        of.wide = of.high = 100;
+    }
+    for (size_t i = 0; i < MANY(bins); i++)
+        products_row(name, of, bins[i]);
+}
+
+static void products_of_plate(enum kind kind, uint32_t side, int window)
+{
+    uint16_t *film = calloc((size_t)side * side, sizeof *film);
+    if (film == NULL)
+        end("no memory for a film of side", side);
+    film_draw(film, kind, side, side, 12);
+    products_rows(film_name(kind), film, side, side, window);
+    free(film);
+}
+
+static void products_table(void)
+{
+    tz_sizes sizes;
+    uint16_t *sample = sample_film("docs/weld.pgm", &sizes);
+    printf("\n### Weighted products\n\n"
+           "A pixel's own and those of the tables, 12 bits; the plain rule has six. Moved: percent of the pixels whose sum moves.\n\n");
+    printf("| film | sides | rendered | bins | plain | tables | pixels | both | moved |\n|---|---|---|---|---|---|---|---|---|\n");
+    for (int window = 0; window < 2; window++) {
+        products_rows("sample", sample, sizes.width, sizes.height, window);
+        products_of_plate(NOISY, 512, window);
+        products_of_plate(CALM, 512, window);
+        products_of_plate(NOISY, 4096, window);
+        products_of_plate(CALM, 4096, window);
+    }
+    free(sample);
 }
 
 /* ---- clipping near one ---- */
@@ -701,9 +788,11 @@ static void run(const char *opencv, const char *netpbm)
 {
     films_table();
     calls_table(opencv);
-    bytes_table();
+    bytes_table(opencv);
     comparison();
     bins_table();
+    even_table();
+    products_table();
     edition_table();
     near_one_table();
     counts_table();

@@ -82,11 +82,24 @@ static void draw_combed(uint16_t *film, uint32_t side)
     }
 }
 
+/* ---- even ---- */
+
+/* Any grey of the range at any pixel: no bin is like its neighbour's, and every run has nearly all bins. */
+static void draw_even(uint16_t *film, uint32_t width, uint32_t height, uint32_t bits)
+{
+    uint64_t state = 20 * height + bits;
+    for (size_t left = (size_t)width * height; left > 0; left--) {
+        state = state * 6364136223846793005u + 1442695040888963407u;
+        *film++ = (uint16_t)part(state, 52, bits == 8 ? 255 : 4095);
+    }
+}
+
 /* ---- all ---- */
 
 const char *film_name(enum kind kind)
 {
-    static const char *const names[KINDS] = {[NOISY] = "noisy", [CALM] = "calm", [COMBED] = "combed"};
+    static const char *const names[KINDS] = {[NOISY] = "noisy", [CALM] = "calm", [COMBED] = "combed",
+                                               [EVEN] = "even"};
     return names[kind];
 }
 
@@ -94,6 +107,8 @@ void film_draw(uint16_t *film, enum kind kind, uint32_t width, uint32_t height, 
 {
     if (kind == COMBED)
         draw_combed(film, width);
+    else if (kind == EVEN)
+        draw_even(film, width, height, bits);
     else
         draw_plate(film, kind, width, height, bits);
 }

@@ -4,7 +4,7 @@
 
 #include <stdint.h>
 
-enum kind { NOISY, CALM, COMBED, KINDS };
+enum kind { NOISY, CALM, COMBED, EVEN, KINDS };
 
 const char *film_name(enum kind kind);
 

@@ -1,9 +1,10 @@
 #!/usr/bin/env python3
-"""opencv.py FOLDER: times OpenCV's CLAHE on the films that `bench films FOLDER` wrote, on one thread, at 16 bits.
+"""opencv.py FOLDER: times OpenCV's CLAHE on the films that `bench films FOLDER` wrote, on one thread, at 16 bits, and films of 8
+bits at its own 8 bits too.
 
-Prints "SIDE BITS FILM enhance NS" a line, NS being nanoseconds a pixel of processor time: as in bench.c, the best of the second
-runs of several turns.
-The grid is 8 by 8 and the clip limit 3.0, as for all others; OpenCV uses 65536 bins at 16 bits.
+Prints "SIDE BITS FILM CALL NS" a line, CALL being `enhance` at 16 bits and `bytes` at 8, NS nanoseconds a pixel of processor time:
+as in bench.c, the best of the second runs of several turns.
+The grid is 8 by 8 and the clip limit 3.0, as for all others; OpenCV uses 65536 bins at 16 bits and 256 at 8.
 """
 import sys
 import time
@@ -35,8 +36,10 @@ def main():
     cv2.setNumThreads(1)
     for side, rounds in ((512, 100), (2048, 30), (4096, 15)):
         for bits, film in ((8, "noisy"), (12, "noisy"), (12, "calm")):
-            took = best(picture(sys.argv[1], side, bits, film), rounds)
-            print(side, bits, film, "enhance", took / side / side, flush=True)
+            greys = picture(sys.argv[1], side, bits, film)
+            print(side, bits, film, "enhance", best(greys, rounds) / side / side, flush=True)
+            if bits == 8:
+                print(side, bits, film, "bytes", best(greys.astype(numpy.uint8), rounds) / side / side, flush=True)
 
 
 if __name__ == "__main__":

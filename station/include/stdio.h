@@ -15,6 +15,7 @@ int fputs(const char *text, FILE *stream);
 int fflush(FILE *stream);
 FILE *fopen(const char *path, const char *mode);
 char *fgets(char *line, int room, FILE *stream);
+size_t fread(void *to, size_t size, size_t count, FILE *stream);
 size_t fwrite(const void *from, size_t size, size_t count, FILE *stream);
 int rename(const char *from, const char *to);
 #define RENAME_NOREPLACE 1u

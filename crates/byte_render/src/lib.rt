@@ -8,7 +8,7 @@ ghost use Rattle.byte_render.specs.Bytes.{ByteRowAsks, ByteAsks, FromAsk
 use settings::Settings;
 use settings::Window;
 
-// Renders bytes of row y in place, from column `left` on; the line and the pairs are room to work in.
+// Renders bytes of row y in place, from column `left` on; the line and the table are room to work in.
 fn byte_row(
     pixels: &mut [u8],
     left: u32,
@@ -18,18 +18,18 @@ fn byte_row(
     s: Settings,
     map: &[u16],
     line: &mut [u16],
-    pairs: &mut [u32],
+    table: &mut [u64],
 )
     requires { ⌜ ByteRowAsks width height s (now map) left y (now pixels) (length (now line)) ⌝ }
     ensures { λ _. ⌜ now (pixels .exit) ≡ rowOf width s (now (map .entry)) left (rowPlace height s y) (now (pixels .entry)) ⌝ }
 {
     let n = pixels.len();
     narrow::widen(pixels, line);
-    render::render_row(&mut line[..n], left, y, width, height, s, map, pairs);
+    render::render_row(&mut line[..n], left, y, width, height, s, map, table);
     narrow::narrow(&line[..n], pixels);
 }
 
-// Renders a window's bytes in place, row by row; the line and the pairs are room to work in.
+// Renders a window's bytes in place, row by row; the line and the table are room to work in.
 fn render(
     pixels: &mut [u8],
     win: Window,
@@ -38,7 +38,7 @@ fn render(
     s: Settings,
     map: &[u16],
     line: &mut [u16],
-    pairs: &mut [u32],
+    table: &mut [u64],
 )
     requires { ⌜ ByteAsks width height s (now map) win (now pixels) (length (now line)) ⌝ }
     ensures { λ _. ⌜ now (pixels .exit) ≡ renderOf width height s (now (map .entry)) win (now (pixels .entry)) ⌝ }
@@ -57,23 +57,23 @@ fn render(
             s,
             map,
             line,
-            pairs,
+            table,
         );
         j += 1;
     }
 }
 
-// Renders a window's bytes in place from a map buffer of bytes: owns the line, the wide mappings and the pairs.
+// Renders a window's bytes in place from a map buffer of bytes: owns the line, the wide mappings and the table, two entries for each of the at most 256 bins of bytes.
 pub fn render_from(pixels: &mut [u8], win: Window, width: u32, height: u32, s: Settings, map: &[u8])
     requires { ⌜ FromAsks width height s (now map) win (now pixels) ⌝ }
     ensures { λ _. ⌜ now (pixels .exit) ≡ renderOf width height s (now (map .entry)) win (now (pixels .entry)) ⌝ }
 {
     let mut line = [0u16; 4096];
     let mut wide = [0u16; 16384];
-    let mut pairs = [0u32; 8192];
+    let mut table = [0u64; 512];
     let entries = (s.across as usize) * (s.down as usize) * (settings::bins(s) as usize);
     narrow::widen(&map[..entries], &mut wide);
-    render(pixels, win, width, height, s, &wide, &mut line, &mut pairs);
+    render(pixels, win, width, height, s, &wide, &mut line, &mut table);
 }
 
 // Copies the window's bytes to the output, row by row.

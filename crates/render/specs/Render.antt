@@ -12,12 +12,11 @@ use Rattle.binning.specs.Binning.{binOf}
 use Rattle.tally.specs.declared.Rect.{Rect}
 use Rattle.grid.specs.Grid.{Fits}
 use Rattle.blend.specs.declared.Place.{Place}
-use Rattle.blend.specs.Blend.{placeOf, greyOf, Sound, moved, Run}
+use Rattle.blend.specs.Blend.{placeOf, greyOf, Sound, Run}
 use Rattle.settings.specs.declared.Settings.{Settings}
 use Rattle.settings.specs.declared.Window.{Window}
 use Rattle.settings.specs.Settings.{binsOf}
-use Rattle.weigh.specs.Weigh.{mappedAt, Maps}
-use Rattle.pairs.specs.Pairs.{wovenAt, Pairs}
+use Rattle.weigh.specs.Weigh.{mappedAt, cornersOf, Maps}
 use Rattle.render.specs.declared.Section.{Section}
 
 -- "With A, B', C, D the four tiles' mapped values (upper left, upper right, lower left, lower right) of the pixel's bin": v is the pixel's grey
@@ -46,15 +45,11 @@ renderedOf w h s m x y v = pixelOf s m (columnPlace w s x) (rowPlace h s y) v
 unfoldable pub rowOf : ℕ → Settings → List ℕ → ℕ → Place → List ℕ → List ℕ
 rowOf w s m left row vs = tab (length vs) (λ i. pixelOf s m (columnPlace w s (left + i)) row (getD vs i 0))
 
--- rendered pixels between the same tiles: vs are their greys, and the weights move along from the first one's place
-unfoldable pub runOf : Settings → List ℕ → Place → Place → List ℕ → List ℕ
-runOf s m column row vs = tab (length vs) (λ i. pixelOf s m (moved column i) row (getD vs i 0))
+-- ---- by bins
 
--- ---- by pairs
-
--- a row of pixels of bins ks from column `left` on, from the pairs of the row
-unfoldable pub wovenRow : ℕ → Settings → List ℕ → ℕ → Place → List ℕ → List ℕ
-wovenRow w s ps left row ks = tab (length ks) (λ i. wovenAt s ps (columnPlace w s (left + i)) row (getD ks i 0))
+-- a row of pixels of bins ks from column `left` on
+unfoldable pub weighedRow : ℕ → Settings → List ℕ → ℕ → Place → List ℕ → List ℕ
+weighedRow w s m left row ks = tab (length ks) (λ i. cornersOf s m (columnPlace w s (left + i)) row (getD ks i 0))
 
 -- ---- a window
 
@@ -93,14 +88,6 @@ pub record PixelAsks (s : Settings) (m : List ℕ) (atcolumn atrow : Place) (v :
   pub row : Sound (s .down) 2048 atrow
   pub grey : within (s .min) (s .max) v ≡ true
 
--- what `weigh_run` asks: as a pixel, of each grey, and no more pixels than the weight can move by
-pub record RunAsks (s : Settings) (m : List ℕ) (atcolumn atrow : Place) (vs : List ℕ) : Type 0 where
-  pub maps : Maps s m
-  pub column : Sound (s .across) 2048 atcolumn
-  pub row : Sound (s .down) 2048 atrow
-  pub room : length vs ≤ atcolumn .lowerweight
-  pub greys : all (within (s .min) (s .max)) vs ≡ true
-
 -- what a row asks: a place among the tiles, pixels inside the film from column `left` on, and greys from Min to Max
 pub record RowAsks (w : ℕ) (s : Settings) (m : List ℕ) (left : ℕ) (atrow : Place) (vs : List ℕ) : Type 0 where
   pub maps : Maps s m
@@ -116,9 +103,10 @@ pub record Sectioned (w grid left at n : ℕ) (r : Section) : Type 0 where
   pub end : r .end ≤ n
   pub run : Run w grid (left + at) (r .column) (r .end - at)
 
--- what `weave_row` asks: pixels inside the film from column `left` on, and bins
-pub record WeaveRowAsks (w : ℕ) (s : Settings) (ps : List ℕ) (left : ℕ) (atrow : Place) (ks : List ℕ) : Type 0 where
-  pub pairs : Pairs s ps atrow
+-- what `sum_row` asks: as a row, of bins
+pub record SumRowAsks (w : ℕ) (s : Settings) (m : List ℕ) (left : ℕ) (atrow : Place) (ks : List ℕ) : Type 0 where
+  pub maps : Maps s m
   pub columns : Fits w (s .across)
   pub across : left + length ks ≤ w
+  pub row : Sound (s .down) 2048 atrow
   pub bins : (i : ℕ) → i < length ks → getD ks i 0 < binsOf s

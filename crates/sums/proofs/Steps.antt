@@ -1,13 +1,13 @@
 -- A run pixel by pixel: the sum of each pixel, weighed or moved, how many moved, and the least and the greatest bin.
 -- Assumes nothing.
-use Prim.Native.Nat.{ℕ, zero, suc, _+_, _-_, _*_, _/_, _≤_, _<_, min, max}
+use Prim.Native.Nat.{ℕ, zero, suc, _+_, _-_, _*_, _/_, _%_, _≤_, _<_, min, max}
 use mathlib.Core.Bool.{Bool, true, false, cond}
 use mathlib.Core.List.{List}
 use mathlib.Core.Path.{_≡_, refl, sym, ap, ap₂, _∙_}
 use lib.Dec.{ltb, eqb}
 use lib.ListN.{length, getD, set}
 use borrow.Author.Tests.{ltb-true, ltb-false, eq-eqb, ne-eqb}
-use native.Mathlib.Nat.{mul-le-mul}
+use native.Mathlib.Nat.{mul-add, mul-left-comm, mul-le-mul}
 use native.Mathlib.Numerals.{add-one}
 use native.Mathlib.Omega.{arith}
 use Rattle.lists.specs.Lists.{filled}
@@ -15,7 +15,7 @@ use Rattle.lists.proofs.Fills.{filled-step, filled-end}
 use Rattle.lists.proofs.Windows.{getD-behind, filled-whole}
 use Rattle.blend.specs.declared.Place.{Place}
 use Rattle.blend.specs.Blend.{pairOf, Sound, moved}
-use Rattle.blend.proofs.Laws.{moved-sound, pair-most, side-small, sides-weighed, sides-most, sides-grey}
+use Rattle.blend.proofs.Laws.{moved-sound, weigh-most, pair-most, side-small, sides-weighed, sides-most, sides-grey}
 use Rattle.blend.proofs.Moves.{left-holds, sum-moves, sides-are}
 use Rattle.sums.specs.declared.Ends.{Ends}
 use Rattle.sums.specs.declared.Sum.{Sum}
@@ -56,6 +56,17 @@ ends-within {ks} {r} {n} ended some bins order fits =
 
 -- ---- one pixel
 
+-- a product with two numbers in one is two products in one
+spread : (w x y : ℕ) → w * (x + 4294967296 * y) ≡ w * x + 4294967296 * (w * y)
+spread w x y = mul-add w x (4294967296 * y) ∙ ap (λ t. w * x + t) (mul-left-comm w 4294967296 y)
+
+-- the pairs of both sides in one number
+pub pairs-room : {row : Place} {a b c d : ℕ} → Sound 16 2048 row → a ≤ 4095 → b ≤ 4095 → c ≤ 4095 → d ≤ 4095
+    → (row .lowerweight * (a + 4294967296 * b) ≡ row .lowerweight * a + 4294967296 * (row .lowerweight * b))
+    × (row .upperweight * (c + 4294967296 * d) ≡ row .upperweight * c + 4294967296 * (row .upperweight * d))
+    × (pairOf row a c ≤ 2048 * 4095) × (pairOf row b d ≤ 2048 * 4095)
+pairs-room {row} {a} {b} {c} {d} sound ha hb hc hd = (spread (row .lowerweight) a b, spread (row .upperweight) c d, weigh-most sound ha hc, weigh-most sound hb hd)
+
 module _ {column row : Place} {a b c d : List ℕ} {n i k : ℕ} (asks : PixelAsks column row a b c d n i k) where
   -- the place of pixel i is sound
   pub pixel-sound : Sound 16 2048 (moved column i)
@@ -77,6 +88,13 @@ module _ {column row : Place} {a b c d : List ℕ} {n i k : ℕ} (asks : PixelAs
 
   pub right-small : {v : ℕ} → v ≡ sideAt row b d k → v ≤ 2048 * 4095
   right-small e = omega (arith, e, side-small (asks .row) right-fits)
+
+  -- from both pairs in one number
+  pub pairs-left : {r : ℕ} → r ≡ sideAt row a c k + 4294967296 * sideAt row b d k → r % 4294967296 ≡ sideAt row a c k
+  pairs-left e = omega (arith, e, left-small refl)
+
+  pub pairs-right : {r : ℕ} → r ≡ sideAt row a c k + 4294967296 * sideAt row b d k → r / 4294967296 ≡ sideAt row b d k
+  pairs-right e = omega (arith, e, left-small refl)
 
   -- its sum is no larger than what is divided may be
   pub pixel-fits : {v : ℕ} → v ≡ pairOf (moved column i) (sideAt row a c k) (sideAt row b d k) → v ≤ column .span * row .span * 4095

@@ -12,9 +12,8 @@ use native.Mathlib.Omega.{arith}
 use Rattle.blend.specs.declared.Place.{Place}
 use Rattle.blend.specs.Blend.{pairOf, Sound}
 use Rattle.blend.proofs.Laws.{pair-most}
-use Rattle.weave.specs.Weave.{patchOf}
-use Rattle.weave.proofs.Patches.{patch-next, patch-end, patch-same}
-use Rattle.sums.specs.Sums.{sideAt, startOf, stepOf, entryOf, Tiles, Scaled}
+use Rattle.sums.proofs.Patches.{patch-next, patch-end, patch-same}
+use Rattle.sums.specs.Sums.{patchOf, sideAt, startOf, stepOf, entryOf, Tiles, Scaled}
 
 -- ---- entries
 

@@ -16,9 +16,8 @@ use Rattle.lists.proofs.Inverses.{by-inverse}
 use Rattle.blend.specs.declared.Place.{Place}
 use Rattle.blend.specs.Blend.{sidesOf, moved}
 use Rattle.blend.proofs.Laws.{mean-most, sides-grey}
-use Rattle.weave.specs.Weave.{patchOf}
-use Rattle.weave.proofs.Patches.{patch-read, patch-next, patch-end, patch-none, patch-fills}
-use Rattle.sums.specs.Sums.{blendedAt, blendedRun, sideAt, startOf, stepOf, entryOf, sumAt, movedAt, movedBy, movedRun, Scaled, Moves, MoveAsks, RunAsks, Within}
+use Rattle.sums.proofs.Patches.{patch-read, patch-next, patch-end, patch-none, patch-fills}
+use Rattle.sums.specs.Sums.{patchOf, blendedAt, blendedRun, sideAt, startOf, stepOf, entryOf, sumAt, movedAt, movedBy, movedRun, Scaled, Moves, MoveAsks, RunAsks, Within}
 use Rattle.sums.proofs.Tables.{entry-start, entry-step, pair-fits, sum-moved}
 
 -- ---- patches

@@ -5,13 +5,19 @@ use Prim.Native.Nat.{ℕ, zero, suc, _+_, _-_, _*_, _/_, _%_, _≤_, _<_}
 use mathlib.Core.Bool.{Bool, false, cond}
 use mathlib.Core.List.{List}
 use mathlib.Core.Path.{_≡_}
-use lib.Dec.{eqb}
+use lib.Dec.{ltb, eqb}
 use lib.ListN.{length, getD}
-use Rattle.lists.specs.Lists.{tab}
+use Rattle.lists.specs.Lists.{tab, filled}
 use Rattle.blend.specs.declared.Place.{Place}
 use Rattle.blend.specs.Blend.{greyOf, pairOf, Sound, moved}
 use Rattle.sums.specs.declared.Ends.{Ends}
 use Rattle.sums.specs.declared.Sum.{Sum}
+
+-- ---- a part of a list
+
+-- d with its entries from `at` up to `end` replaced, entry i by f of i and of what it held
+unfoldable pub patchOf : (ℕ → ℕ → ℕ) → List ℕ → ℕ → ℕ → List ℕ
+patchOf f d at end = filled (λ i. cond (ltb i at) (getD d i 0) (f i (getD d i 0))) d end
 
 -- ---- a run from its four tiles
 

@@ -4,9 +4,8 @@ ghost use mathlib.Core.Path.{_≡_};
 ghost use Prim.Native.Nat.{_+_, _-_, _*_, _/_, _≤_, _<_};
 ghost use lib.Dec.{eqb};
 ghost use lib.ListN.{length, getD};
-ghost use Rattle.blend.specs.Blend.{Sound};
-ghost use Rattle.weave.specs.Weave.{patchOf};
-ghost use Rattle.sums.specs.Sums.{blendedRun, entryOf, sumAt, movedAt, movedBy, movedRun, movedIn, Ended, Tiles, Scaled, Moves, MoveAsks, Stands, PixelAsks, RunAsks, Within};
+ghost use Rattle.blend.specs.Blend.{pairOf, Sound, inverseOf, Inverse, moved};
+ghost use Rattle.sums.specs.Sums.{patchOf, blendedRun, entryOf, sumAt, movedAt, movedBy, movedRun, movedIn, Ended, Tiles, Scaled, Moves, MoveAsks, Stands, PixelAsks, RunAsks, Within};
 use blend::Place;
 
 // The least and the greatest of some bins.
@@ -130,12 +129,20 @@ fn move_run(pixels: &mut [u16], table: &[u64], from: usize, most: u64)
     move_part(pixels, many * 4, len, table, from, most);
 }
 
-// The same for spans of any size: the sums stand in the table as they are, and their quotient is `blend`'s.
+// What stands for the division by the product of both spans.
+fn spans_factor(column: Place, row: Place) -> u64
+    requires { ⌜ Sound 16 2048 column × Sound 16 2048 row ⌝ }
+    ensures { λ r. ⌜ (r ≡ inverseOf (column .span * row .span)) × Inverse (column .span * row .span) r ⌝ }
+{
+    blend::factor((column.span as u64) * (row.span as u64))
+}
+
+// Renders a run's pixels from the table for spans of any size: the sums stand in it as they are, and their quotient is `blend`'s.
 fn move_large(pixels: &mut [u16], table: &[u64], from: usize, most: u64, column: Place, row: Place)
     requires { ⌜ MoveAsks (now table) from most 0 (length (now pixels)) (now pixels) × Sound 16 2048 column × Sound 16 2048 row × ((i : _) → i < length (now pixels) → sumAt (now table) most (from + i) (getD (now pixels) i 0) ≤ column .span * row .span * 4095) ⌝ }
     ensures { λ _. ⌜ now (pixels .exit) ≡ movedRun (column .span * row .span) (now (table .entry)) from most (now (pixels .entry)) ⌝ }
 {
-    let by = weave::spans_factor(column, row);
+    let by = spans_factor(column, row);
     let mut i = 0;
     while i < pixels.len() {
         let x = (from + i) as u64;
@@ -195,6 +202,30 @@ fn large_run(
     );
 }
 
+// The pairs of both sides in one number, the right one from 2^32 on: two products for four.
+fn pairs_of(row: Place, a: u16, b: u16, c: u16, d: u16) -> u64
+    requires { ⌜ Sound 16 2048 row × (a ≤ 4095) × (b ≤ 4095) × (c ≤ 4095) × (d ≤ 4095) ⌝ }
+    ensures { λ r. ⌜ r ≡ pairOf row a c + 4294967296 * pairOf row b d ⌝ }
+{
+    let above = (a as u64) + 4294967296 * (b as u64);
+    let below = (c as u64) + 4294967296 * (d as u64);
+    (row.lowerweight as u64) * above + (row.upperweight as u64) * below
+}
+
+// The place of the pixel i further along between the same tiles.
+fn along(column: Place, i: usize) -> Place
+    requires { ⌜ Sound 16 2048 column × (i ≤ column .lowerweight) ⌝ }
+    ensures { λ r. ⌜ r ≡ moved column i ⌝ }
+{
+    Place {
+        lower: column.lower,
+        upper: column.upper,
+        lowerweight: column.lowerweight - (i as u32),
+        upperweight: column.upperweight + (i as u32),
+        span: column.span,
+    }
+}
+
 // A pixel's bin, the pairs of that bin, its weighted sum, and how many sums have moved.
 struct Sum {
     bin: u16,
@@ -231,9 +262,10 @@ fn next(
         };
     }
     let n = k as usize;
-    let left = blend::pair(row, a[n] as u32, c[n] as u32);
-    let right = blend::pair(row, b[n] as u32, d[n] as u32);
-    let sum = blend::sides(weave::along(column, i), left, right);
+    let pairs = pairs_of(row, a[n], b[n], c[n], d[n]);
+    let left = (pairs % 4294967296) as u32;
+    let right = (pairs / 4294967296) as u32;
+    let sum = blend::sides(along(column, i), left, right);
     Sum {
         bin: k,
         left,
@@ -256,7 +288,7 @@ fn weigh_run(
     requires { ⌜ RunAsks column row (now a) (now b) (now c) (now d) (length (now a)) (now pixels) ⌝ }
     ensures { λ r. ⌜ (now (pixels .exit) ≡ blendedRun column row (now (a .entry)) (now (b .entry)) (now (c .entry)) (now (d .entry)) (now (pixels .entry))) × (r ≡ movedIn (now (pixels .entry))) ⌝ }
 {
-    let by = weave::spans_factor(column, row);
+    let by = spans_factor(column, row);
     let mut at = Sum {
         bin: 65535,
         left: 0,
@@ -273,7 +305,7 @@ fn weigh_run(
     at.moved
 }
 
-// Whether a table of the bins from `low` up to `top` fits the room and pays for `wide` pixels: five products a bin and one a pixel are then no more than six a pixel.
+// Whether a table of the bins from `low` up to `top` fits the room and pays for `wide` pixels: five products a bin and one a pixel are then no more than the six a pixel of the plain rule.
 fn pays(low: usize, top: usize, wide: usize, room: usize) -> bool
     requires { ⌜ (low ≤ 65535) × (wide ≤ 65535) ⌝ }
     ensures { λ r. ⌜ (r ≡ true → (low ≤ top) × (top ≤ low + wide) × (2 * top ≤ room)) ⌝ }

@@ -7,19 +7,19 @@ use mathlib.Core.Path.{_≡_, refl, sym, ap, ap₂, _∙_}
 use lib.Arith.{digits-lt}
 use lib.ListN.{getD, take}
 use lib.Seq.{getD-take, length-take-le}
-use native.Mathlib.Nat.{mul-comm, mul-assoc, add-mul, mul-le-mul}
+use native.Mathlib.Nat.{mul-comm, mul-le-mul}
 use native.Mathlib.Omega.{arith}
 use Rattle.lists.proofs.Alls.{all-at}
 use Rattle.lists.proofs.Windows.{getD-front}
 use Rattle.scan.specs.Scan.{within}
 use Rattle.scan.proofs.Spans.{within-low, within-high, within-both}
 use Rattle.blend.specs.declared.Place.{Place}
-use Rattle.blend.specs.Blend.{greyOf, pairOf, sidesOf, Sound}
-use Rattle.blend.proofs.Laws.{grey-least, grey-most, pair-most, sides-grey}
+use Rattle.blend.specs.Blend.{greyOf, Sound}
+use Rattle.blend.proofs.Laws.{grey-least, grey-most}
 use Rattle.settings.specs.declared.Settings.{Settings}
 use Rattle.settings.specs.Settings.{binsOf, entriesOf}
 use Rattle.settings.proofs.Ready.{entries-small}
-use Rattle.weigh.specs.Weigh.{mappedAt, cornersOf, sideOf, Maps, CornerAsks}
+use Rattle.weigh.specs.Weigh.{mappedAt, cornersOf, Maps, CornerAsks}
 
 -- ---- where mapped values lie
 
@@ -94,15 +94,6 @@ corners-within {s} {m} {column} {row} {k} asks =
     c′ : column .upper < s .across
     c′ = asks .column .upper
 
--- so it is small
-pub corners-small : {s : Settings} {m : List ℕ} {column row : Place} {k : ℕ} → CornerAsks s m column row k → cornersOf s m column row k ≤ 4095
-corners-small asks = omega (arith, within-high _ _ _ (corners-within asks), asks .maps .scale .most)
-
-module _ {s : Settings} {m : List ℕ} {column row : Place} {k : ℕ} (asks : CornerAsks s m column row k) where
-  -- a mapped value of its bin is at most 4095
-  pub corner-most : {j i a : ℕ} → j < s .down → i < s .across → a ≡ mappedAt s m j i k → a ≤ 4095
-  corner-most h l e = omega (arith, e, mapped-high (asks .maps) h l (asks .bin), asks .maps .scale .most)
-
 -- the pixel from its four mapped values
 pub corners-are : (s : Settings) (m : List ℕ) (column row : Place) (k : ℕ) {a b c d r : ℕ}
     → a ≡ mappedAt s m (row .lower) (column .lower) k → b ≡ mappedAt s m (row .lower) (column .upper) k
@@ -111,35 +102,7 @@ pub corners-are : (s : Settings) (m : List ℕ) (column row : Place) (k : ℕ) {
 unfolding cornersOf
 corners-are s m column row k ha hb hc hd h = h ∙ rw (ha, hb, hc, hd) refl
 
--- ---- sides
-
--- the pair of a bin of a tile column, from its mapped values
-pub side-is : (s : Settings) (m : List ℕ) (row : Place) (i k : ℕ) {a c r : ℕ} → a ≡ mappedAt s m (row .lower) i k → c ≡ mappedAt s m (row .upper) i k → r ≡ pairOf row a c → r ≡ sideOf s m row i k
-unfolding sideOf
-side-is s m row i k ha hc h = h ∙ ap₂ (pairOf row) ha hc
-
--- it is no larger than pairs are
-pub side-fits : {s : Settings} {m : List ℕ} {row : Place} {i k : ℕ} → Maps s m → Sound (s .down) 2048 row → i < s .across → k < binsOf s → sideOf s m row i k ≤ row .span * 4095
-unfolding sideOf
-side-fits {s} {m} {row} {i} {k} maps sound l q = pair-most sound (value (sound .lower)) (value (sound .upper))
-  where
-    value : {j : ℕ} → j < s .down → mappedAt s m j i k ≤ 4095
-    value h = omega (arith, mapped-high maps h l q, maps .scale .most)
-
--- the pixel from the pairs of both tile columns
-pub corners-sides : (s : Settings) (m : List ℕ) (column row : Place) (k : ℕ) → cornersOf s m column row k ≡ sidesOf column row (sideOf s m row (column .lower) k) (sideOf s m row (column .upper) k)
-unfolding cornersOf sideOf
-corners-sides s m column row k = sym (sides-grey column row _ _ _ _)
-
--- ---- what callers know of mapped values
-
--- the entry of a bin of a tile, counted from the start of its row of tiles
-pub entry-mapped : (s : Settings) (m : List ℕ) (j t k : ℕ) → getD m (j * (s .across * binsOf s) + (t * binsOf s + k)) 0 ≡ mappedAt s m j t k
-unfolding mappedAt
-entry-mapped s m j t k =
-    let at : j * (s .across * binsOf s) + (t * binsOf s + k) ≡ (j * s .across + t) * binsOf s + k =
-    omega (arith, add-mul (j * s .across) t (binsOf s), mul-assoc j (s .across) (binsOf s)) in
-    ap (λ n. getD m n 0) at
+-- ---- what callers know of pixels
 
 -- a pixel goes by the grid across and the bins of its settings alone
 pub corners-fields : (s s′ : Settings) (m : List ℕ) (column row : Place) (k : ℕ) → s′ .across ≡ s .across → binsOf s′ ≡ binsOf s → cornersOf s′ m column row k ≡ cornersOf s m column row k

@@ -9,7 +9,7 @@ use Rattle.lists.specs.Lists.{tab, all}
 use Rattle.scan.specs.Scan.{within}
 use Rattle.tally.specs.Tally.{Scale}
 use Rattle.blend.specs.declared.Place.{Place}
-use Rattle.blend.specs.Blend.{greyOf, pairOf, Sound, moved}
+use Rattle.blend.specs.Blend.{greyOf, Sound, moved}
 use Rattle.settings.specs.declared.Settings.{Settings}
 use Rattle.settings.specs.Settings.{binsOf, entriesOf}
 
@@ -30,14 +30,6 @@ cornersOf s m column row k =
 unfoldable pub weighedRun : Settings → List ℕ → Place → Place → List ℕ → List ℕ
 weighedRun s m column row ks = tab (length ks) (λ i. cornersOf s m (moved column i) row (getD ks i 0))
 
--- the grey of pixel i of such a run, of bin k
-abbrev pub cornersAt : Settings → List ℕ → Place → Place → ℕ → ℕ → ℕ
-cornersAt s m column row i k = cornersOf s m (moved column i) row k
-
--- the pair of bin k in tile column i: the mapped values above and below, each by the row's weight
-unfoldable pub sideOf : Settings → List ℕ → Place → ℕ → ℕ → ℕ
-sideOf s m row i k = pairOf row (mappedAt s m (row .lower) i k) (mappedAt s m (row .upper) i k)
-
 -- ---- what the functions ask
 
 -- settings and mappings: grid, range and bins within document 01's bounds, and mapped values from Min to Max
@@ -55,14 +47,7 @@ pub record CornerAsks (s : Settings) (m : List ℕ) (atcolumn atrow : Place) (k 
   pub row : Sound (s .down) 2048 atrow
   pub bin : k < binsOf s
 
--- what `weigh_part` asks: as a pixel of its bin, of each pixel from `at` up to `end`
-pub record WeighPartAsks (s : Settings) (m : List ℕ) (atcolumn atrow : Place) (at end : ℕ) (ks : List ℕ) : Type 0 where
-  pub maps : Maps s m
-  pub column : Sound (s .across) 2048 atcolumn
-  pub row : Sound (s .down) 2048 atrow
-  pub bins : (i : ℕ) → at ≤ i → i < end → getD ks i 0 < binsOf s
-
--- what `weigh_bins` asks: the same of all pixels, and no more of them than the weight can move by
+-- what a run asks: the same of each pixel, and no more of them than the weight can move by
 pub record WeighAsks (s : Settings) (m : List ℕ) (atcolumn atrow : Place) (ks : List ℕ) : Type 0 where
   pub maps : Maps s m
   pub column : Sound (s .across) 2048 atcolumn

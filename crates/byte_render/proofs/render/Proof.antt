@@ -13,10 +13,10 @@ use Rattle.byte_render.proofs.render.Statement.{statement}
 use Rattle.byte_render.proofs.render.Tie as tie
 
 abbrev Inv-loop : tie.InvT-loop
-Inv-loop pixels₀ win width height s map line₀ pairs₀ wide j₀ pixels line pairs j = (j ≤ win .height) × (length pixels ≡ length pixels₀) × (length line ≡ length line₀) × (length pairs ≡ length pairs₀) × (pixels ≡ blocks (win .width) (strip width height s map win pixels₀) pixels₀ j)
+Inv-loop pixels₀ win width height s map line₀ table₀ wide j₀ pixels line table j = (j ≤ win .height) × (length pixels ≡ length pixels₀) × (length line ≡ length line₀) × (length table ≡ length table₀) × (pixels ≡ blocks (win .width) (strip width height s map win pixels₀) pixels₀ j)
 
 abbrev μ-loop : tie.MeasureT-loop
-μ-loop pixels₀ win width height s map line₀ pairs₀ wide j₀ pixels line pairs j = win .height - j
+μ-loop pixels₀ win width height s map line₀ table₀ wide j₀ pixels line table j = win .height - j
 
 cast-wide : tie.Need-cast-wide Inv-loop μ-loop
 cast-wide c = omega arith

@@ -12,10 +12,10 @@ use Rattle.render.proofs.render_rows.Statement.{statement}
 use Rattle.render.proofs.render_rows.Tie as tie
 
 abbrev Inv-loop : tie.InvT-loop
-Inv-loop pixels₀ win width height s map pairs₀ wide j₀ pixels pairs j = (j ≤ win .height) × (length pixels ≡ length pixels₀) × (length pairs ≡ length pairs₀) × (pixels ≡ blocks (win .width) (strip width height s map win pixels₀) pixels₀ j)
+Inv-loop pixels₀ win width height s map table₀ wide j₀ pixels table j = (j ≤ win .height) × (length pixels ≡ length pixels₀) × (length table ≡ length table₀) × (pixels ≡ blocks (win .width) (strip width height s map win pixels₀) pixels₀ j)
 
 abbrev μ-loop : tie.MeasureT-loop
-μ-loop pixels₀ win width height s map pairs₀ wide j₀ pixels pairs j = win .height - j
+μ-loop pixels₀ win width height s map table₀ wide j₀ pixels table j = win .height - j
 
 cast-wide : tie.Need-cast-wide Inv-loop μ-loop
 cast-wide c = omega arith

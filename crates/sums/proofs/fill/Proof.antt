@@ -4,8 +4,8 @@ use Prim.Native.Nat.{_≤_, _-_, _*_}
 use mathlib.Core.Path.{_≡_, refl}
 use lib.ListN.{length, length-set}
 use native.Mathlib.Omega.{arith}
-use Rattle.weave.specs.Weave.{patchOf}
-use Rattle.weave.proofs.Patches.{patch-none}
+use Rattle.sums.specs.Sums.{patchOf}
+use Rattle.sums.proofs.Patches.{patch-none}
 use Rattle.sums.proofs.Tables.{rawOf, upper-room, lower-room, most-room, pair-room, pair-under, start-room, fill-next, fill-end}
 use borrow.Author.Needs.{needs}
 use Rattle.sums.proofs.fill.Statement.{statement}

@@ -13,7 +13,7 @@ use Rattle.sums.proofs.move_large.Reads as reads
 use Rattle.sums.proofs.move_large.Lts as lts
 use Rattle.blend.proofs.quotient.Reads as quotient-reads
 use Rattle.sums.proofs.moved.Reads as moved-reads
-use Rattle.weave.proofs.spans_factor.Reads as spans-factor-reads
+use Rattle.sums.proofs.spans_factor.Reads as spans-factor-reads
 
 abbrev Inv-loop : tie.InvT-loop
 Inv-loop pixels₀ table from most column row by i₀ pixels i = (i ≤ length pixels₀) × (length pixels ≡ length pixels₀) × (pixels ≡ filled (movedOn (column .span * row .span) table from most pixels₀) pixels₀ i)

@@ -4,9 +4,8 @@ use Prim.Native.Nat.{_≤_, _-_}
 use mathlib.Core.Path.{_≡_, refl}
 use lib.ListN.{length, length-set}
 use native.Mathlib.Omega.{arith}
-use Rattle.weave.specs.Weave.{patchOf}
-use Rattle.weave.proofs.Patches.{patch-none, patch-end}
-use Rattle.sums.specs.Sums.{movedBy}
+use Rattle.sums.proofs.Patches.{patch-none, patch-end}
+use Rattle.sums.specs.Sums.{patchOf, movedBy}
 use Rattle.sums.proofs.Turns.{turn-asks, turn-next}
 use Rattle.sums.proofs.move_part.Statement.{statement}
 use Rattle.sums.proofs.move_part.Tie as tie

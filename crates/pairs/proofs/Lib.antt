@@ -1,3 +1,0 @@
-pub mod Bins
-pub mod Pairs
-pub mod Strands
