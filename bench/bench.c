@@ -15,6 +15,8 @@
 #include <string.h>
 #include <time.h>
 
+#include "aims.h"
+#include "beside.h"
 #include "calls.h"
 #include "film.h"
 #include "products.h"
@@ -150,6 +152,14 @@ static struct subject usual(enum kind kind, uint32_t side, uint32_t bits)
     return (struct subject){kind, side, side, bits, GRID, BINS, WINDOW};
 }
 
+/* Notes an aim of a row that two numbers name. */
+__attribute__((format(printf, 3, 0))) static void aim_row(double aim, double measured, const char *form, uint32_t a, uint32_t b)
+{
+    char row[96];
+    snprintf(row, sizeof row, form, (unsigned)a, (unsigned)b);
+    aim_note(row, aim, measured);
+}
+
 /* ---- the films ---- */
 
 static void film_row(const struct reel *reel)
@@ -217,6 +227,14 @@ static void call_row(const struct subject *of, const char *call, double ns, cons
     printf("\n");
 }
 
+static void draw_aim(const struct subject *of, double draw, double rendering)
+{
+    char row[96];
+    snprintf(row, sizeof row, "draw of %u in %u, %u bits, %s, of rendering a pixel", WINDOW, (unsigned)of->width,
+             (unsigned)of->bits, film_name(of->kind));
+    aim_note(row, of->width == 4096 ? 1.10 : 0, draw / rendering);
+}
+
 static void call_rows(const struct subject *of, const char *opencv)
 {
     struct result r = measure(of, ALL);
@@ -228,6 +246,7 @@ static void call_rows(const struct subject *of, const char *opencv)
     call_row(of, "counting", (best[UNCLIPPED] - best[SCAN]) / r.pixels, &a);
     call_row(of, "rendering", (best[ENHANCE] - best[PREPARE]) / r.pixels, &a);
     call_row(of, "draw", best[DRAW] / r.area, &a);
+    draw_aim(of, best[DRAW] / r.area, (best[ENHANCE] - best[PREPARE]) / r.pixels);
     call_row(of, "write", best[WRITE] / r.pixels, &a);
     call_row(of, "read", best[READ] / r.pixels, &a);
     call_row(of, "1994", a.by_1994, &a);
@@ -259,6 +278,35 @@ static void calls_table(const char *opencv)
     tiles_alone();
 }
 
+/* ---- where the station works ---- */
+
+static void station_row(const struct reel *reel, uint32_t side, const char *opencv)
+{
+    struct subject of = usual(reel->kind, side, reel->bits);
+    of.bins = 1024;
+    struct result r = measure(&of, ONE(ENHANCE) | ONE(PREPARE) | ONE(DRAW) | ONE(BY_1994));
+    const double *best = r.best;
+    printf("| %4u | %-5s |", (unsigned)side, film_name(reel->kind));
+    printf(" %8.3f | %8.3f | %8.3f | %8.3f |", best[ENHANCE] / r.pixels, best[PREPARE] / r.pixels,
+           (best[ENHANCE] - best[PREPARE]) / r.pixels, best[DRAW] / r.area);
+    ratio(best[ENHANCE], best[BY_1994]);
+    ratio(best[ENHANCE] / r.pixels, time_of(opencv, &of, "enhance"));
+    printf("\n");
+    fflush(stdout);
+}
+
+/* What our own programs choose for 12 bits: the headline. */
+static void station_table(const char *opencv)
+{
+    printf("\n### Where the station works: 1024 bins, 12 bits\n\nNanoseconds a pixel; a ratio below 1 is faster.\n\n");
+    printf("| side | film | enhance | prepare | rendering | draw | enhance of 1994 | of OpenCV |\n"
+           "|---|---|---|---|---|---|---|---|\n");
+    for (size_t i = 0; i < MANY(sides); i++)
+        for (size_t j = 0; j < MANY(reels); j++)
+            if (reels[j].bits == 12)
+                station_row(&reels[j], sides[i], opencv);
+}
+
 /* ---- bytes ---- */
 
 static void bytes_row(uint32_t side, const char *call, double bytes, double wide, double opencv)
@@ -269,12 +317,22 @@ static void bytes_row(uint32_t side, const char *call, double bytes, double wide
     printf("\n");
 }
 
+static void bytes_aims(uint32_t side, double bytes, double wide, double opencv)
+{
+    aim_row(1.00, bytes / wide, "bytes: enhance %u, %u bins, of the wide call", side, BINS);
+    if (opencv > 0)
+        aim_row(side == 512 ? 0.50 : side == 4096 ? 0.38 : 0, bytes / opencv, "bytes: enhance %u, %u bins, of OpenCV's 8 bits", side,
+                BINS);
+}
+
 static void bytes_rows(uint32_t side, const char *opencv)
 {
     struct subject of = usual(NOISY, side, 8);
     struct result r = measure(&of, BYTES | ONE(ENHANCE) | ONE(PREPARE) | ONE(DRAW));
     const double *best = r.best;
-    bytes_row(side, "enhance", best[ENHANCE_BYTES] / r.pixels, best[ENHANCE] / r.pixels, time_of(opencv, &of, "bytes"));
+    double theirs = time_of(opencv, &of, "bytes"), bytes = best[ENHANCE_BYTES] / r.pixels;
+    bytes_row(side, "enhance", bytes, best[ENHANCE] / r.pixels, theirs);
+    bytes_aims(side, bytes, best[ENHANCE] / r.pixels, theirs);
     bytes_row(side, "prepare", best[PREPARE_BYTES] / r.pixels, best[PREPARE] / r.pixels, 0);
     bytes_row(side, "draw", best[DRAW_BYTES] / r.area, best[DRAW] / r.area, 0);
     fflush(stdout);
@@ -338,6 +396,25 @@ static void comparison(void)
 
 /* ---- the bins ---- */
 
+/* What enhance is to take of the 1994 rendering with the same bins. */
+static const struct {
+    uint32_t side, bins;
+    double aims[KINDS];
+} bins_aims[] = {
+    {4096, 128, {[NOISY] = 0.52, [CALM] = 0.42}}, {4096, 1024, {[NOISY] = 0.62, [CALM] = 0.62, [EVEN] = 1.10}},
+    {4096, 4096, {[NOISY] = 0.75, [CALM] = 0.70}}, {512, 128, {[NOISY] = 0.70, [CALM] = 0.50}},
+    {512, 1024, {[NOISY] = 0.85, [CALM] = 0.80, [EVEN] = 1.10}}, {512, 4096, {[NOISY] = 0.80, [CALM] = 0.75}},
+};
+
+static void bins_aim(enum kind kind, uint32_t side, uint32_t bins, double of_1994)
+{
+    char row[96];
+    snprintf(row, sizeof row, "enhance %u, %u bins, %s, of 1994", (unsigned)side, (unsigned)bins, film_name(kind));
+    for (size_t i = 0; i < MANY(bins_aims); i++)
+        if (bins_aims[i].side == side && bins_aims[i].bins == bins)
+            aim_note(row, bins_aims[i].aims[kind], of_1994);
+}
+
 static void bins_row(enum kind kind, uint32_t side, uint32_t bins)
 {
     struct subject of = usual(kind, side, 12);
@@ -349,6 +426,7 @@ static void bins_row(enum kind kind, uint32_t side, uint32_t bins)
            (best[ENHANCE] - best[PREPARE]) / r.pixels, best[BY_1994] / r.pixels);
     ratio(best[ENHANCE], best[BY_1994]);
     printf("\n");
+    bins_aim(kind, side, bins, best[ENHANCE] / best[BY_1994]);
     fflush(stdout);
 }
 
@@ -377,6 +455,8 @@ static void edition_row(enum kind kind, uint32_t side, uint32_t bins)
            r.best[PREPARE] / r.pixels, r.best[OF_1986] / r.pixels);
     ratio(r.best[OF_1986], r.best[PREPARE]);
     printf("\n");
+    aim_row(1.00, r.best[OF_1986] / r.best[PREPARE],
+            kind == CALM ? "prepare with 1986 %u calm, %u bins, of ours" : "prepare with 1986 %u noisy, %u bins, of ours", side, bins);
     fflush(stdout);
 }
 
@@ -566,6 +646,7 @@ static void store_row(uint32_t side, uint32_t bins)
     struct result r = measure(&of, ONE(PREPARE) | ONE(STORE));
     double prepare = r.best[PREPARE] / 1e3, store = r.best[STORE] / 1e3;
     printf("| %4u | %4u | %9.1f | %9.1f | %7.4f |\n", (unsigned)side, (unsigned)bins, prepare, store, store / prepare);
+    aim_row(1.01, store / prepare, "room: store %u, %u bins, of prepare", side, bins);
     fflush(stdout);
 }
 
@@ -576,6 +657,7 @@ static void room_draw_row(uint32_t window, uint32_t bins)
     struct result r = measure(&of, ONE(PREPARE) | ONE(DRAW) | ONE(STORE) | ONE(ROOM_DRAW));
     double draw = r.best[DRAW] / 1e3, from_room = r.best[ROOM_DRAW] / 1e3;
     printf("| %4u | %4u | %9.2f | %9.2f | %6.2f |\n", (unsigned)window, (unsigned)bins, draw, from_room, from_room - draw);
+    aim_row(1.00, from_room - draw, "room: draw of %u, %u bins, µs more than draw", window, bins);
     fflush(stdout);
 }
 
@@ -587,6 +669,7 @@ static void drop_row(uint32_t grid, uint32_t bins)
            (unsigned)(7 * grid * grid * bins), r.best[MOVE] / 1e3, r.best[DROP] / 1e3);
     ratio(r.best[DROP], r.best[MOVE]);
     printf("\n");
+    aim_row(2.00, r.best[DROP] / r.best[MOVE], "room: drop, grid %u, %u bins, of memmove", grid, bins);
     fflush(stdout);
 }
 
@@ -652,16 +735,16 @@ static double around_ns(struct bench *b)
     return best;
 }
 
-/* Where there is an aim it stands beside the time. */
-static void around_row(uint32_t bins, uint32_t region, uint32_t edition, const char *aim)
+static void around_row(uint32_t bins, uint32_t region, uint32_t edition, double aim)
 {
     struct bench b;
     struct subject of = {NOISY, 4096, 256, 12, GRID, bins, WINDOW};
     open_bench(&b, &of);
     b.region = region;
     b.settings.edition = edition;
-    printf("| %4u | %2u | %-4s | %8.1f | %s |\n", (unsigned)bins, (unsigned)region, edition == TZ_OURS ? "ours" : "1986",
-           around_ns(&b), aim);
+    double ns = around_ns(&b);
+    printf("| %4u | %2u | %-4s | %8.1f |\n", (unsigned)bins, (unsigned)region, edition == TZ_OURS ? "ours" : "1986", ns);
+    aim_row(aim, ns, "around: %u bins, side %u, ns a pixel", bins, region);
     fflush(stdout);
 }
 
@@ -683,13 +766,13 @@ static void around_table(void)
 {
     printf("\n### Around each pixel\n\n"
            "Nanoseconds a pixel of a noisy film of 4096 by 256 and 12 bits, by the bins and the region's side.\n\n");
-    printf("| bins | side | edition | ns a pixel | aim |\n|---|---|---|---|---|\n");
-    around_row(128, 7, TZ_OURS, "-");
-    around_row(128, 31, TZ_OURS, "150");
-    around_row(128, 63, TZ_OURS, "250");
-    around_row(1024, 31, TZ_OURS, "below 300");
-    around_row(1024, 63, TZ_OURS, "below 300");
-    around_row(128, 31, TZ_1986, "-");
+    printf("| bins | side | edition | ns a pixel |\n|---|---|---|---|\n");
+    around_row(128, 7, TZ_OURS, 0);
+    around_row(128, 31, TZ_OURS, 150);
+    around_row(128, 63, TZ_OURS, 250);
+    around_row(1024, 31, TZ_OURS, 300);
+    around_row(1024, 63, TZ_OURS, 300);
+    around_row(128, 31, TZ_1986, 0);
     printf("\nThe same greys of 8 bits in bins of the same width, side 31, with more and more bins that are empty:\n\n");
     printf("| bins | empty in every region, at least | ns a pixel |\n|---|---|---|\n");
     for (uint32_t times = 1; times <= 16; times *= 2)
@@ -698,29 +781,31 @@ static void around_table(void)
 
 /* ---- odd sides ---- */
 
-/* Prints a film's times, and gives the time of enhance. */
-static double sides_row(uint32_t width, uint32_t height, double square)
+/* Prints a film's times beside those of the square one, where it is not that itself, and gives them. */
+static struct result sides_row(uint32_t width, uint32_t height, const struct result *square)
 {
     struct subject of = {NOISY, width, height, 12, GRID, BINS, WINDOW};
     struct result r = measure(&of, COUNTS | ONE(ENHANCE) | ONE(PREPARE) | ONE(DRAW));
     const double *best = r.best;
-    double enhance = best[ENHANCE] / r.pixels;
     printf("| %4u by %-4u |", (unsigned)width, (unsigned)height);
-    printf(" %8.3f | %8.3f | %8.3f | %8.3f |", enhance, best[PREPARE] / r.pixels,
+    printf(" %8.3f | %8.3f | %8.3f | %8.3f |", best[ENHANCE] / r.pixels, best[PREPARE] / r.pixels,
            (best[ENHANCE] - best[PREPARE]) / r.pixels, best[DRAW] / r.area);
-    ratio(enhance, square);
+    ratio(best[ENHANCE] / r.pixels, square == NULL ? 0 : square->best[ENHANCE] / square->pixels);
+    ratio(best[PREPARE] / r.pixels, square == NULL ? 0 : square->best[PREPARE] / square->pixels);
     printf("\n");
     fflush(stdout);
-    return enhance;
+    return r;
 }
 
 static void sides_table(void)
 {
     printf("\n### Odd sides\n\n"
            "A film whose sides the grid does not divide, beside the square one: nanoseconds a pixel, noisy, 12 bits.\n\n");
-    printf("| sides | enhance | prepare | rendering | draw | enhance of the square one's |\n|---|---|---|---|---|---|\n");
-    double square = sides_row(4096, 4096, 0);
-    sides_row(4095, 4093, square);
+    printf("| sides | enhance | prepare | rendering | draw | enhance of the square one's | prepare of it |\n"
+           "|---|---|---|---|---|---|---|\n");
+    struct result square = sides_row(4096, 4096, NULL), odd = sides_row(4095, 4093, &square);
+    aim_note("prepare 4095 by 4093, of 4096 square", 1.05,
+             odd.best[PREPARE] / odd.pixels / (square.best[PREPARE] / square.pixels));
 }
 
 /* ---- how time grows ---- */
@@ -749,6 +834,37 @@ static void growth_table(void)
         growth_row("bins", 2048, GRID, bins[i]);
     for (size_t i = 0; i < MANY(grids); i++)
         growth_row("tiles", 2048, grids[i], BINS);
+}
+
+/* ---- side by side ---- */
+
+/* Ours with one process and with one for each processor, and OpenCV's with one thread and with one for each. */
+static void beside_row(uint32_t side, uint32_t bins, const char *opencv)
+{
+    struct subject of = usual(NOISY, side, 12);
+    of.bins = bins;
+    int runs = rounds(side);
+    double one = beside_ns(&of, 1, runs), all = beside_ns(&of, processors(), runs);
+    double their_one = time_of(opencv, &of, "clock"), their_all = time_of(opencv, &of, "threads");
+    printf("| %4u | %4u | %8.3f | %8.3f | %8.3f | %8.3f |", (unsigned)side, (unsigned)bins, one, all, their_one, their_all);
+    ratio(one, their_one);
+    ratio(all, their_all);
+    printf("\n");
+    fflush(stdout);
+}
+
+static void beside_table(const char *opencv)
+{
+    printf("\n### Side by side\n\n"
+           "By the clock, nanoseconds for a pixel: one film by one thread, and %d films at once, each by a process of its own, as\n"
+           "`--jobs` renders them; OpenCV at 16 bits with one thread, and with one for each of the %d processors on one film.\n\n",
+           processors(), processors());
+    printf("| side | bins | one film | films at once | OpenCV, one thread | OpenCV, all | one of one | at once of all |\n"
+           "|---|---|---|---|---|---|---|---|\n");
+    for (size_t i = 0; i < MANY(sides); i++) {
+        beside_row(sides[i], BINS, opencv);
+        beside_row(sides[i], 1024, opencv);
+    }
 }
 
 /* ---- what is asked ---- */
@@ -787,6 +903,7 @@ static void films(const char *folder)
 static void run(const char *opencv, const char *netpbm)
 {
     films_table();
+    station_table(opencv);
     calls_table(opencv);
     bytes_table(opencv);
     comparison();
@@ -802,6 +919,8 @@ static void run(const char *opencv, const char *netpbm)
     around_table();
     sides_table();
     growth_table();
+    beside_table(opencv);
+    aims_table();
 }
 
 int main(int argc, char **argv)
