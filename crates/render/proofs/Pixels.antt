@@ -14,13 +14,13 @@ use Rattle.settings.specs.declared.Settings.{Settings}
 use Rattle.settings.specs.Settings.{binsOf, entriesOf}
 use Rattle.weigh.specs.Weigh.{cornersOf, CornerAsks}
 pub use Rattle.weigh.proofs.Pixels.{tile-index}
-use Rattle.weigh.proofs.Pixels.{corners-are, corners-within, corners-fields, corners-front}
+use Rattle.weigh.proofs.Pixels.{corners-within, corners-fields, corners-front}
 use Rattle.render.specs.Render.{pixelOf, PixelAsks}
 
 -- a pixel is one of its bin
 pub pixel-corners : (s : Settings) (m : List ℕ) (column row : Place) (v : ℕ) → pixelOf s m column row v ≡ cornersOf s m column row (binOf (s .min) (s .max) (binsOf s) v)
 unfolding pixelOf
-pixel-corners s m column row v = corners-are s m column row (binOf (s .min) (s .max) (binsOf s) v) refl refl refl refl refl
+pixel-corners s m column row v = refl
 
 -- it goes by the grid across, the bins and the range of its settings alone
 pub pixel-fields : (s s′ : Settings) (m : List ℕ) (column row : Place) (v : ℕ) → s′ .across ≡ s .across → binsOf s′ ≡ binsOf s → s′ .min ≡ s .min → s′ .max ≡ s .max

@@ -12,22 +12,16 @@ use Rattle.binning.specs.Binning.{binOf}
 use Rattle.tally.specs.declared.Rect.{Rect}
 use Rattle.grid.specs.Grid.{Fits}
 use Rattle.blend.specs.declared.Place.{Place}
-use Rattle.blend.specs.Blend.{placeOf, greyOf, Sound, Run}
+use Rattle.blend.specs.Blend.{placeOf, Sound, Run}
 use Rattle.settings.specs.declared.Settings.{Settings}
 use Rattle.settings.specs.declared.Window.{Window}
 use Rattle.settings.specs.Settings.{binsOf}
-use Rattle.weigh.specs.Weigh.{mappedAt, cornersOf, Maps}
+use Rattle.weigh.specs.Weigh.{cornersOf, Maps}
 use Rattle.render.specs.declared.Section.{Section}
 
--- "With A, B', C, D the four tiles' mapped values (upper left, upper right, lower left, lower right) of the pixel's bin": v is the pixel's grey
+-- the grey from the four tiles' mapped values "of the pixel's bin": v is the pixel's grey
 unfoldable pub pixelOf : Settings → List ℕ → Place → Place → ℕ → ℕ
-pixelOf s m column row v =
-    let k = binOf (s .min) (s .max) (binsOf s) v in
-    greyOf column row
-    (mappedAt s m (row .lower) (column .lower) k)
-    (mappedAt s m (row .lower) (column .upper) k)
-    (mappedAt s m (row .upper) (column .lower) k)
-    (mappedAt s m (row .upper) (column .upper) k)
+pixelOf s m column row v = cornersOf s m column row (binOf (s .min) (s .max) (binsOf s) v)
 
 -- the place of column x among the tiles across
 abbrev pub columnPlace : ℕ → Settings → ℕ → Place

@@ -17,7 +17,7 @@ use Rattle.settings.specs.Settings.{binsOf, entriesOf}
 unfoldable pub mappedAt : Settings → List ℕ → ℕ → ℕ → ℕ → ℕ
 mappedAt s m j i k = getD m ((j * s .across + i) * binsOf s + k) 0
 
--- the grey of a pixel of bin k at these places
+-- "With A, B', C, D the four tiles' mapped values (upper left, upper right, lower left, lower right) of the pixel's bin": the grey of a pixel of bin k at these places
 unfoldable pub cornersOf : Settings → List ℕ → Place → Place → ℕ → ℕ
 cornersOf s m column row k =
     greyOf column row
