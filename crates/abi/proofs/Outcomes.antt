@@ -13,19 +13,19 @@ use Rattle.refuse.specs.Refuse.{first, unless}
 use Rattle.prepare.specs.Prepare.{preparedSays, preparedOf, prepareOf, enhancedSays, enhancedOf, enhanceOf}
 use Rattle.draw.specs.Draw.{drawnSays, drawOf}
 use Rattle.pgm_write.specs.declared.Written.the-variants as Written
-use Rattle.pgm_write.specs.Write.{writtenSays, wroteAs}
+use Rattle.pgm_write.specs.Write.{writtenSays, writeLeaves}
 use Rattle.listing.specs.Listing.{listingOf, textRows, listOf}
 use Rattle.promises.proofs.Accepted.{returned-kept, prepare-table, enhance-table, draw-table}
 use Rattle.flat.specs.Flat.{recordFrom}
 use Rattle.flat.specs.Films.{FlatPrepared, flatPrepared, FlatEnhanced, flatEnhanced, FlatDrawn, flatDrawn}
 use Rattle.flat.specs.Files.{FlatWritten, writtenAs, flatWritten}
 use Rattle.flat.proofs.Kept.{Keeps, kept}
-use Rattle.abi.proofs.Runs.{TzPrepareCall, TzPrepares, tz-prepare-given, tz-prepare-ends, TzEnhanceCall, TzEnhances, tz-enhance-given, tz-enhance-ends, TzDrawCall, TzDraws, tz-draw-given, tz-draw-ends, TzListingCall, TzLists, tz-listing-given, tz-listing-ends}
+use Rattle.abi.proofs.Runs.{TzPrepareCall, TzPrepares, tz-prepare-arguments, tz-prepare-ends, TzEnhanceCall, TzEnhances, tz-enhance-arguments, tz-enhance-ends, TzDrawCall, TzDraws, tz-draw-arguments, tz-draw-ends, TzListingCall, TzLists, tz-listing-arguments, tz-listing-ends}
 
 -- ---- tz_prepare
 
 -- any two outcomes are equal: its number, map buffer, scratch and list, and the cells: the record's ten numbers, factor and four arrays, and the footer's three
-pub tz-prepare-determined : {c k : TzPrepareCall} → TzPrepares c → TzPrepares k → tz-prepare-given c ≡ tz-prepare-given k
+pub tz-prepare-determined : {c k : TzPrepareCall} → TzPrepares c → TzPrepares k → tz-prepare-arguments c ≡ tz-prepare-arguments k
     → (c .number ≡ k .number) × (c .map′ ≡ k .map′) × (c .scratch′ ≡ k .scratch′) × (c .list′ ≡ k .list′) × (c .cells′ ≡ k .cells′)
 tz-prepare-determined x y same =
     let e = tz-prepare-ends x ∙ ap (λ g. flatPrepared (prepareOf (g .0) (g .1) (g .2) (g .3) (g .4) (g .5) (g .6) (g .7)) (g .8)) same ∙ sym (tz-prepare-ends y) in
@@ -41,7 +41,7 @@ tz-prepare-refusal-keeps {c} ran l =
 -- ---- tz_enhance
 
 -- any two outcomes are equal: its number, picture, map buffer and scratch, and the footer's three cells
-pub tz-enhance-determined : {c k : TzEnhanceCall} → TzEnhances c → TzEnhances k → tz-enhance-given c ≡ tz-enhance-given k
+pub tz-enhance-determined : {c k : TzEnhanceCall} → TzEnhances c → TzEnhances k → tz-enhance-arguments c ≡ tz-enhance-arguments k
     → (c .number ≡ k .number) × (c .pixels′ ≡ k .pixels′) × (c .map′ ≡ k .map′) × (c .scratch′ ≡ k .scratch′) × (c .foot′ ≡ k .foot′)
 tz-enhance-determined x y same =
     let e = tz-enhance-ends x ∙ ap (λ g. flatEnhanced (enhanceOf (g .0) (g .1) (g .2) (g .3) (g .4) (g .5)) (g .6)) same ∙ sym (tz-enhance-ends y) in
@@ -57,7 +57,7 @@ tz-enhance-refusal-keeps {c} ran l =
 -- ---- tz_draw
 
 -- any two outcomes are equal: its number and output
-pub tz-draw-determined : {c k : TzDrawCall} → TzDraws c → TzDraws k → tz-draw-given c ≡ tz-draw-given k
+pub tz-draw-determined : {c k : TzDrawCall} → TzDraws c → TzDraws k → tz-draw-arguments c ≡ tz-draw-arguments k
     → (c .number ≡ k .number) × (c .out′ ≡ k .out′)
 tz-draw-determined x y same =
     let e = tz-draw-ends x ∙ ap (λ g. flatDrawn (drawOf (g .0) (g .1) (g .2) (g .3) (g .4) (recordFrom (g .5) (g .6) (g .7)) (g .8) (g .9) (g .10))) same ∙ sym (tz-draw-ends y) in
@@ -78,12 +78,12 @@ listing-keeps s out count = go (first (textRows (length out)))
   where
     go : (n : ℕ)
         → Keeps (λ (z : FlatWritten). z .number) (λ n. writtenAs n out count)
-        (flatWritten (unless n (λ k. wroteAs (Written.Refused k) out) (wroteAs (Written.Bytes (length (listingOf s))) (onto out (listingOf s)))) count)
+        (flatWritten (unless n (λ k. writeLeaves (Written.Refused k) out) (writeLeaves (Written.Bytes (length (listingOf s))) (onto out (listingOf s)))) count)
     go zero = inl refl
     go (suc n) = inr refl
 
 -- any two outcomes are equal: its number, output and byte count
-pub tz-listing-determined : {c k : TzListingCall} → TzLists c → TzLists k → tz-listing-given c ≡ tz-listing-given k
+pub tz-listing-determined : {c k : TzListingCall} → TzLists c → TzLists k → tz-listing-arguments c ≡ tz-listing-arguments k
     → (c .number ≡ k .number) × (c .out′ ≡ k .out′) × (c .count′ ≡ k .count′)
 tz-listing-determined x y same =
     let e = tz-listing-ends x ∙ ap (λ g. flatWritten (listOf (g .0) (g .1)) (g .2)) same ∙ sym (tz-listing-ends y) in

@@ -12,8 +12,8 @@ use Rattle.settings.specs.declared.Window.{Window}
 use Rattle.prepare.specs.Prepare.{prepareOf, enhanceOf}
 use Rattle.draw.specs.Draw.{drawOf}
 use Rattle.listing.specs.Listing.{listOf}
-use Rattle.flat.specs.Flat.{settingsFrom, Axes, axed, recordFrom, windowFrom}
-use Rattle.flat.specs.Films.{Foot, footed, Cells, celled, preparedAs, flatPrepared, enhancedAs, flatEnhanced, drawnAs, flatDrawn}
+use Rattle.flat.specs.Flat.{settingsFrom, Axes, axesFrom, recordFrom, windowFrom}
+use Rattle.flat.specs.Films.{Foot, footFrom, Cells, cellsFrom, preparedAs, flatPrepared, enhancedAs, flatEnhanced, drawnAs, flatDrawn}
 use Rattle.flat.specs.Files.{writtenAs, flatWritten}
 use Rattle.abi.proofs.films.tz_prepare.Kinds as prepare
 use Rattle.abi.proofs.films.tz_prepare.Reads as prepare-reads
@@ -47,11 +47,11 @@ abbrev pub tz-prepare-values : Run prepare.ps prepare.r prepare-reads.Post → T
 tz-prepare-values run =
     let (film, (width, (height, (pixels, (across, (down, (bins, (min, (max, (clip, (asked-factor, (map, (scratch, (numbers, (factor, (limit, (asked, (used, (column-edges, (column-centres, (row-edges, (row-centres, (list, (edition, end)))))))))))))))))))))))) = run .handed in
     let (_, (_, (_, (_, (_, (_, (_, (_, (_, (_, (_, (map′, (scratch′, (numbers′, (factor′, (limit′, (asked′, (used′, (column-edges′, (column-centres′, (row-edges′, (row-centres′, (list′, (_, end′)))))))))))))))))))))))) = run .left in
-    record { film = film; width = width; height = height; pixels = now pixels; settings = settingsFrom across down bins min max clip asked-factor edition; map = now map; scratch = now scratch; list = now list; cells = celled (now numbers) (now factor) (axed (now column-edges) (now column-centres) (now row-edges) (now row-centres)) (footed (now limit) (now asked) (now used)); number = run .answer; map′ = now map′; scratch′ = now scratch′; list′ = now list′; cells′ = celled (now numbers′) (now factor′) (axed (now column-edges′) (now column-centres′) (now row-edges′) (now row-centres′)) (footed (now limit′) (now asked′) (now used′)) }
+    record { film = film; width = width; height = height; pixels = now pixels; settings = settingsFrom across down bins min max clip asked-factor edition; map = now map; scratch = now scratch; list = now list; cells = cellsFrom (now numbers) (now factor) (axesFrom (now column-edges) (now column-centres) (now row-edges) (now row-centres)) (footFrom (now limit) (now asked) (now used)); number = run .answer; map′ = now map′; scratch′ = now scratch′; list′ = now list′; cells′ = cellsFrom (now numbers′) (now factor′) (axesFrom (now column-edges′) (now column-centres′) (now row-edges′) (now row-centres′)) (footFrom (now limit′) (now asked′) (now used′)) }
 
 -- what it is handed
-abbrev pub tz-prepare-given : TzPrepareCall → ℕ × ℕ × ℕ × List ℕ × Settings × List ℕ × List ℕ × List ℕ × Cells
-tz-prepare-given c = (c .film, c .width, c .height, c .pixels, c .settings, c .map, c .scratch, c .list, c .cells)
+abbrev pub tz-prepare-arguments : TzPrepareCall → ℕ × ℕ × ℕ × List ℕ × Settings × List ℕ × List ℕ × List ℕ × Cells
+tz-prepare-arguments c = (c .film, c .width, c .height, c .pixels, c .settings, c .map, c .scratch, c .list, c .cells)
 
 -- tz_prepare ran with these values
 abbrev pub TzPrepares : TzPrepareCall → Type 0
@@ -80,11 +80,11 @@ abbrev pub tz-enhance-values : Run enhance.ps enhance.r enhance-reads.Post → T
 tz-enhance-values run =
     let (width, (height, (pixels, (across, (down, (bins, (min, (max, (clip, (factor, (map, (scratch, (limit, (asked, (used, (edition, end)))))))))))))))) = run .handed in
     let (_, (_, (pixels′, (_, (_, (_, (_, (_, (_, (_, (map′, (scratch′, (limit′, (asked′, (used′, (_, end′)))))))))))))))) = run .left in
-    record { width = width; height = height; pixels = now pixels; settings = settingsFrom across down bins min max clip factor edition; map = now map; scratch = now scratch; foot = footed (now limit) (now asked) (now used); number = run .answer; pixels′ = now pixels′; map′ = now map′; scratch′ = now scratch′; foot′ = footed (now limit′) (now asked′) (now used′) }
+    record { width = width; height = height; pixels = now pixels; settings = settingsFrom across down bins min max clip factor edition; map = now map; scratch = now scratch; foot = footFrom (now limit) (now asked) (now used); number = run .answer; pixels′ = now pixels′; map′ = now map′; scratch′ = now scratch′; foot′ = footFrom (now limit′) (now asked′) (now used′) }
 
 -- what it is handed
-abbrev pub tz-enhance-given : TzEnhanceCall → ℕ × ℕ × List ℕ × Settings × List ℕ × List ℕ × Foot
-tz-enhance-given c = (c .width, c .height, c .pixels, c .settings, c .map, c .scratch, c .foot)
+abbrev pub tz-enhance-arguments : TzEnhanceCall → ℕ × ℕ × List ℕ × Settings × List ℕ × List ℕ × Foot
+tz-enhance-arguments c = (c .width, c .height, c .pixels, c .settings, c .map, c .scratch, c .foot)
 
 -- tz_enhance ran with these values
 abbrev pub TzEnhances : TzEnhanceCall → Type 0
@@ -115,11 +115,11 @@ abbrev pub tz-draw-values : Run draw.ps draw.r draw-reads.Post → TzDrawCall
 tz-draw-values run =
     let (film, (width, (height, (pixels, (across, (down, (bins, (min, (max, (clip, (asked-factor, (numbers, (factor, (left, (top, (window-width, (window-height, (map, (out, (column-edges, (column-centres, (row-edges, (row-centres, (edition, end)))))))))))))))))))))))) = run .handed in
     let (_, (_, (_, (_, (_, (_, (_, (_, (_, (_, (_, (_, (_, (_, (_, (_, (_, (_, (out′, end′))))))))))))))))))) = run .left in
-    record { film = film; width = width; height = height; pixels = now pixels; settings = settingsFrom across down bins min max clip asked-factor edition; numbers = now numbers; factor = factor; axes = axed (now column-edges) (now column-centres) (now row-edges) (now row-centres); window = windowFrom left top window-width window-height; map = now map; out = now out; number = run .answer; out′ = now out′ }
+    record { film = film; width = width; height = height; pixels = now pixels; settings = settingsFrom across down bins min max clip asked-factor edition; numbers = now numbers; factor = factor; axes = axesFrom (now column-edges) (now column-centres) (now row-edges) (now row-centres); window = windowFrom left top window-width window-height; map = now map; out = now out; number = run .answer; out′ = now out′ }
 
 -- what it is handed
-abbrev pub tz-draw-given : TzDrawCall → ℕ × ℕ × ℕ × List ℕ × Settings × List ℕ × Float × Axes × Window × List ℕ × List ℕ
-tz-draw-given c = (c .film, c .width, c .height, c .pixels, c .settings, c .numbers, c .factor, c .axes, c .window, c .map, c .out)
+abbrev pub tz-draw-arguments : TzDrawCall → ℕ × ℕ × ℕ × List ℕ × Settings × List ℕ × Float × Axes × Window × List ℕ × List ℕ
+tz-draw-arguments c = (c .film, c .width, c .height, c .pixels, c .settings, c .numbers, c .factor, c .axes, c .window, c .map, c .out)
 
 -- tz_draw ran with these values
 abbrev pub TzDraws : TzDrawCall → Type 0
@@ -145,8 +145,8 @@ tz-listing-values run =
     record { bytes = now bytes; out = now out; count = now count; number = run .answer; out′ = now out′; count′ = now count′ }
 
 -- what it is handed
-abbrev pub tz-listing-given : TzListingCall → List ℕ × List ℕ × ℕ
-tz-listing-given c = (c .bytes, c .out, c .count)
+abbrev pub tz-listing-arguments : TzListingCall → List ℕ × List ℕ × ℕ
+tz-listing-arguments c = (c .bytes, c .out, c .count)
 
 -- tz_listing ran with these values
 abbrev pub TzLists : TzListingCall → Type 0

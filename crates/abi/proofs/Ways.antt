@@ -11,7 +11,7 @@ use Rattle.refuse.specs.Refuse.{first, accepted, says}
 use Rattle.settings.specs.declared.MapRecord.{MapRecord}
 use Rattle.settings.specs.Settings.{recordOf, clipOne}
 use Rattle.settings.proofs.Records.{record-film}
-use Rattle.prepare.specs.Prepare.{preparedSays, prepareRows, Ended, prepareOf, preparedOf}
+use Rattle.prepare.specs.Prepare.{preparedSays, prepareRows, PrepareOut, prepareOf, preparedOf}
 use Rattle.tiles.specs.Tiles.{footOf}
 use Rattle.draw.specs.Draw.{drawRows, drawnSays, drawOf}
 use Rattle.draw.proofs.Tables.{draw-ready}
@@ -20,7 +20,7 @@ use Rattle.promises.specs.Films.{HandedOn}
 use Rattle.promises.proofs.Accepted.{table-says, returned-number, prepare-table, draw-table}
 use Rattle.promises.proofs.Demand2.{draw-agrees, own-window, drawn-is-film}
 use Rattle.flat.specs.Flat.{returned, clipFactor, recordNumbers, axesAfter, recordFrom}
-use Rattle.flat.specs.Films.{FlatPrepared, celled, cellsAfter, preparedAs, flatPrepared, footAfter, FlatDrawn, flatDrawn}
+use Rattle.flat.specs.Films.{FlatPrepared, cellsFrom, cellsAfter, preparedAs, flatPrepared, footAfter, FlatDrawn, flatDrawn}
 use Rattle.flat.proofs.Handed.{record-back}
 use Rattle.abi.proofs.Runs.{TzPrepareCall, TzPrepares, tz-prepare-ends, TzDrawCall, TzDraws, tz-draw-ends}
 use Rattle.abi.proofs.Outcomes.{tz-draw-refusal-keeps}
@@ -46,7 +46,7 @@ module _ {p : TzPrepareCall} (ran : TzPrepares p) (prepared : p .number ≡ 0) w
   made = recordOf (p .film) (p .width) (p .height) (p .settings)
 
   -- what the call beneath gives
-  abbrev ended : Ended
+  abbrev ended : PrepareOut
   ended = prepareOf (p .film) (p .width) (p .height) (p .pixels) (p .settings) (p .map) (p .scratch) (p .list)
 
   none : first (prepareRows (p .width) (p .height) (p .pixels) (p .settings) (length (p .map)) (length (p .scratch)) (length (p .list))) ≡ 0
@@ -62,7 +62,7 @@ module _ {p : TzPrepareCall} (ran : TzPrepares p) (prepared : p .number ≡ 0) w
   -- so the cells hold the film's record, and the map buffer what it gives
   left : preparedAs (p .number) (p .map′) (p .scratch′) (p .list′) (p .cells′)
       ≡ preparedAs 0 (ended .map) (ended .scratch) (ended .list)
-      (celled (recordNumbers made) (clipFactor (made .settings .clip)) (axesAfter made) (footAfter (footOf (p .width) (p .height) (p .settings))))
+      (cellsFrom (recordNumbers made) (clipFactor (made .settings .clip)) (axesAfter made) (footAfter (footOf (p .width) (p .height) (p .settings))))
   unfolding flatPrepared
   left = tz-prepare-ends ran ∙ ap (λ x. preparedAs (returned x) (ended .map) (ended .scratch) (ended .list) (cellsAfter x (p .cells))) done
 

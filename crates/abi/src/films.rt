@@ -2,8 +2,8 @@
 ghost use mathlib.Core.Path.{_≡_};
 ghost use Rattle.prepare.specs.Prepare.{prepareOf, enhanceOf};
 ghost use Rattle.draw.specs.Draw.{drawOf};
-ghost use Rattle.flat.specs.Flat.{settingsFrom, axed, recordFrom, windowFrom};
-ghost use Rattle.flat.specs.Films.{footed, celled, preparedAs, flatPrepared, enhancedAs, flatEnhanced, drawnAs, flatDrawn};
+ghost use Rattle.flat.specs.Flat.{settingsFrom, axesFrom, recordFrom, windowFrom};
+ghost use Rattle.flat.specs.Films.{footFrom, cellsFrom, preparedAs, flatPrepared, enhancedAs, flatEnhanced, drawnAs, flatDrawn};
 use draw::Drawn;
 use prepare::Enhanced;
 use settings::Window;
@@ -35,7 +35,7 @@ pub extern "C" fn tz_prepare(
     list: &mut [u64],
     edition: u32,
 ) -> u32
-    ensures { λ r. ⌜ preparedAs r (now (map .exit)) (now (scratch .exit)) (now (list .exit)) (celled (now (numbers .exit)) (now (kept .exit)) (axed (now («column_edges» .exit)) (now («column_centres» .exit)) (now («row_edges» .exit)) (now («row_centres» .exit))) (footed (now (limit .exit)) (now (asked .exit)) (now (used .exit)))) ≡ flatPrepared (prepareOf film width height (now (picture .entry)) (settingsFrom across down bins min max clip factor edition) (now (map .entry)) (now (scratch .entry)) (now (list .entry))) (celled (now (numbers .entry)) (now (kept .entry)) (axed (now («column_edges» .entry)) (now («column_centres» .entry)) (now («row_edges» .entry)) (now («row_centres» .entry))) (footed (now (limit .entry)) (now (asked .entry)) (now (used .entry)))) ⌝ }
+    ensures { λ r. ⌜ preparedAs r (now (map .exit)) (now (scratch .exit)) (now (list .exit)) (cellsFrom (now (numbers .exit)) (now (kept .exit)) (axesFrom (now («column_edges» .exit)) (now («column_centres» .exit)) (now («row_edges» .exit)) (now («row_centres» .exit))) (footFrom (now (limit .exit)) (now (asked .exit)) (now (used .exit)))) ≡ flatPrepared (prepareOf film width height (now (picture .entry)) (settingsFrom across down bins min max clip factor edition) (now (map .entry)) (now (scratch .entry)) (now (list .entry))) (cellsFrom (now (numbers .entry)) (now (kept .entry)) (axesFrom (now («column_edges» .entry)) (now («column_centres» .entry)) (now («row_edges» .entry)) (now («row_centres» .entry))) (footFrom (now (limit .entry)) (now (asked .entry)) (now (used .entry)))) ⌝ }
 {
     let s = flat::settings_from(across, down, bins, min, max, clip, factor, edition);
     let prepared = prepare::prepare(film, width, height, picture, s, map, scratch, list);
@@ -72,7 +72,7 @@ pub extern "C" fn tz_enhance(
     used: &mut f64,
     edition: u32,
 ) -> u32
-    ensures { λ r. ⌜ enhancedAs r (now (picture .exit)) (now (map .exit)) (now (scratch .exit)) (footed (now (limit .exit)) (now (asked .exit)) (now (used .exit))) ≡ flatEnhanced (enhanceOf width height (now (picture .entry)) (settingsFrom across down bins min max clip factor edition) (now (map .entry)) (now (scratch .entry))) (footed (now (limit .entry)) (now (asked .entry)) (now (used .entry))) ⌝ }
+    ensures { λ r. ⌜ enhancedAs r (now (picture .exit)) (now (map .exit)) (now (scratch .exit)) (footFrom (now (limit .exit)) (now (asked .exit)) (now (used .exit))) ≡ flatEnhanced (enhanceOf width height (now (picture .entry)) (settingsFrom across down bins min max clip factor edition) (now (map .entry)) (now (scratch .entry))) (footFrom (now (limit .entry)) (now (asked .entry)) (now (used .entry))) ⌝ }
 {
     let s = flat::settings_from(across, down, bins, min, max, clip, factor, edition);
     let answer = prepare::enhance(width, height, picture, s, map, scratch);
@@ -112,7 +112,7 @@ pub extern "C" fn tz_draw(
     row_centres: &[u32; 16],
     edition: u32,
 ) -> u32
-    ensures { λ r. ⌜ drawnAs r (now (out .exit)) ≡ flatDrawn (drawOf film width height (now (picture .entry)) (settingsFrom across down bins min max clip factor edition) (recordFrom (now (numbers .entry)) kept (axed (now («column_edges» .entry)) (now («column_centres» .entry)) (now («row_edges» .entry)) (now («row_centres» .entry)))) (windowFrom left top «window_width» «window_height») (now (map .entry)) (now (out .entry))) ⌝ }
+    ensures { λ r. ⌜ drawnAs r (now (out .exit)) ≡ flatDrawn (drawOf film width height (now (picture .entry)) (settingsFrom across down bins min max clip factor edition) (recordFrom (now (numbers .entry)) kept (axesFrom (now («column_edges» .entry)) (now («column_centres» .entry)) (now («row_edges» .entry)) (now («row_centres» .entry)))) (windowFrom left top «window_width» «window_height») (now (map .entry)) (now (out .entry))) ⌝ }
 {
     let s = flat::settings_from(across, down, bins, min, max, clip, factor, edition);
     let columns = flat::axis_from(column_edges, column_centres);

@@ -6,14 +6,14 @@ use mathlib.Core.Path.{_≡_, refl}
 use Rattle.settings.specs.declared.Footer.{Footer}
 use Rattle.prepare.specs.declared.Enhanced.{Enhanced}
 use Rattle.prepare.specs.declared.Enhanced.the-variants as Enhanced
-use Rattle.prepare.specs.Prepare.{enhancedSays, Painted, painting}
+use Rattle.prepare.specs.Prepare.{enhancedSays, PaintOut, paintLeaves}
 use Rattle.flat.specs.Films.{Foot, footAfter}
 use Rattle.abi_around.specs.Flat.{aroundedAs, flatArounded}
 
-pub around-done : {a : Enhanced} {o t : List ℕ} (p : Painted) (old : Foot) {f : Footer} {y : Foot} → painting a o t ≡ p → a ≡ Enhanced.Done f → y ≡ footAfter f → aroundedAs 0 o t y ≡ flatArounded p old
+pub around-done : {a : Enhanced} {o t : List ℕ} (p : PaintOut) (old : Foot) {f : Footer} {y : Foot} → paintLeaves a o t ≡ p → a ≡ Enhanced.Done f → y ≡ footAfter f → aroundedAs 0 o t y ≡ flatArounded p old
 unfolding flatArounded enhancedSays
 around-done p old e q y = rw (← e, q, y) refl
 
-pub around-refused : {a : Enhanced} {o t : List ℕ} (p : Painted) (old : Foot) {n : ℕ} → painting a o t ≡ p → a ≡ Enhanced.Refused n → aroundedAs n o t old ≡ flatArounded p old
+pub around-refused : {a : Enhanced} {o t : List ℕ} (p : PaintOut) (old : Foot) {n : ℕ} → paintLeaves a o t ≡ p → a ≡ Enhanced.Refused n → aroundedAs n o t old ≡ flatArounded p old
 unfolding flatArounded enhancedSays
 around-refused p old e q = rw (← e, q) refl

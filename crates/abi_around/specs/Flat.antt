@@ -7,12 +7,12 @@ use lib.Ieee.{Float}
 use Rattle.refuse.specs.Refuse.{Says, accepted, refused}
 use Rattle.settings.specs.declared.Settings.{Settings}
 use Rattle.settings.specs.declared.Footer.{Footer}
-use Rattle.prepare.specs.Prepare.{enhancedSays, Painted}
+use Rattle.prepare.specs.Prepare.{enhancedSays, PaintOut}
 use Rattle.flat.specs.Flat.{settingsFrom}
 use Rattle.flat.specs.Films.{Foot, footAfter}
 
 -- the settings of six arguments: every pixel has a region in the place of a grid, and none is asked for
-abbrev pub regional : ℕ → ℕ → ℕ → ℕ → Float → ℕ → Settings
+abbrev pub regional : (bins min max clip : ℕ) (factor : Float) (edition : ℕ) → Settings
 regional bins min max clip factor edition = settingsFrom 0 0 bins min max clip factor edition
 
 -- the number returned, the target and the scratch that were lent, and the footer's cells
@@ -32,5 +32,5 @@ aroundedBy (accepted f) o t foot = aroundedAs 0 o t (footAfter f)
 aroundedBy (refused n) o t foot = aroundedAs n o t foot
 
 -- from what around leaves, and what the footer's cells held before
-unfoldable pub flatArounded : Painted → Foot → FlatArounded
+unfoldable pub flatArounded : PaintOut → Foot → FlatArounded
 flatArounded p foot = aroundedBy (enhancedSays (p .answer)) (p .target) (p .scratch) foot

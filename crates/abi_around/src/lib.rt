@@ -1,7 +1,7 @@
 // A window around each pixel for C: numbers and slices in, 0 or the refusal's number out.
 ghost use mathlib.Core.Path.{_≡_};
 ghost use Rattle.around.specs.Around.{aroundOf};
-ghost use Rattle.flat.specs.Films.{footed};
+ghost use Rattle.flat.specs.Films.{footFrom};
 ghost use Rattle.abi_around.specs.Flat.{regional, aroundedAs, flatArounded};
 use prepare::Enhanced;
 
@@ -24,7 +24,7 @@ pub extern "C" fn tz_around(
     used: &mut f64,
     edition: u32,
 ) -> u32
-    ensures { λ r. ⌜ aroundedAs r (now (target .exit)) (now (scratch .exit)) (footed (now (limit .exit)) (now (asked .exit)) (now (used .exit))) ≡ flatArounded (aroundOf width height (now (picture .entry)) side (regional bins min max clip factor edition) (now (target .entry)) (now (scratch .entry))) (footed (now (limit .entry)) (now (asked .entry)) (now (used .entry))) ⌝ }
+    ensures { λ r. ⌜ aroundedAs r (now (target .exit)) (now (scratch .exit)) (footFrom (now (limit .exit)) (now (asked .exit)) (now (used .exit))) ≡ flatArounded (aroundOf width height (now (picture .entry)) side (regional bins min max clip factor edition) (now (target .entry)) (now (scratch .entry))) (footFrom (now (limit .entry)) (now (asked .entry)) (now (used .entry))) ⌝ }
 {
     let s = flat::settings_from(0, 0, bins, min, max, clip, factor, edition);
     let answer = around::around(width, height, picture, side, s, target, scratch);

@@ -5,13 +5,13 @@ use mathlib.Core.List.{List}
 use mathlib.Core.Path.{_≡_, refl}
 use Rattle.counting.specs.declared.Counted.{Counted}
 use Rattle.counting.specs.declared.Counted.the-variants as Counted
-use Rattle.counting.specs.Counting.{Tallied, counted, countedSays}
+use Rattle.counting.specs.Counting.{CountOut, countLeaves, countedSays}
 use Rattle.abi_counts.specs.Flat.{countedAs, flatCounted}
 
-pub counted-done : {a : Counted} {cs : List ℕ} (t : Tallied) → counted a cs ≡ t → a ≡ Counted.Done → countedAs 0 cs ≡ flatCounted t
+pub counted-done : {a : Counted} {cs : List ℕ} (t : CountOut) → countLeaves a cs ≡ t → a ≡ Counted.Done → countedAs 0 cs ≡ flatCounted t
 unfolding flatCounted countedSays
 counted-done t p q = rw (← p, q) refl
 
-pub counted-refused : {a : Counted} {cs : List ℕ} (t : Tallied) {n : ℕ} → counted a cs ≡ t → a ≡ Counted.Refused n → countedAs n cs ≡ flatCounted t
+pub counted-refused : {a : Counted} {cs : List ℕ} (t : CountOut) {n : ℕ} → countLeaves a cs ≡ t → a ≡ Counted.Refused n → countedAs n cs ≡ flatCounted t
 unfolding flatCounted countedSays
 counted-refused t p q = rw (← p, q) refl

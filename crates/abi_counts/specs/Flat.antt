@@ -6,11 +6,11 @@ use mathlib.Core.List.{List}
 use Rattle.limit.specs.declared.Clip.the-variants.{Off}
 use Rattle.limit.specs.declared.Edition.the-variants.{Ours}
 use Rattle.settings.specs.declared.Settings.{Settings}
-use Rattle.counting.specs.Counting.{Tallied, countedSays}
+use Rattle.counting.specs.Counting.{CountOut, countedSays}
 use Rattle.flat.specs.Flat.{returned}
 
 -- counting never looks at the clip: the settings of five arguments, with clip off and our edition
-abbrev pub unclipped : ℕ → ℕ → ℕ → ℕ → ℕ → Settings
+abbrev pub unclipped : (across down bins min max : ℕ) → Settings
 unclipped across down bins min max = record { across = across; down = down; bins = bins; min = min; max = max; clip = Off; edition = Ours }
 
 -- "A refusal returns its number alone": the number returned, and the counts that were lent
@@ -23,5 +23,5 @@ abbrev pub countedAs : ℕ → List ℕ → FlatCounted
 countedAs n cs = record { number = n; counts = cs }
 
 -- from what counting leaves
-unfoldable pub flatCounted : Tallied → FlatCounted
+unfoldable pub flatCounted : CountOut → FlatCounted
 flatCounted t = countedAs (returned (countedSays (t .answer))) (t .counts)

@@ -2,8 +2,8 @@
 ghost use mathlib.Core.Path.{_≡_};
 ghost use Rattle.counting.specs.Counting.{countOf};
 ghost use Rattle.counts.specs.Counts.{mapOf};
-ghost use Rattle.flat.specs.Flat.{settingsFrom, axed};
-ghost use Rattle.flat.specs.Films.{footed, celled, preparedAs, flatPrepared};
+ghost use Rattle.flat.specs.Flat.{settingsFrom, axesFrom};
+ghost use Rattle.flat.specs.Films.{footFrom, cellsFrom, preparedAs, flatPrepared};
 ghost use Rattle.abi_counts.specs.Flat.{unclipped, countedAs, flatCounted};
 use counting::Counted;
 use limit::Clip;
@@ -68,7 +68,7 @@ pub extern "C" fn tz_map(
     list: &mut [u64],
     edition: u32,
 ) -> u32
-    ensures { λ r. ⌜ preparedAs r (now (map .exit)) (now (scratch .exit)) (now (list .exit)) (celled (now (numbers .exit)) (now (kept .exit)) (axed (now («column_edges» .exit)) (now («column_centres» .exit)) (now («row_edges» .exit)) (now («row_centres» .exit))) (footed (now (limit .exit)) (now (asked .exit)) (now (used .exit)))) ≡ flatPrepared (mapOf film width height (settingsFrom across down bins min max clip factor edition) (now (counts .entry)) (now (map .entry)) (now (scratch .entry)) (now (list .entry))) (celled (now (numbers .entry)) (now (kept .entry)) (axed (now («column_edges» .entry)) (now («column_centres» .entry)) (now («row_edges» .entry)) (now («row_centres» .entry))) (footed (now (limit .entry)) (now (asked .entry)) (now (used .entry)))) ⌝ }
+    ensures { λ r. ⌜ preparedAs r (now (map .exit)) (now (scratch .exit)) (now (list .exit)) (cellsFrom (now (numbers .exit)) (now (kept .exit)) (axesFrom (now («column_edges» .exit)) (now («column_centres» .exit)) (now («row_edges» .exit)) (now («row_centres» .exit))) (footFrom (now (limit .exit)) (now (asked .exit)) (now (used .exit)))) ≡ flatPrepared (mapOf film width height (settingsFrom across down bins min max clip factor edition) (now (counts .entry)) (now (map .entry)) (now (scratch .entry)) (now (list .entry))) (cellsFrom (now (numbers .entry)) (now (kept .entry)) (axesFrom (now («column_edges» .entry)) (now («column_centres» .entry)) (now («row_edges» .entry)) (now («row_centres» .entry))) (footFrom (now (limit .entry)) (now (asked .entry)) (now (used .entry)))) ⌝ }
 {
     let s = flat::settings_from(across, down, bins, min, max, clip, factor, edition);
     let prepared = counts::map_counts(film, width, height, s, counts, map, scratch, list);

@@ -6,16 +6,16 @@ use mathlib.Core.Path.{_≡_, refl}
 use Rattle.settings.specs.declared.Footer.{Footer}
 use Rattle.prepare.specs.declared.Enhanced.{Enhanced}
 use Rattle.prepare.specs.declared.Enhanced.the-variants as Enhanced
-use Rattle.prepare.specs.Prepare.{enhancedSays, Painted, painting}
+use Rattle.prepare.specs.Prepare.{enhancedSays, PaintOut, paintLeaves}
 use Rattle.flat.specs.Films.{Foot, footAfter}
 use Rattle.abi_engines.specs.Flat.{paintedAs, flatPainted}
 
-pub painted-done : {a : Enhanced} {o t : List ℕ} (p : Painted) (foot : Foot) {f : Footer} {y : Foot}
-    → painting a o t ≡ p → a ≡ Enhanced.Done f → y ≡ footAfter f → paintedAs 0 o t y ≡ flatPainted p foot
+pub painted-done : {a : Enhanced} {o t : List ℕ} (p : PaintOut) (foot : Foot) {f : Footer} {y : Foot}
+    → paintLeaves a o t ≡ p → a ≡ Enhanced.Done f → y ≡ footAfter f → paintedAs 0 o t y ≡ flatPainted p foot
 unfolding flatPainted enhancedSays
 painted-done p foot e q y = rw (← e, q, y) refl
 
-pub painted-refused : {a : Enhanced} {o t : List ℕ} (p : Painted) (foot : Foot) {n : ℕ}
-    → painting a o t ≡ p → a ≡ Enhanced.Refused n → paintedAs n o t foot ≡ flatPainted p foot
+pub painted-refused : {a : Enhanced} {o t : List ℕ} (p : PaintOut) (foot : Foot) {n : ℕ}
+    → paintLeaves a o t ≡ p → a ≡ Enhanced.Refused n → paintedAs n o t foot ≡ flatPainted p foot
 unfolding flatPainted enhancedSays
 painted-refused p foot e q = rw (← e, q) refl

@@ -5,7 +5,7 @@ use Prim.Native.Nat.{ℕ}
 use mathlib.Core.List.{List}
 use Rattle.refuse.specs.Refuse.{Says, accepted, refused}
 use Rattle.settings.specs.declared.Footer.{Footer}
-use Rattle.prepare.specs.Prepare.{enhancedSays, Painted}
+use Rattle.prepare.specs.Prepare.{enhancedSays, PaintOut}
 use Rattle.flat.specs.Films.{Foot, footAfter}
 
 -- "It writes to a separate picture": the number returned, the target and the scratch that were lent, and the footer's three cells
@@ -25,5 +25,5 @@ paintedBy (accepted f) o t foot = paintedAs 0 o t (footAfter f)
 paintedBy (refused n) o t foot = paintedAs n o t foot
 
 -- from what the engine leaves, and what the footer's cells held before
-unfoldable pub flatPainted : Painted → Foot → FlatPainted
+unfoldable pub flatPainted : PaintOut → Foot → FlatPainted
 flatPainted p foot = paintedBy (enhancedSays (p .answer)) (p .target) (p .scratch) foot

@@ -2,7 +2,7 @@
 ghost use mathlib.Core.Path.{_≡_};
 ghost use Rattle.direct.specs.Direct.{directOf};
 ghost use Rattle.flat.specs.Flat.{settingsFrom};
-ghost use Rattle.flat.specs.Films.{footed};
+ghost use Rattle.flat.specs.Films.{footFrom};
 ghost use Rattle.abi_engines.specs.Flat.{paintedAs, flatPainted};
 use prepare::Enhanced;
 
@@ -25,7 +25,7 @@ pub extern "C" fn tz_direct(
     used: &mut f64,
     edition: u32,
 ) -> u32
-    ensures { λ r. ⌜ paintedAs r (now (target .exit)) (now (scratch .exit)) (footed (now (limit .exit)) (now (asked .exit)) (now (used .exit))) ≡ flatPainted (directOf width height (now (picture .entry)) (settingsFrom across down bins min max clip factor edition) (now (target .entry)) (now (scratch .entry))) (footed (now (limit .entry)) (now (asked .entry)) (now (used .entry))) ⌝ }
+    ensures { λ r. ⌜ paintedAs r (now (target .exit)) (now (scratch .exit)) (footFrom (now (limit .exit)) (now (asked .exit)) (now (used .exit))) ≡ flatPainted (directOf width height (now (picture .entry)) (settingsFrom across down bins min max clip factor edition) (now (target .entry)) (now (scratch .entry))) (footFrom (now (limit .entry)) (now (asked .entry)) (now (used .entry))) ⌝ }
 {
     let s = flat::settings_from(across, down, bins, min, max, clip, factor, edition);
     let answer = direct::direct(width, height, picture, s, target, scratch);

@@ -17,7 +17,7 @@ use Rattle.promises.proofs.Accepted.{returned-kept}
 use Rattle.promises.proofs.Files.{greys-table, write-table}
 use Rattle.flat.specs.Files.{Answer, answered, flatSizes, flatRaster, flatGreys, FlatWritten, flatWritten}
 use Rattle.flat.proofs.Kept.{Keeps, kept}
-use Rattle.abi_files.proofs.Runs.{TzSizesCall, TzReadsSizes, tz-sizes-given, tz-sizes-ends, TzRasterCall, TzReadsRaster, tz-raster-given, tz-raster-ends, TzGreysCall, TzGreys, tz-greys-given, tz-greys-ends, TzWriteCall, TzWrites, tz-write-given, tz-write-ends}
+use Rattle.abi_files.proofs.Runs.{TzSizesCall, TzReadsSizes, tz-sizes-arguments, tz-sizes-ends, TzRasterCall, TzReadsRaster, tz-raster-arguments, tz-raster-ends, TzGreysCall, TzGreys, tz-greys-arguments, tz-greys-ends, TzWriteCall, TzWrites, tz-write-arguments, tz-write-ends}
 
 -- ---- what a returned number tells
 
@@ -34,7 +34,7 @@ raster-keeps (Head.Refused k) size old = inr refl
 -- ---- tz_read_sizes
 
 -- any two outcomes are equal: its number and the three sizes
-pub tz-read-sizes-determined : {c k : TzSizesCall} → TzReadsSizes c → TzReadsSizes k → tz-sizes-given c ≡ tz-sizes-given k
+pub tz-read-sizes-determined : {c k : TzSizesCall} → TzReadsSizes c → TzReadsSizes k → tz-sizes-arguments c ≡ tz-sizes-arguments k
     → (c .number ≡ k .number) × (c .sizes′ ≡ k .sizes′)
 tz-read-sizes-determined x y same =
     let e = tz-sizes-ends x ∙ ap (λ g. flatSizes (sizesSays (sizesOf (readOf (g .0)))) (g .1)) same ∙ sym (tz-sizes-ends y) in
@@ -49,7 +49,7 @@ tz-read-sizes-refusal-keeps {c} ran l =
 -- ---- tz_read_raster
 
 -- any two outcomes are equal: its number and the part's two numbers
-pub tz-read-raster-determined : {c k : TzRasterCall} → TzReadsRaster c → TzReadsRaster k → tz-raster-given c ≡ tz-raster-given k
+pub tz-read-raster-determined : {c k : TzRasterCall} → TzReadsRaster c → TzReadsRaster k → tz-raster-arguments c ≡ tz-raster-arguments k
     → (c .number ≡ k .number) × (c .part′ ≡ k .part′)
 tz-read-raster-determined x y same =
     let e = tz-raster-ends x ∙ ap (λ g. flatRaster (readOf (g .0)) (length (g .0)) (g .1)) same ∙ sym (tz-raster-ends y) in
@@ -64,7 +64,7 @@ tz-read-raster-refusal-keeps {c} ran l =
 -- ---- tz_read_greys
 
 -- any two outcomes are equal: its number and target
-pub tz-read-greys-determined : {c k : TzGreysCall} → TzGreys c → TzGreys k → tz-greys-given c ≡ tz-greys-given k
+pub tz-read-greys-determined : {c k : TzGreysCall} → TzGreys c → TzGreys k → tz-greys-arguments c ≡ tz-greys-arguments k
     → (c .number ≡ k .number) × (c .target′ ≡ k .target′)
 tz-read-greys-determined x y same =
     let e = tz-greys-ends x ∙ ap (λ g. flatGreys (turnedOf (g .0) (g .1) (g .2) (g .3) (g .4) (g .5))) same ∙ sym (tz-greys-ends y) in
@@ -79,7 +79,7 @@ tz-read-greys-refusal-keeps ran l =
 -- ---- tz_write
 
 -- any two outcomes are equal: its number, output and byte count
-pub tz-write-determined : {c k : TzWriteCall} → TzWrites c → TzWrites k → tz-write-given c ≡ tz-write-given k
+pub tz-write-determined : {c k : TzWriteCall} → TzWrites c → TzWrites k → tz-write-arguments c ≡ tz-write-arguments k
     → (c .number ≡ k .number) × (c .out′ ≡ k .out′) × (c .count′ ≡ k .count′)
 tz-write-determined x y same =
     let e = tz-write-ends x ∙ ap (λ g. flatWritten (writeOf (g .0) (g .1) (g .2) (g .3) (g .4)) (g .5)) same ∙ sym (tz-write-ends y) in

@@ -35,8 +35,8 @@ tz-sizes-values run =
     record { bytes = now bytes; sizes = now sizes; number = run .answer; sizes′ = now sizes′ }
 
 -- what it is handed
-abbrev pub tz-sizes-given : TzSizesCall → List ℕ × List ℕ
-tz-sizes-given c = (c .bytes, c .sizes)
+abbrev pub tz-sizes-arguments : TzSizesCall → List ℕ × List ℕ
+tz-sizes-arguments c = (c .bytes, c .sizes)
 
 -- tz_read_sizes ran with these values
 abbrev pub TzReadsSizes : TzSizesCall → Type 0
@@ -60,8 +60,8 @@ tz-raster-values run =
     record { bytes = now bytes; part = now part; number = run .answer; part′ = now part′ }
 
 -- what it is handed
-abbrev pub tz-raster-given : TzRasterCall → List ℕ × List ℕ
-tz-raster-given c = (c .bytes, c .part)
+abbrev pub tz-raster-arguments : TzRasterCall → List ℕ × List ℕ
+tz-raster-arguments c = (c .bytes, c .part)
 
 -- tz_read_raster ran with these values
 abbrev pub TzReadsRaster : TzRasterCall → Type 0
@@ -89,8 +89,8 @@ tz-greys-values run =
     record { bytes = now bytes; start = start; width = width; height = height; maxval = maxval; target = now target; number = run .answer; target′ = now target′ }
 
 -- what it is handed
-abbrev pub tz-greys-given : TzGreysCall → List ℕ × ℕ × ℕ × ℕ × ℕ × List ℕ
-tz-greys-given c = (c .bytes, c .start, c .width, c .height, c .maxval, c .target)
+abbrev pub tz-greys-arguments : TzGreysCall → List ℕ × ℕ × ℕ × ℕ × ℕ × List ℕ
+tz-greys-arguments c = (c .bytes, c .start, c .width, c .height, c .maxval, c .target)
 
 -- tz_read_greys ran with these values
 abbrev pub TzGreys : TzGreysCall → Type 0
@@ -119,8 +119,8 @@ tz-write-values run =
     record { pixels = now pixels; width = width; height = height; maxval = maxval; out = now out; count = now count; number = run .answer; out′ = now out′; count′ = now count′ }
 
 -- what it is handed
-abbrev pub tz-write-given : TzWriteCall → List ℕ × ℕ × ℕ × ℕ × List ℕ × ℕ
-tz-write-given c = (c .pixels, c .width, c .height, c .maxval, c .out, c .count)
+abbrev pub tz-write-arguments : TzWriteCall → List ℕ × ℕ × ℕ × ℕ × List ℕ × ℕ
+tz-write-arguments c = (c .pixels, c .width, c .height, c .maxval, c .out, c .count)
 
 -- tz_write ran with these values
 abbrev pub TzWrites : TzWriteCall → Type 0

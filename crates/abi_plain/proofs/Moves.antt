@@ -13,8 +13,8 @@ use Rattle.pgm.specs.declared.Sizes.{Sizes}
 use Rattle.pgm.specs.declared.Sizes.the-variants as Sizes
 use Rattle.pgm.specs.Pgm.{sizesSays}
 use Rattle.pgm_greys.specs.declared.Turned.the-variants as Turned
-use Rattle.pgm_greys.specs.Greys.{turnRows, turnedSays, greyedAs}
-use Rattle.pgm_write.specs.Write.{Film, fileOf}
+use Rattle.pgm_greys.specs.Greys.{turnRows, turnedSays, greysLeave}
+use Rattle.pgm_write.specs.Write.{WriteReady, fileOf}
 use Rattle.plain_read.specs.PlainRead.{PlainRead, plainReadAs, plainOf}
 use Rattle.plain_write.specs.PlainWrite.{plainFileOf}
 use Rattle.plain_write.proofs.Moves as Left
@@ -54,14 +54,14 @@ read-done p old {sizes} {target} {w} {h} {m} some e q = go (p .answer) refl
         absurd (omega (arith, some n (ap sizesSays i), ap (λ (x : FlatRead). x .number) f))
 
 -- what tz_read_plain left is a film
-plain-left : {r : TzPlainCall} {w h m : ℕ} → TzReadsPlain r → r .number ≡ 0 → r .sizes′ ≡ w ∷ h ∷ m ∷ [] → Film (take (w * h) (r .target′)) w h m
+plain-left : {r : TzPlainCall} {w h m : ℕ} → TzReadsPlain r → r .number ≡ 0 → r .sizes′ ≡ w ∷ h ∷ m ∷ [] → WriteReady (take (w * h) (r .target′)) w h m
 plain-left {r} {w} {h} {m} ran none found =
     Left.plain-left (r .bytes) (r .target) (r .target′) w h m
     (read-done (plainOf (r .bytes) (r .target)) (r .sizes) (read-says-some (r .bytes) (r .target))
     (ap (λ n. readAs n (r .sizes′) (r .target′)) (sym none) ∙ tz-read-plain-ends ran) found)
 
 -- and so is what tz_read_greys left
-raw-left : {g : TzGreysCall} → TzGreys g → g .number ≡ 0 → Film (take (g .width * g .height) (g .target′)) (g .width) (g .height) (g .maxval)
+raw-left : {g : TzGreysCall} → TzGreys g → g .number ≡ 0 → WriteReady (take (g .width * g .height) (g .target′)) (g .width) (g .height) (g .maxval)
 unfolding flatGreys turnedSays
 raw-left {g} ran none =
     let table = greys-table (g .bytes) (g .start) (g .width) (g .height) (g .maxval) (g .target) in
@@ -69,7 +69,7 @@ raw-left {g} ran none =
     sym (returned-number table flatGreys (λ (z : Answer). z .number) refl (λ k. refl)) ∙ sym (ap (λ (z : Answer). z .number) (tz-greys-ends ran)) ∙ none in
     let done = table .when-none loose in
     Left.raw-left (g .bytes) (g .start) (g .target) (g .target′) (g .width) (g .height) (g .maxval)
-    (done ∙ ap (greyedAs Turned.Done) (sym (ap (λ (z : Answer). z .values) (tz-greys-ends ran ∙ ap flatGreys done))))
+    (done ∙ ap (greysLeave Turned.Done) (sym (ap (λ (z : Answer). z .values) (tz-greys-ends ran ∙ ap flatGreys done))))
 
 -- ---- "Any accepted file keeps its size, maxval and greys in either move."
 
@@ -156,7 +156,7 @@ pub tz-raw-plain-raw : {a : TzWriteCall} {z : TzSizesCall} {k : TzRasterCall} {g
 tz-raw-plain-raw {a} {z} {k} {g} {p} {r} {b} way =
     same-again fileOf a b (tz-write-ends (way .made .writes)) (way .made .written) (tz-write-ends (way .again)) (home .0 ∙ there .0, home .1 ∙ there .1, home .2 ∙ there .2) same (way .wide)
   where
-    film : Film (a .pixels) (a .width) (a .height) (a .maxval)
+    film : WriteReady (a .pixels) (a .width) (a .height) (a .maxval)
     film = film-of a (raw a) (tz-write-ends (way .made .writes)) (way .made .written)
 
     there : (p .width ≡ a .width) × (p .height ≡ a .height) × (p .maxval ≡ a .maxval)
@@ -188,7 +188,7 @@ pub tz-plain-raw-plain : {a : TzWriteCall} {r : TzPlainCall} {c : TzWriteCall} {
 tz-plain-raw-plain {a} {r} {c} {z} {k} {g} {b} way =
     same-again plainFileOf a b (tz-write-plain-ends (way .made .writes)) (way .made .written) (tz-write-plain-ends (way .again)) (home .0 ∙ there .0, home .1 ∙ there .1, home .2 ∙ there .2) same (way .wide)
   where
-    film : Film (a .pixels) (a .width) (a .height) (a .maxval)
+    film : WriteReady (a .pixels) (a .width) (a .height) (a .maxval)
     film = plain-film (way .made .writes) (way .made .written)
 
     there : (c .width ≡ a .width) × (c .height ≡ a .height) × (c .maxval ≡ a .maxval)

@@ -9,7 +9,7 @@ use mathlib.Core.Path.{_≡_, refl, sym, ap, _∙_}
 use lib.ListN.{length}
 use Rattle.refuse.specs.Refuse.{first, Says, accepted, refused}
 use Rattle.pgm.specs.Pgm.{sizesSays}
-use Rattle.pgm_write.specs.Write.{pictureRows, writtenSays}
+use Rattle.pgm_write.specs.Write.{filePictureRows, writtenSays}
 use Rattle.promises.proofs.Accepted.{returned-number, returned-kept}
 use Rattle.promises.proofs.Files.{write-table}
 use Rattle.flat.specs.Files.{Answer, answered, flatSizes, FlatWritten, flatWritten}
@@ -19,15 +19,15 @@ use Rattle.plain_read.specs.PlainRead.{plainOf, limitedOf}
 use Rattle.plain_write.specs.PlainWrite.{plainWriteOf}
 use Rattle.plain_write.proofs.Parts.{roomy}
 use Rattle.plain_promises.proofs.Outcomes.{read-says-kept}
-use Rattle.abi_files.proofs.Runs.{TzSizesCall, tz-sizes-given, TzWriteCall, tz-write-given}
+use Rattle.abi_files.proofs.Runs.{TzSizesCall, tz-sizes-arguments, TzWriteCall, tz-write-arguments}
 use Rattle.abi_files.proofs.Outcomes.{sizes-keeps}
 use Rattle.abi_plain.specs.Flat.{FlatRead, readAs, readBy, flatRead}
-use Rattle.abi_plain.proofs.Runs.{TzPlainSizes, tz-plain-sizes-ends, TzPlainCall, tz-read-plain-given, TzReadsPlain, tz-read-plain-ends, TzWritesPlain, tz-write-plain-ends}
+use Rattle.abi_plain.proofs.Runs.{TzPlainSizes, tz-plain-sizes-ends, TzPlainCall, tz-read-plain-arguments, TzReadsPlain, tz-read-plain-ends, TzWritesPlain, tz-write-plain-ends}
 
 -- ---- tz_plain_sizes
 
 -- any two outcomes are equal: its number and the three sizes
-pub tz-plain-sizes-determined : {c k : TzSizesCall} → TzPlainSizes c → TzPlainSizes k → tz-sizes-given c ≡ tz-sizes-given k
+pub tz-plain-sizes-determined : {c k : TzSizesCall} → TzPlainSizes c → TzPlainSizes k → tz-sizes-arguments c ≡ tz-sizes-arguments k
     → (c .number ≡ k .number) × (c .sizes′ ≡ k .sizes′)
 tz-plain-sizes-determined x y same =
     let e = tz-plain-sizes-ends x ∙ ap (λ g. flatSizes (sizesSays (limitedOf (plainHeadOf (g .0)))) (g .1)) same ∙ sym (tz-plain-sizes-ends y) in
@@ -42,7 +42,7 @@ tz-plain-sizes-refusal-keeps {c} ran l =
 -- ---- tz_read_plain
 
 -- any two outcomes are equal: its number, the three sizes and the target
-pub tz-read-plain-determined : {c k : TzPlainCall} → TzReadsPlain c → TzReadsPlain k → tz-read-plain-given c ≡ tz-read-plain-given k
+pub tz-read-plain-determined : {c k : TzPlainCall} → TzReadsPlain c → TzReadsPlain k → tz-read-plain-arguments c ≡ tz-read-plain-arguments k
     → (c .number ≡ k .number) × (c .sizes′ ≡ k .sizes′) × (c .target′ ≡ k .target′)
 tz-read-plain-determined x y same =
     let e = tz-read-plain-ends x ∙ ap (λ g. flatRead (plainOf (g .0) (g .2)) (g .1)) same ∙ sym (tz-read-plain-ends y) in
@@ -64,7 +64,7 @@ tz-read-plain-refusal-keeps {c} ran l =
 -- ---- tz_write_plain
 
 -- any two outcomes are equal: its number, output and byte count
-pub tz-write-plain-determined : {c k : TzWriteCall} → TzWritesPlain c → TzWritesPlain k → tz-write-given c ≡ tz-write-given k
+pub tz-write-plain-determined : {c k : TzWriteCall} → TzWritesPlain c → TzWritesPlain k → tz-write-arguments c ≡ tz-write-arguments k
     → (c .number ≡ k .number) × (c .out′ ≡ k .out′) × (c .count′ ≡ k .count′)
 tz-write-plain-determined x y same =
     let e = tz-write-plain-ends x ∙ ap (λ g. flatWritten (plainWriteOf (g .0) (g .1) (g .2) (g .3) (g .4)) (g .5)) same ∙ sym (tz-write-plain-ends y) in
@@ -79,7 +79,7 @@ tz-write-plain-refusal-keeps {c} ran l =
 
 -- 18 bytes and five for each pixel are room enough for any film: 22, 23, 2 and 26 alone decide
 pub tz-write-plain-roomy : {c : TzWriteCall} → TzWritesPlain c → 18 + c .width * c .height * 5 ≤ length (c .out)
-    → c .number ≡ first (pictureRows (c .pixels) (c .width) (c .height) (c .maxval))
+    → c .number ≡ first (filePictureRows (c .pixels) (c .width) (c .height) (c .maxval))
 unfolding flatWritten writtenSays
 tz-write-plain-roomy {c} ran l =
     ap (λ (z : FlatWritten). z .number) (tz-write-plain-ends ran)

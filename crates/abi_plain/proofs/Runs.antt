@@ -51,8 +51,8 @@ tz-read-plain-values run =
     record { bytes = now bytes; sizes = now sizes; target = now target; number = run .answer; sizes′ = now sizes′; target′ = now target′ }
 
 -- what it is handed
-abbrev pub tz-read-plain-given : TzPlainCall → List ℕ × List ℕ × List ℕ
-tz-read-plain-given c = (c .bytes, c .sizes, c .target)
+abbrev pub tz-read-plain-arguments : TzPlainCall → List ℕ × List ℕ × List ℕ
+tz-read-plain-arguments c = (c .bytes, c .sizes, c .target)
 
 -- tz_read_plain ran with these values
 abbrev pub TzReadsPlain : TzPlainCall → Type 0

@@ -8,7 +8,7 @@ use lib.ListN.{length, take}
 use Rattle.lists.specs.Lists.{onto}
 use Rattle.refuse.specs.Refuse.{first, accepted, says}
 use Rattle.pgm.specs.Pgm.{sizesSays}
-use Rattle.pgm_write.specs.Write.{Film, writtenRows, writtenSays, writtenOf}
+use Rattle.pgm_write.specs.Write.{WriteReady, writtenRows, writtenSays, writtenOf}
 use Rattle.pgm_write.proofs.Tables.{write-asks}
 use Rattle.plain.specs.Plain.{plainHeadOf}
 use Rattle.plain_read.specs.PlainRead.{plainOf, limitedOf}
@@ -43,7 +43,7 @@ module _ (c : TzWriteCall) (file : List ℕ)
     said = table-says (write-table _ _ _ _ _ _) ∙ ap (λ n. says n (length file)) loose
 
     -- what was written is a film
-    pub film-of : Film (c .pixels) (c .width) (c .height) (c .maxval)
+    pub film-of : WriteReady (c .pixels) (c .width) (c .height) (c .maxval)
     film-of = write-asks (c .pixels) (c .width) (c .height) (c .maxval) file (length (c .out)) loose .film
 
     -- the count is its file's
@@ -55,7 +55,7 @@ module _ (c : TzWriteCall) (file : List ℕ)
     file-of = ap (λ (z : FlatWritten). take (z .count) (z .out)) (laid said) ∙ written-file _ _ _ _ _ (c .out) said
 
   -- a film is accepted in an output with room for its file
-  pub takes : Film (c .pixels) (c .width) (c .height) (c .maxval) → length file ≤ length (c .out) → c .number ≡ 0
+  pub takes : WriteReady (c .pixels) (c .width) (c .height) (c .maxval) → length file ≤ length (c .out) → c .number ≡ 0
   takes film room = ap (λ (z : FlatWritten). z .number) (laid (film-written (c .pixels) (c .width) (c .height) (c .maxval) file (c .out) film room .0))
 
 -- a call of either writer ended with this form of file
@@ -90,7 +90,7 @@ pub record TzPlainBack (c : TzWriteCall) (r : TzPlainCall) : Type 0 where
   pub room : c .width * c .height ≤ length (r .target)
 
 module _ {c : TzWriteCall} (ran : TzWritesPlain c) (written : c .number ≡ 0) where
-  pub plain-film : Film (c .pixels) (c .width) (c .height) (c .maxval)
+  pub plain-film : WriteReady (c .pixels) (c .width) (c .height) (c .maxval)
   plain-film = film-of c _ (tz-write-plain-ends ran) written
 
   pub plain-file : take (c .count′) (c .out′) ≡ plainFileOf (c .pixels) (c .width) (c .height) (c .maxval)

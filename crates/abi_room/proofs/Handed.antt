@@ -21,45 +21,45 @@ use Rattle.room.specs.declared.Stored.{Stored}
 use Rattle.room.specs.declared.Stored.the-variants as Stored
 use Rattle.room.specs.declared.Dropped.{Dropped}
 use Rattle.room.specs.declared.Dropped.the-variants as Dropped
-use Rattle.room.specs.Room.{storedSays, Keeps, keeping, droppedSays, Leaves, leaving}
+use Rattle.room.specs.Room.{storedSays, StoreOut, storeLeaves, droppedSays, DropOut, dropLeaves}
 use Rattle.flat.specs.Flat.{settingsFrom, clipNumber, clipFactor, editionNumber}
 use Rattle.flat.specs.Films.{Foot, footAfter}
 use Rattle.flat.proofs.Handed.{record-back}
-use Rattle.abi_room.specs.Flat.{RoomCells, setFrom, roomFrom, setNumbers, roomNumbers, factorAt, roomFactors, cellsOf, stored, storedCells, storedAs, flatStored, dropped, droppedCells, droppedAs, flatDropped}
+use Rattle.abi_room.specs.Flat.{RoomCells, setFrom, roomFrom, setNumbers, roomNumbers, factorAt, roomFactors, cellsOf, storedCellsFrom, storedCells, storedAs, flatStored, droppedCellsFrom, droppedCells, droppedAs, flatDropped}
 
 -- ---- store
 
 -- a stored film's footer and the room stand in their cells
 pub stored-done : (a : Stored) (room : Room) (foot : Foot) (old : RoomCells) {f : Footer} {y : Foot} {cells : RoomCells}
-    → a ≡ Stored.Done f → y ≡ footAfter f → cells ≡ cellsOf room → stored 0 y cells ≡ storedCells (storedSays a) room foot old
+    → a ≡ Stored.Done f → y ≡ footAfter f → cells ≡ cellsOf room → storedCellsFrom 0 y cells ≡ storedCells (storedSays a) room foot old
 unfolding storedSays
 stored-done a room foot old q y c = rw (q, y, c) refl
 
 -- a refusal leaves them
 pub stored-refused : (a : Stored) (room : Room) (foot : Foot) (old : RoomCells) {n : ℕ} → a ≡ Stored.Refused n
-    → stored n foot old ≡ storedCells (storedSays a) room foot old
+    → storedCellsFrom n foot old ≡ storedCells (storedSays a) room foot old
 unfolding storedSays
 stored-refused a room foot old q = rw q refl
 
 -- so what store leaves and what was handed out are what the call for C leaves
-pub stored-handed : {a : Stored} {room : Room} {m t ls : List ℕ} (k : Keeps) (foot : Foot) (old : RoomCells) {n : ℕ} {y : Foot} {cells : RoomCells}
-    → keeping a room m t ls ≡ k → stored n y cells ≡ storedCells (storedSays a) room foot old → storedAs n m t ls y cells ≡ flatStored k foot old
+pub stored-handed : {a : Stored} {room : Room} {m t ls : List ℕ} (k : StoreOut) (foot : Foot) (old : RoomCells) {n : ℕ} {y : Foot} {cells : RoomCells}
+    → storeLeaves a room m t ls ≡ k → storedCellsFrom n y cells ≡ storedCells (storedSays a) room foot old → storedAs n m t ls y cells ≡ flatStored k foot old
 unfolding flatStored
 stored-handed {m = m} {t = t} {ls = ls} k foot old q h = rw (← q) (ap (λ z. storedAs (z .number) m t ls (z .foot) (z .room)) h)
 
 -- ---- drop
 
 pub dropped-done : (a : Dropped) (room : Room) (old : RoomCells) {cells : RoomCells} → a ≡ Dropped.Done → cells ≡ cellsOf room
-    → dropped 0 cells ≡ droppedCells (droppedSays a) room old
+    → droppedCellsFrom 0 cells ≡ droppedCells (droppedSays a) room old
 unfolding droppedSays
 dropped-done a room old q c = rw (q, c) refl
 
-pub dropped-refused : (a : Dropped) (room : Room) (old : RoomCells) {n : ℕ} → a ≡ Dropped.Refused n → dropped n old ≡ droppedCells (droppedSays a) room old
+pub dropped-refused : (a : Dropped) (room : Room) (old : RoomCells) {n : ℕ} → a ≡ Dropped.Refused n → droppedCellsFrom n old ≡ droppedCells (droppedSays a) room old
 unfolding droppedSays
 dropped-refused a room old q = rw q refl
 
-pub dropped-handed : {a : Dropped} {room : Room} {m : List ℕ} (l : Leaves) (old : RoomCells) {n : ℕ} {cells : RoomCells}
-    → leaving a room m ≡ l → dropped n cells ≡ droppedCells (droppedSays a) room old → droppedAs n m cells ≡ flatDropped l old
+pub dropped-handed : {a : Dropped} {room : Room} {m : List ℕ} (l : DropOut) (old : RoomCells) {n : ℕ} {cells : RoomCells}
+    → dropLeaves a room m ≡ l → droppedCellsFrom n cells ≡ droppedCells (droppedSays a) room old → droppedAs n m cells ≡ flatDropped l old
 unfolding flatDropped
 dropped-handed {m = m} l old q h = rw (← q) (ap (λ z. droppedAs (z .number) m (z .room)) h)
 

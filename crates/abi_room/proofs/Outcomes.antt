@@ -11,12 +11,12 @@ use Rattle.promises.proofs.Accepted.{returned-kept}
 use Rattle.room_promises.proofs.Outcomes.{store-table, show-table, drop-table}
 use Rattle.flat.specs.Films.{FlatDrawn, flatDrawn}
 use Rattle.abi_room.specs.Flat.{roomFrom, FlatStored, flatStored, FlatDropped, flatDropped}
-use Rattle.abi_room.proofs.Runs.{TzStoreCall, TzStores, tz-store-given, tz-store-ends, TzShowCall, TzShows, tz-show-given, tz-show-ends, TzDropCall, TzDrops, tz-drop-given, tz-drop-ends}
+use Rattle.abi_room.proofs.Runs.{TzStoreCall, TzStores, tz-store-arguments, tz-store-ends, TzShowCall, TzShows, tz-show-arguments, tz-show-ends, TzDropCall, TzDrops, tz-drop-arguments, tz-drop-ends}
 
 -- ---- tz_room_store
 
 -- any two outcomes are equal: its number, buffer, scratch and list, and the cells of footer and room record
-pub tz-room-store-determined : {c k : TzStoreCall} → TzStores c → TzStores k → tz-store-given c ≡ tz-store-given k
+pub tz-room-store-determined : {c k : TzStoreCall} → TzStores c → TzStores k → tz-store-arguments c ≡ tz-store-arguments k
     → (c .number ≡ k .number) × (c .map′ ≡ k .map′) × (c .scratch′ ≡ k .scratch′) × (c .list′ ≡ k .list′) × (c .foot′ ≡ k .foot′) × (c .room′ ≡ k .room′)
 tz-room-store-determined x y same =
     let e = tz-store-ends x ∙ ap (λ g. flatStored (storeOf (roomFrom (g .0)) (g .1) (g .2) (g .3) (g .4) (g .5) (g .6) (g .7) (g .8)) (g .9) (g .0)) same ∙ sym (tz-store-ends y) in (
@@ -43,7 +43,7 @@ tz-room-store-refusal-keeps {c} ran l =
 
 -- ---- tz_room_draw: buffer and record are lent to be read
 
-pub tz-room-draw-determined : {c k : TzShowCall} → TzShows c → TzShows k → tz-show-given c ≡ tz-show-given k → (c .number ≡ k .number) × (c .out′ ≡ k .out′)
+pub tz-room-draw-determined : {c k : TzShowCall} → TzShows c → TzShows k → tz-show-arguments c ≡ tz-show-arguments k → (c .number ≡ k .number) × (c .out′ ≡ k .out′)
 tz-room-draw-determined x y same =
     let e = tz-show-ends x ∙ ap (λ g. flatDrawn (showOf (roomFrom (g .0)) (g .1) (g .2) (g .3) (g .4) (g .5) (g .6) (g .7) (g .8))) same ∙ sym (tz-show-ends y) in
     (ap (λ (z : FlatDrawn). z .number) e, ap (λ (z : FlatDrawn). z .out) e)
@@ -55,7 +55,7 @@ tz-room-draw-refusal-keeps {c} ran l =
 
 -- ---- tz_room_drop
 
-pub tz-room-drop-determined : {c k : TzDropCall} → TzDrops c → TzDrops k → tz-drop-given c ≡ tz-drop-given k
+pub tz-room-drop-determined : {c k : TzDropCall} → TzDrops c → TzDrops k → tz-drop-arguments c ≡ tz-drop-arguments k
     → (c .number ≡ k .number) × (c .map′ ≡ k .map′) × (c .room′ ≡ k .room′)
 tz-room-drop-determined x y same =
     let e = tz-drop-ends x ∙ ap (λ g. flatDropped (dropOf (roomFrom (g .0)) (g .1) (g .2)) (g .0)) same ∙ sym (tz-drop-ends y) in

@@ -10,8 +10,8 @@ use Rattle.settings.specs.declared.Settings.{Settings}
 use Rattle.settings.specs.declared.Window.{Window}
 use Rattle.room.specs.Room.{storeOf, showOf, dropOf}
 use Rattle.flat.specs.Flat.{settingsFrom, windowFrom}
-use Rattle.flat.specs.Films.{Foot, footed, drawnAs, flatDrawn}
-use Rattle.abi_room.specs.Flat.{RoomCells, roomed, roomFrom, storedAs, flatStored, droppedAs, flatDropped}
+use Rattle.flat.specs.Films.{Foot, footFrom, drawnAs, flatDrawn}
+use Rattle.abi_room.specs.Flat.{RoomCells, roomCellsFrom, roomFrom, storedAs, flatStored, droppedAs, flatDropped}
 use Rattle.abi_room.proofs.tz_room_store.Kinds as store
 use Rattle.abi_room.proofs.tz_room_store.Reads as store-reads
 use Rattle.abi_room.proofs.tz_room_draw.Kinds as draw
@@ -44,11 +44,11 @@ abbrev pub tz-store-values : Run store.ps store.r store-reads.Post → TzStoreCa
 tz-store-values run =
     let (film, (width, (height, (pixels, (across, (down, (bins, (min, (max, (clip, (factor, (map, (scratch, (limit, (asked, (used, (list, (edition, (count, (numbers, (factors, end))))))))))))))))))))) = run .handed in
     let (_, (_, (_, (_, (_, (_, (_, (_, (_, (_, (_, (map′, (scratch′, (limit′, (asked′, (used′, (list′, (_, (count′, (numbers′, (factors′, end′))))))))))))))))))))) = run .left in
-    record { film = film; width = width; height = height; pixels = now pixels; settings = settingsFrom across down bins min max clip factor edition; map = now map; scratch = now scratch; list = now list; foot = footed (now limit) (now asked) (now used); room = roomed (now count) (now numbers) (now factors); number = run .answer; map′ = now map′; scratch′ = now scratch′; list′ = now list′; foot′ = footed (now limit′) (now asked′) (now used′); room′ = roomed (now count′) (now numbers′) (now factors′) }
+    record { film = film; width = width; height = height; pixels = now pixels; settings = settingsFrom across down bins min max clip factor edition; map = now map; scratch = now scratch; list = now list; foot = footFrom (now limit) (now asked) (now used); room = roomCellsFrom (now count) (now numbers) (now factors); number = run .answer; map′ = now map′; scratch′ = now scratch′; list′ = now list′; foot′ = footFrom (now limit′) (now asked′) (now used′); room′ = roomCellsFrom (now count′) (now numbers′) (now factors′) }
 
 -- what it is handed
-abbrev pub tz-store-given : TzStoreCall → RoomCells × ℕ × ℕ × ℕ × List ℕ × Settings × List ℕ × List ℕ × List ℕ × Foot
-tz-store-given c = (c .room, c .film, c .width, c .height, c .pixels, c .settings, c .map, c .scratch, c .list, c .foot)
+abbrev pub tz-store-arguments : TzStoreCall → RoomCells × ℕ × ℕ × ℕ × List ℕ × Settings × List ℕ × List ℕ × List ℕ × Foot
+tz-store-arguments c = (c .room, c .film, c .width, c .height, c .pixels, c .settings, c .map, c .scratch, c .list, c .foot)
 
 -- tz_room_store ran with these values
 abbrev pub TzStores : TzStoreCall → Type 0
@@ -78,11 +78,11 @@ abbrev pub tz-show-values : Run draw.ps draw.r draw-reads.Post → TzShowCall
 tz-show-values run =
     let (film, (width, (height, (pixels, (across, (down, (bins, (min, (max, (clip, (factor, (left, (top, (window-width, (window-height, (map, (out, (edition, (count, (numbers, (factors, end))))))))))))))))))))) = run .handed in
     let (_, (_, (_, (_, (_, (_, (_, (_, (_, (_, (_, (_, (_, (_, (_, (_, (out′, (_, (_, (_, (_, end′))))))))))))))))))))) = run .left in
-    record { film = film; width = width; height = height; pixels = now pixels; settings = settingsFrom across down bins min max clip factor edition; window = windowFrom left top window-width window-height; map = now map; out = now out; room = roomed count (now numbers) (now factors); number = run .answer; out′ = now out′ }
+    record { film = film; width = width; height = height; pixels = now pixels; settings = settingsFrom across down bins min max clip factor edition; window = windowFrom left top window-width window-height; map = now map; out = now out; room = roomCellsFrom count (now numbers) (now factors); number = run .answer; out′ = now out′ }
 
 -- what it is handed
-abbrev pub tz-show-given : TzShowCall → RoomCells × ℕ × ℕ × ℕ × List ℕ × Settings × Window × List ℕ × List ℕ
-tz-show-given c = (c .room, c .film, c .width, c .height, c .pixels, c .settings, c .window, c .map, c .out)
+abbrev pub tz-show-arguments : TzShowCall → RoomCells × ℕ × ℕ × ℕ × List ℕ × Settings × Window × List ℕ × List ℕ
+tz-show-arguments c = (c .room, c .film, c .width, c .height, c .pixels, c .settings, c .window, c .map, c .out)
 
 -- tz_room_draw ran with these values
 abbrev pub TzShows : TzShowCall → Type 0
@@ -106,11 +106,11 @@ abbrev pub tz-drop-values : Run drop.ps drop.r drop-reads.Post → TzDropCall
 tz-drop-values run =
     let (film, (map, (count, (numbers, (factors, end))))) = run .handed in
     let (_, (map′, (count′, (numbers′, (factors′, end′))))) = run .left in
-    record { film = film; map = now map; room = roomed (now count) (now numbers) (now factors); number = run .answer; map′ = now map′; room′ = roomed (now count′) (now numbers′) (now factors′) }
+    record { film = film; map = now map; room = roomCellsFrom (now count) (now numbers) (now factors); number = run .answer; map′ = now map′; room′ = roomCellsFrom (now count′) (now numbers′) (now factors′) }
 
 -- what it is handed
-abbrev pub tz-drop-given : TzDropCall → RoomCells × ℕ × List ℕ
-tz-drop-given c = (c .room, c .film, c .map)
+abbrev pub tz-drop-arguments : TzDropCall → RoomCells × ℕ × List ℕ
+tz-drop-arguments c = (c .room, c .film, c .map)
 
 -- tz_room_drop ran with these values
 abbrev pub TzDrops : TzDropCall → Type 0

@@ -11,7 +11,7 @@ use Rattle.lists.proofs.Tabs.{length-tab}
 use Rattle.refuse.specs.Refuse.{first}
 use Rattle.settings.specs.declared.Footer.{Footer}
 use Rattle.prepare.specs.Prepare.{preparedOf}
-use Rattle.draw.specs.Draw.{drawnSays, showing}
+use Rattle.draw.specs.Draw.{drawnSays, drawLeaves}
 use Rattle.sets.specs.declared.Room.{Room}
 use Rattle.sets.specs.Sets.{held, spanOf, twice, before, withSet, withoutSet, movedDown, emptyRoom}
 use Rattle.sets.proofs.Laid.{none}
@@ -19,7 +19,7 @@ use Rattle.sets.proofs.Holds.{held-none, twice-nil}
 use Rattle.room.specs.Room.{storeRows, storedSays, storedOf, storeOf, showOf, dropRows, droppedSays, droppedOf, dropOf}
 use Rattle.room.proofs.Shows.{show-kept}
 use Rattle.promises.proofs.Runs.{PrepareCall, DrawCall}
-use Rattle.room_promises.specs.Films.{Film, filmSet, without}
+use Rattle.room_promises.specs.Films.{StoredFilm, filmSet, without}
 use Rattle.room_promises.proofs.Kept.{Kept, storesOf, store-kept, drop-kept}
 use Rattle.room_promises.proofs.Alone.{Among, OfFilm, of-film, Alone, alone-shows}
 use Rattle.flat.specs.Flat.{returned}
@@ -29,26 +29,26 @@ use Rattle.abi_room.proofs.Handed.{room-back}
 use Rattle.abi_room.proofs.Runs.{TzStoreCall, TzStores, tz-store-ends, TzShowCall, TzShows, tz-show-ends, TzDropCall, TzDrops, tz-drop-ends}
 
 -- the film that is handed to tz_room_store
-abbrev pub tzFilm : TzStoreCall → Film
+abbrev pub tzFilm : TzStoreCall → StoredFilm
 tzFilm c = record { number = c .film; width = c .width; height = c .height; pixels = c .pixels; settings = c .settings }
 
 -- the films that are stored and not dropped, behind a store that returned k
-abbrev pub storedBy : ℕ → Film → List Film → List Film
+abbrev pub storedBy : ℕ → StoredFilm → List StoredFilm → List StoredFilm
 storedBy zero f fs = fs ++ (f ∷ [])
 storedBy (suc k) f fs = fs
 
 -- and behind a drop of number n that returned k
-abbrev pub droppedBy : ℕ → ℕ → List Film → List Film
+abbrev pub droppedBy : ℕ → ℕ → List StoredFilm → List StoredFilm
 droppedBy zero n fs = without n fs
 droppedBy (suc k) n fs = fs
 
 -- the cells of the room record and the buffer as they were left last, and the films stored and not dropped. Each call is handed both as they were left
-pub data TzHistory : RoomCells → List ℕ → List Film → Type 0 where
+pub data TzHistory : RoomCells → List ℕ → List StoredFilm → Type 0 where
   begin : (cells : RoomCells) (m : List ℕ) → cells .count ≡ 0 → TzHistory cells m []
-  stores : {cells : RoomCells} {m : List ℕ} {fs : List Film} → TzHistory cells m fs → (c : TzStoreCall) → TzStores c → c .room ≡ cells → c .map ≡ m
+  stores : {cells : RoomCells} {m : List ℕ} {fs : List StoredFilm} → TzHistory cells m fs → (c : TzStoreCall) → TzStores c → c .room ≡ cells → c .map ≡ m
       → TzHistory (c .room′) (c .map′) (storedBy (c .number) (tzFilm c) fs)
-  draws : {cells : RoomCells} {m : List ℕ} {fs : List Film} → TzHistory cells m fs → (c : TzShowCall) → TzShows c → c .room ≡ cells → c .map ≡ m → TzHistory cells m fs
-  drops : {cells : RoomCells} {m : List ℕ} {fs : List Film} → TzHistory cells m fs → (c : TzDropCall) → TzDrops c → c .room ≡ cells → c .map ≡ m
+  draws : {cells : RoomCells} {m : List ℕ} {fs : List StoredFilm} → TzHistory cells m fs → (c : TzShowCall) → TzShows c → c .room ≡ cells → c .map ≡ m → TzHistory cells m fs
+  drops : {cells : RoomCells} {m : List ℕ} {fs : List StoredFilm} → TzHistory cells m fs → (c : TzDropCall) → TzDrops c → c .room ≡ cells → c .map ≡ m
       → TzHistory (c .room′) (c .map′) (droppedBy (c .number) (c .film) fs)
 
 -- so a room begins with the cells that tz_room_empty writes, and with any whose count is 0
@@ -66,7 +66,7 @@ unfolding roomFrom
 count-from cells = refl
 
 -- what tz_room_store leaves of a room that holds these films
-store-left : (cells : RoomCells) {m : List ℕ} {fs : List Film} → Kept (roomFrom cells) m fs → (f : Film) (t ls : List ℕ) (foot : Foot)
+store-left : (cells : RoomCells) {m : List ℕ} {fs : List StoredFilm} → Kept (roomFrom cells) m fs → (f : StoredFilm) (t ls : List ℕ) (foot : Foot)
     → Kept (roomFrom (flatStored (storesOf (roomFrom cells) f m t ls) foot cells .room)) (flatStored (storesOf (roomFrom cells) f m t ls) foot cells .map) (storedBy (flatStored (storesOf (roomFrom cells) f m t ls) foot cells .number) f fs)
 unfolding flatStored storedSays storeOf storedOf
 store-left cells {m} {fs} kept f t ls foot =
@@ -85,7 +85,7 @@ store-left cells {m} {fs} kept f t ls foot =
     go (suc n) e = rw e kept
 
 -- and tz_room_drop
-drop-left : (cells : RoomCells) {m : List ℕ} {fs : List Film} → Kept (roomFrom cells) m fs → (n : ℕ)
+drop-left : (cells : RoomCells) {m : List ℕ} {fs : List StoredFilm} → Kept (roomFrom cells) m fs → (n : ℕ)
     → Kept (roomFrom (flatDropped (dropOf (roomFrom cells) n m) cells .room)) (flatDropped (dropOf (roomFrom cells) n m) cells .map) (droppedBy (flatDropped (dropOf (roomFrom cells) n m) cells .number) n fs)
 unfolding flatDropped droppedSays dropOf droppedOf
 drop-left cells {m} {fs} kept n = go (first (dropRows (roomFrom cells) n (length m))) refl
@@ -100,7 +100,7 @@ drop-left cells {m} {fs} kept n = go (first (dropRows (roomFrom cells) n (length
     go (suc k) e = rw e kept
 
 -- the sets held are the films' own, in order, each with its own mappings
-pub tz-room-kept : {cells : RoomCells} {m : List ℕ} {fs : List Film} → TzHistory cells m fs → Kept (roomFrom cells) m fs
+pub tz-room-kept : {cells : RoomCells} {m : List ℕ} {fs : List StoredFilm} → TzHistory cells m fs → Kept (roomFrom cells) m fs
 tz-room-kept (begin cells m none-yet) = record { sets = empty; laid = none; numbers = ap twice empty ∙ twice-nil; few = omega (arith, count-from cells, none-yet); places = places-from cells }
   where
     empty : held (roomFrom cells) ≡ []
@@ -116,12 +116,12 @@ tz-room-kept (drops {cells} {m} {fs} before-it c ran same-room same-map) =
     (drop-left cells (tz-room-kept before-it) (c .film))
 
 -- "each film stored and not dropped, its pixels unchanged since, draws as if it alone had been prepared": tz_room_draw returns the number of that film's own draw and leaves its output
-pub tz-room-as-alone : {f : Film} {p : PrepareCall} {foot : Footer} {d : DrawCall} → Alone f p foot d → {cells : RoomCells} {m : List ℕ} {fs : List Film} → TzHistory cells m fs → Among f fs
+pub tz-room-as-alone : {f : StoredFilm} {p : PrepareCall} {foot : Footer} {d : DrawCall} → Alone f p foot d → {cells : RoomCells} {m : List ℕ} {fs : List StoredFilm} → TzHistory cells m fs → Among f fs
     → (c : TzShowCall) → TzShows c → c .room ≡ cells → c .map ≡ m → OfFilm f (c .film) (c .width) (c .height) (c .pixels) (c .settings)
     → c .window ≡ d .window → c .out ≡ d .out → (c .number ≡ returned (drawnSays (d .answer))) × (c .out′ ≡ d .out′)
 unfolding flatDrawn
 tz-room-as-alone {f} {p} {foot} {d} alone {cells} {m} {fs} history among c ran same-room same-map of same-window same-out =
-    let shown : drawnAs (c .number) (c .out′) ≡ flatDrawn (showing (d .answer) (d .out′)) =
+    let shown : drawnAs (c .number) (c .out′) ≡ flatDrawn (drawLeaves (d .answer) (d .out′)) =
     tz-show-ends ran
     ∙ ap flatDrawn (of-film (λ n w h pic s. showOf (roomFrom (c .room)) n w h pic s (c .window) (c .map) (c .out)) (λ n w h pic s. show-kept (roomFrom (c .room)) n w h pic s (c .window) (c .map) (c .out)) of
     ∙ rw (same-room, same-map, same-window, same-out) (alone-shows alone (tz-room-kept history) among)) in

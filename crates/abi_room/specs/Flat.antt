@@ -11,7 +11,7 @@ use Rattle.settings.specs.declared.Footer.{Footer}
 use Rattle.sets.specs.declared.Set.{Set}
 use Rattle.sets.specs.declared.Room.{Room}
 use Rattle.sets.specs.Sets.{noSet}
-use Rattle.room.specs.Room.{storedSays, Keeps, droppedSays, Leaves}
+use Rattle.room.specs.Room.{storedSays, StoreOut, droppedSays, DropOut}
 use Rattle.flat.specs.Flat.{settingsFrom, clipNumber, clipFactor, editionNumber}
 use Rattle.flat.specs.Films.{Foot, footAfter}
 
@@ -24,8 +24,8 @@ pub record RoomCells : Type 0 where
   pub factors : List Float
 
 -- the cells as one
-abbrev pub roomed : ℕ → List ℕ → List Float → RoomCells
-roomed count numbers factors = record { count = count; numbers = numbers; factors = factors }
+abbrev pub roomCellsFrom : ℕ → List ℕ → List Float → RoomCells
+roomCellsFrom count numbers factors = record { count = count; numbers = numbers; factors = factors }
 
 -- the set in place i: film, width, height, across, down, bins, min, max, clip, edition, and its factor
 abbrev pub setFrom : List ℕ → List Float → ℕ → Set
@@ -72,7 +72,7 @@ roomFactors room = tab 8 (factorAt room)
 
 -- the cells that hold a room
 abbrev pub cellsOf : Room → RoomCells
-cellsOf room = roomed (room .count) (roomNumbers room) (roomFactors room)
+cellsOf room = roomCellsFrom (room .count) (roomNumbers room) (roomFactors room)
 
 -- ---- tz_room_store
 
@@ -82,13 +82,13 @@ pub record StoredCells : Type 0 where
   pub foot : Foot
   pub room : RoomCells
 
-abbrev pub stored : ℕ → Foot → RoomCells → StoredCells
-stored n foot room = record { number = n; foot = foot; room = room }
+abbrev pub storedCellsFrom : ℕ → Foot → RoomCells → StoredCells
+storedCellsFrom n foot room = record { number = n; foot = foot; room = room }
 
 -- a stored film's footer and the room in their cells; "after a refusal all lent memory holds what it held before"
 abbrev pub storedCells : Says Footer → Room → Foot → RoomCells → StoredCells
-storedCells (accepted f) room foot cells = stored 0 (footAfter f) (cellsOf room)
-storedCells (refused n) room foot cells = stored n foot cells
+storedCells (accepted f) room foot cells = storedCellsFrom 0 (footAfter f) (cellsOf room)
+storedCells (refused n) room foot cells = storedCellsFrom n foot cells
 
 -- what tz_room_store leaves: its number, the buffer, the scratch, the list and the cells of footer and room
 pub record FlatStored : Type 0 where
@@ -99,11 +99,11 @@ pub record FlatStored : Type 0 where
   pub foot : Foot
   pub room : RoomCells
 
-abbrev pub storedAs : ℕ → List ℕ → List ℕ → List ℕ → Foot → RoomCells → FlatStored
+abbrev pub storedAs : (n : ℕ) (m t list : List ℕ) (foot : Foot) (room : RoomCells) → FlatStored
 storedAs n m t list foot room = record { number = n; map = m; scratch = t; list = list; foot = foot; room = room }
 
 -- from what store leaves, and what the cells held before
-unfoldable pub flatStored : Keeps → Foot → RoomCells → FlatStored
+unfoldable pub flatStored : StoreOut → Foot → RoomCells → FlatStored
 flatStored k foot cells =
     let c : StoredCells = storedCells (storedSays (k .answer)) (k .room) foot cells in
     storedAs (c .number) (k .map) (k .scratch) (k .list) (c .foot) (c .room)
@@ -115,13 +115,13 @@ pub record DroppedCells : Type 0 where
   pub number : ℕ
   pub room : RoomCells
 
-abbrev pub dropped : ℕ → RoomCells → DroppedCells
-dropped n room = record { number = n; room = room }
+abbrev pub droppedCellsFrom : ℕ → RoomCells → DroppedCells
+droppedCellsFrom n room = record { number = n; room = room }
 
 -- the room that is left in its cells; a refusal leaves what stood there
 abbrev pub droppedCells : Says (Unit {0}) → Room → RoomCells → DroppedCells
-droppedCells (accepted v) room cells = dropped 0 (cellsOf room)
-droppedCells (refused n) room cells = dropped n cells
+droppedCells (accepted v) room cells = droppedCellsFrom 0 (cellsOf room)
+droppedCells (refused n) room cells = droppedCellsFrom n cells
 
 -- what tz_room_drop leaves: its number, the buffer and the room's cells
 pub record FlatDropped : Type 0 where
@@ -133,7 +133,7 @@ abbrev pub droppedAs : ℕ → List ℕ → RoomCells → FlatDropped
 droppedAs n m room = record { number = n; map = m; room = room }
 
 -- from what drop leaves, and what the cells held before
-unfoldable pub flatDropped : Leaves → RoomCells → FlatDropped
+unfoldable pub flatDropped : DropOut → RoomCells → FlatDropped
 flatDropped l cells =
     let c : DroppedCells = droppedCells (droppedSays (l .answer)) (l .room) cells in
     droppedAs (c .number) (l .map) (c .room)

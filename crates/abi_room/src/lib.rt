@@ -7,8 +7,8 @@ ghost use lib.ListN.{getD};
 ghost use Rattle.sets.specs.Sets.{emptyRoom};
 ghost use Rattle.room.specs.Room.{storedSays, storeOf, showOf, droppedSays, dropOf};
 ghost use Rattle.flat.specs.Flat.{settingsFrom, windowFrom};
-ghost use Rattle.flat.specs.Films.{footed, drawnAs, flatDrawn};
-ghost use Rattle.abi_room.specs.Flat.{setFrom, roomed, roomFrom, setNumbers, roomNumbers, factorAt, roomFactors, cellsOf, stored, storedCells, storedAs, flatStored, dropped, droppedCells, droppedAs, flatDropped};
+ghost use Rattle.flat.specs.Films.{footFrom, drawnAs, flatDrawn};
+ghost use Rattle.abi_room.specs.Flat.{setFrom, roomCellsFrom, roomFrom, setNumbers, roomNumbers, factorAt, roomFactors, cellsOf, storedCellsFrom, storedCells, storedAs, flatStored, droppedCellsFrom, droppedCells, droppedAs, flatDropped};
 use draw::Drawn;
 use room::Dropped;
 use room::Keep;
@@ -60,7 +60,7 @@ fn set_from(numbers: &[u32; 80], factors: &[f32; 8], i: usize) -> Set
 
 // The room that a record's cells hold.
 fn room_from(count: u32, numbers: &[u32; 80], factors: &[f32; 8]) -> Room
-    ensures { λ r. ⌜ r ≡ roomFrom (roomed count (now (numbers .entry)) (now (factors .entry))) ⌝ }
+    ensures { λ r. ⌜ r ≡ roomFrom (roomCellsFrom count (now (numbers .entry)) (now (factors .entry))) ⌝ }
 {
     let a = set_from(numbers, factors, 0);
     let b = set_from(numbers, factors, 1);
@@ -143,7 +143,7 @@ fn room_factors(room: Room) -> [f32; 8]
 
 // A room goes out to its cells, all of them.
 fn put_room(count: &mut u32, numbers: &mut [u32; 80], factors: &mut [f32; 8], room: Room)
-    ensures { λ _. ⌜ roomed (now (count .exit)) (now (numbers .exit)) (now (factors .exit)) ≡ cellsOf room ⌝ }
+    ensures { λ _. ⌜ roomCellsFrom (now (count .exit)) (now (numbers .exit)) (now (factors .exit)) ≡ cellsOf room ⌝ }
 {
     *count = room.count;
     *numbers = room_numbers(room);
@@ -160,7 +160,7 @@ fn put_stored(
     factors: &mut [f32; 8],
     k: Keep,
 ) -> u32
-    ensures { λ r. ⌜ stored r (footed (now (limit .exit)) (now (asked .exit)) (now (used .exit))) (roomed (now (count .exit)) (now (numbers .exit)) (now (factors .exit))) ≡ storedCells (storedSays (k .answer)) (k .room) (footed (now (limit .entry)) (now (asked .entry)) (now (used .entry))) (roomed (now (count .entry)) (now (numbers .entry)) (now (factors .entry))) ⌝ }
+    ensures { λ r. ⌜ storedCellsFrom r (footFrom (now (limit .exit)) (now (asked .exit)) (now (used .exit))) (roomCellsFrom (now (count .exit)) (now (numbers .exit)) (now (factors .exit))) ≡ storedCells (storedSays (k .answer)) (k .room) (footFrom (now (limit .entry)) (now (asked .entry)) (now (used .entry))) (roomCellsFrom (now (count .entry)) (now (numbers .entry)) (now (factors .entry))) ⌝ }
 {
     let answer = k.answer;
     match answer {
@@ -176,7 +176,7 @@ fn put_stored(
 
 // What drop answers goes out, likewise.
 fn put_dropped(count: &mut u32, numbers: &mut [u32; 80], factors: &mut [f32; 8], l: Left) -> u32
-    ensures { λ r. ⌜ dropped r (roomed (now (count .exit)) (now (numbers .exit)) (now (factors .exit))) ≡ droppedCells (droppedSays (l .answer)) (l .room) (roomed (now (count .entry)) (now (numbers .entry)) (now (factors .entry))) ⌝ }
+    ensures { λ r. ⌜ droppedCellsFrom r (roomCellsFrom (now (count .exit)) (now (numbers .exit)) (now (factors .exit))) ≡ droppedCells (droppedSays (l .answer)) (l .room) (roomCellsFrom (now (count .entry)) (now (numbers .entry)) (now (factors .entry))) ⌝ }
 {
     let answer = l.answer;
     match answer {
@@ -192,7 +192,7 @@ fn put_dropped(count: &mut u32, numbers: &mut [u32; 80], factors: &mut [f32; 8],
 // An empty room: count 0, and zeros in all cells.
 #[no_mangle]
 pub extern "C" fn tz_room_empty(count: &mut u32, numbers: &mut [u32; 80], factors: &mut [f32; 8])
-    ensures { λ _. ⌜ roomed (now (count .exit)) (now (numbers .exit)) (now (factors .exit)) ≡ cellsOf emptyRoom ⌝ }
+    ensures { λ _. ⌜ roomCellsFrom (now (count .exit)) (now (numbers .exit)) (now (factors .exit)) ≡ cellsOf emptyRoom ⌝ }
 {
     put_room(count, numbers, factors, sets::empty());
 }
@@ -221,7 +221,7 @@ pub extern "C" fn tz_room_store(
     numbers: &mut [u32; 80],
     factors: &mut [f32; 8],
 ) -> u32
-    ensures { λ r. ⌜ storedAs r (now (map .exit)) (now (scratch .exit)) (now (list .exit)) (footed (now (limit .exit)) (now (asked .exit)) (now (used .exit))) (roomed (now (count .exit)) (now (numbers .exit)) (now (factors .exit))) ≡ flatStored (storeOf (roomFrom (roomed (now (count .entry)) (now (numbers .entry)) (now (factors .entry)))) film width height (now (picture .entry)) (settingsFrom across down bins min max clip factor edition) (now (map .entry)) (now (scratch .entry)) (now (list .entry))) (footed (now (limit .entry)) (now (asked .entry)) (now (used .entry))) (roomed (now (count .entry)) (now (numbers .entry)) (now (factors .entry))) ⌝ }
+    ensures { λ r. ⌜ storedAs r (now (map .exit)) (now (scratch .exit)) (now (list .exit)) (footFrom (now (limit .exit)) (now (asked .exit)) (now (used .exit))) (roomCellsFrom (now (count .exit)) (now (numbers .exit)) (now (factors .exit))) ≡ flatStored (storeOf (roomFrom (roomCellsFrom (now (count .entry)) (now (numbers .entry)) (now (factors .entry)))) film width height (now (picture .entry)) (settingsFrom across down bins min max clip factor edition) (now (map .entry)) (now (scratch .entry)) (now (list .entry))) (footFrom (now (limit .entry)) (now (asked .entry)) (now (used .entry))) (roomCellsFrom (now (count .entry)) (now (numbers .entry)) (now (factors .entry))) ⌝ }
 {
     let s = flat::settings_from(across, down, bins, min, max, clip, factor, edition);
     let room = room_from(*count, numbers, factors);
@@ -253,7 +253,7 @@ pub extern "C" fn tz_room_draw(
     numbers: &[u32; 80],
     factors: &[f32; 8],
 ) -> u32
-    ensures { λ r. ⌜ drawnAs r (now (out .exit)) ≡ flatDrawn (showOf (roomFrom (roomed count (now (numbers .entry)) (now (factors .entry)))) film width height (now (picture .entry)) (settingsFrom across down bins min max clip factor edition) (windowFrom left top «window_width» «window_height») (now (map .entry)) (now (out .entry))) ⌝ }
+    ensures { λ r. ⌜ drawnAs r (now (out .exit)) ≡ flatDrawn (showOf (roomFrom (roomCellsFrom count (now (numbers .entry)) (now (factors .entry)))) film width height (now (picture .entry)) (settingsFrom across down bins min max clip factor edition) (windowFrom left top «window_width» «window_height») (now (map .entry)) (now (out .entry))) ⌝ }
 {
     let s = flat::settings_from(across, down, bins, min, max, clip, factor, edition);
     let room = room_from(count, numbers, factors);
@@ -278,7 +278,7 @@ pub extern "C" fn tz_room_drop(
     numbers: &mut [u32; 80],
     factors: &mut [f32; 8],
 ) -> u32
-    ensures { λ r. ⌜ droppedAs r (now (map .exit)) (roomed (now (count .exit)) (now (numbers .exit)) (now (factors .exit))) ≡ flatDropped (dropOf (roomFrom (roomed (now (count .entry)) (now (numbers .entry)) (now (factors .entry)))) film (now (map .entry))) (roomed (now (count .entry)) (now (numbers .entry)) (now (factors .entry))) ⌝ }
+    ensures { λ r. ⌜ droppedAs r (now (map .exit)) (roomCellsFrom (now (count .exit)) (now (numbers .exit)) (now (factors .exit))) ≡ flatDropped (dropOf (roomFrom (roomCellsFrom (now (count .entry)) (now (numbers .entry)) (now (factors .entry)))) film (now (map .entry))) (roomCellsFrom (now (count .entry)) (now (numbers .entry)) (now (factors .entry))) ⌝ }
 {
     let room = room_from(*count, numbers, factors);
     let left = room::drop_film(room, film, map);

@@ -16,8 +16,8 @@ use Rattle.settings.specs.Settings.{binsOf, clipOne}
 use Rattle.tiles.specs.Tiles.{footerOf, FooterAsks}
 use Rattle.slide.specs.Slide.{RegionAsks}
 use Rattle.prepare.specs.declared.Enhanced.the-variants as Enhanced
-use Rattle.prepare.specs.Prepare.{painting}
-use Rattle.around.specs.Around.{aroundRows, regionPixels, aroundRow, aroundFilm, aroundFoot, aroundedOf, aroundOf, PaintAsks}
+use Rattle.prepare.specs.Prepare.{paintLeaves}
+use Rattle.around.specs.Around.{aroundRows, regionPixels, aroundRow, aroundFilm, aroundFoot, aroundedOf, aroundOf, AroundPaintAsks}
 use Rattle.around.proofs.Table.{Known, known}
 use Rattle.around.proofs.Pixels.{film-region, pixels-few}
 
@@ -46,23 +46,23 @@ module _ (w h : ℕ) (pic : List ℕ) (side : ℕ) (s : Settings) (scratch targe
   asks-copy = omega (arith, told .film .whole, told .room)
 
   -- the painting
-  pub asks-paint : PaintAsks w h pic side s target scratch
+  pub asks-paint : AroundPaintAsks w h pic side s target scratch
   asks-paint = record { film = told .film; room = told .room; enough = omega (arith, told .enough) }
 
 -- ---- the endings
 
 module _ (w h : ℕ) (pic : List ℕ) (side : ℕ) (s : Settings) (o t : List ℕ) where
   -- a refusal, as it was worked out
-  pub around-refused : {r : ℕ} → r ≡ first (aroundRows w h pic side s (length t) (length o)) → (r ≡ 0 → ⊥) → painting (Enhanced.Refused r) o t ≡ aroundOf w h pic side s o t
+  pub around-refused : {r : ℕ} → r ≡ first (aroundRows w h pic side s (length t) (length o)) → (r ≡ 0 → ⊥) → paintLeaves (Enhanced.Refused r) o t ≡ aroundOf w h pic side s o t
   unfolding aroundOf
   around-refused {r} e z =
-      unless-refused r (λ n. painting (Enhanced.Refused n) o t) (aroundedOf w h pic side s t) z
-      ∙ ap (λ k. unless k (λ n. painting (Enhanced.Refused n) o t) (aroundedOf w h pic side s t)) e
+      unless-refused r (λ n. paintLeaves (Enhanced.Refused n) o t) (aroundedOf w h pic side s t) z
+      ∙ ap (λ k. unless k (λ n. paintLeaves (Enhanced.Refused n) o t) (aroundedOf w h pic side s t)) e
 
   -- no refusal
   pub around-done : {r : ℕ} → r ≡ first (aroundRows w h pic side s (length t) (length o)) → r ≡ 0 → aroundedOf w h pic side s t ≡ aroundOf w h pic side s o t
   unfolding aroundOf
-  around-done {r} e z = ap (λ k. unless k (λ n. painting (Enhanced.Refused n) o t) (aroundedOf w h pic side s t)) (sym z ∙ e)
+  around-done {r} e z = ap (λ k. unless k (λ n. paintLeaves (Enhanced.Refused n) o t) (aroundedOf w h pic side s t)) (sym z ∙ e)
 
   module _ {r n b : ℕ} {foot : Footer} {c : Bool} (e : r ≡ first (aroundRows w h pic side s (length t) (length o))) (z : r ≡ 0)
       (p : n ≡ regionPixels w h side 0 0) (q : b ≡ binsOf s) (f : foot ≡ footerOf (s .clip) n b) (u : c ≡ clipOne (s .clip)) where
@@ -71,7 +71,7 @@ module _ (w h : ℕ) (pic : List ℕ) (side : ℕ) (s : Settings) (o t : List �
     footed = f ∙ ap₂ (footerOf (s .clip)) p q
 
     -- at the factor 1.0 the film is copied, and the scratch stays
-    pub around-one : {o′ : List ℕ} → c ≡ true → o′ ≡ onto o pic → painting (Enhanced.Done foot) o′ t ≡ aroundOf w h pic side s o t
+    pub around-one : {o′ : List ℕ} → c ≡ true → o′ ≡ onto o pic → paintLeaves (Enhanced.Done foot) o′ t ≡ aroundOf w h pic side s o t
     unfolding aroundedOf
     around-one {o′} y g =
         let one : clipOne (s .clip) ≡ true = sym u ∙ y in
@@ -81,7 +81,7 @@ module _ (w h : ℕ) (pic : List ℕ) (side : ℕ) (s : Settings) (o t : List �
 
     -- else it is painted
     pub around-well : {o′ t′ : List ℕ} → c ≡ false → o′ ≡ joined h (aroundRow w h pic side s) → t′ ≡ filled (λ k. 0) t (2 * binsOf s)
-        → painting (Enhanced.Done foot) o′ t′ ≡ aroundOf w h pic side s o t
+        → paintLeaves (Enhanced.Done foot) o′ t′ ≡ aroundOf w h pic side s o t
     unfolding aroundedOf aroundFilm
     around-well {o′} {t′} y g v =
         let one : clipOne (s .clip) ≡ false = sym u ∙ y in

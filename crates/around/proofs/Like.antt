@@ -12,7 +12,7 @@ use Rattle.settings.specs.declared.Settings.{Settings}
 use Rattle.settings.specs.Settings.{binsOf, clipBad}
 use Rattle.settings.proofs.Parts.{grey-alike}
 use Rattle.slide.specs.Slide.{regionRect}
-use Rattle.around.specs.Around.{workRows, aroundRows, regionMapping, aroundGrey, aroundRow, aroundFilm, aroundFoot, aroundedOf, aroundOf}
+use Rattle.around.specs.Around.{aroundWorkRows, aroundRows, regionMapping, aroundGrey, aroundRow, aroundFilm, aroundFoot, aroundedOf, aroundOf}
 
 -- ---- a pixel's grey
 
@@ -49,7 +49,7 @@ module _ (w h : ℕ) (pic : List ℕ) (side : ℕ) {s s′ : Settings} (same : S
   film-like = joined-cong h (λ y q. tab-cong w (λ x p. around-grey-like x y))
 
   rows-like : (scratch target : ℕ) → aroundRows w h pic side s scratch target ≡ aroundRows w h pic side s′ scratch target
-  unfolding aroundRows workRows
+  unfolding aroundRows aroundWorkRows
   rows-like scratch target = rw (grey-alike s s′ (same .bins) (same .least) (same .most) (ap clipBad (same .clip)), same .bins, same .least, same .most) refl
 
   -- give the same answer and memory

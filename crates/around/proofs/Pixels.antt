@@ -18,22 +18,22 @@ use Rattle.scan.proofs.Spans.{within-low, within-high}
 use Rattle.binning.specs.Binning.{binOf, binBy}
 use Rattle.binning.proofs.Bins.{bin-below, bin-by}
 use Rattle.tally.specs.declared.Rect.{Rect}
-use Rattle.tally.specs.Tally.{greysOf, countsOf, Inside, Scale, CountAsks}
+use Rattle.tally.specs.Tally.{greysOf, countsOf, Inside, Scale, CountRectAsks}
 use Rattle.tally.proofs.Greys.{greys-all, length-greys}
 use Rattle.tally.proofs.Counts.{length-counts, total-counts, counts-by, counts-front}
 use Rattle.tile.specs.Tile.{clippedBy, dividedBy, mappedOf, tileMapping, Holds}
 use Rattle.tile.proofs.Tiles.{length-clipped-by, tile-counts-by, tile-divides-by, length-tile-mapping, getD-tile-mapping, tile-mapping-within}
 use Rattle.settings.specs.declared.Settings.{Settings}
-use Rattle.tiles.proofs.Films as films
+use Rattle.tiles.proofs.Films.{clip-holds}
 use Rattle.slide.specs.Slide.{regionRect, RegionAsks, SlideAsks, Slid}
 use Rattle.slide.proofs.Regions.{region-inside}
 use Rattle.value.specs.Value.{ValueAsks, ValueGiven}
-use Rattle.around.specs.Around.{regionPixels, regionMapping, aroundGrey, FilmAsks, BinAsks, PixelAsks, Greyed, Held, StartAsks}
+use Rattle.around.specs.Around.{regionPixels, regionMapping, aroundGrey, AroundReady, AroundBinAsks, AroundPixelAsks, AroundGreyed, RegionHeld, AroundStartAsks}
 use Rattle.around.proofs.Twins.{twin-length, twin-part, twin-front, twin-behind, twin-size}
 
 -- ---- the bin of a grey
 
-module _ {pic : List ℕ} {s : Settings} {at b factor : ℕ} (asks : BinAsks pic s at b factor) where
+module _ {pic : List ℕ} {s : Settings} {at b factor : ℕ} (asks : AroundBinAsks pic s at b factor) where
   grey-in : within (s .min) (s .max) (getD pic at 0) ≡ true
   grey-in = all-at (within (s .min) (s .max)) pic (asks .greys) at 0 (asks .inside)
 
@@ -51,15 +51,15 @@ module _ {pic : List ℕ} {s : Settings} {at b factor : ℕ} (asks : BinAsks pic
 
 -- ---- the region of a pixel
 
-pub film-region : {w h : ℕ} {pic : List ℕ} {side : ℕ} {s : Settings} {x y : ℕ} → FilmAsks w h pic side s → x < w → y < h → RegionAsks w h side x y
+pub film-region : {w h : ℕ} {pic : List ℕ} {side : ℕ} {s : Settings} {x y : ℕ} → AroundReady w h pic side s → x < w → y < h → RegionAsks w h side x y
 film-region film l k = record { few = film .few; across = l; down = k; wide = film .widest; high = film .highest }
 
 -- it lies inside the film
-pub film-inside : {w h : ℕ} {pic : List ℕ} {side : ℕ} {s : Settings} {x y : ℕ} → FilmAsks w h pic side s → x < w → y < h → Inside (length pic) w (regionRect w h side x y)
+pub film-inside : {w h : ℕ} {pic : List ℕ} {side : ℕ} {s : Settings} {x y : ℕ} → AroundReady w h pic side s → x < w → y < h → Inside (length pic) w (regionRect w h side x y)
 film-inside film l k = region-inside (film-region film l k) (film .whole)
 
 -- its pixels lie in Min to Max
-pub film-greys : {w h : ℕ} {pic : List ℕ} {side : ℕ} {s : Settings} {x y : ℕ} → FilmAsks w h pic side s → x < w → y < h → all (within (s .min) (s .max)) (greysOf pic w (regionRect w h side x y)) ≡ true
+pub film-greys : {w h : ℕ} {pic : List ℕ} {side : ℕ} {s : Settings} {x y : ℕ} → AroundReady w h pic side s → x < w → y < h → all (within (s .min) (s .max)) (greysOf pic w (regionRect w h side x y)) ≡ true
 film-greys {w} {h} {pic} {side} {s} {x} {y} film l k =
     let inside = film-inside film l k in greys-all (within (s .min) (s .max)) pic w (regionRect w h side x y) (inside .across) (inside .down) (film .greys)
 
@@ -80,12 +80,12 @@ module _ {w h side x y : ℕ} (asks : RegionAsks w h side x y) {r : Rect} (e : r
 
 -- ---- the first of a row
 
-module _ {w h : ℕ} {pic : List ℕ} {side : ℕ} {s : Settings} {y b scratch : ℕ} (asks : StartAsks w h pic side s y b scratch) where
+module _ {w h : ℕ} {pic : List ℕ} {side : ℕ} {s : Settings} {y b scratch : ℕ} (asks : AroundStartAsks w h pic side s y b scratch) where
   pub start-region : RegionAsks w h side 0 y
   start-region = film-region (asks .film) (asks .film .wide) (asks .row)
 
   module _ {r : Rect} (e : r ≡ regionRect w h side 0 y) where
-    pub start-count : CountAsks pic w r (s .min) (s .max) b scratch
+    pub start-count : CountRectAsks pic w r (s .min) (s .max) b scratch
     start-count =
         rw (e, asks .bins)
         record {
@@ -95,7 +95,7 @@ module _ {w h : ℕ} {pic : List ℕ} {side : ℕ} {s : Settings} {y b scratch :
           greys = film-greys (asks .film) (asks .film .wide) (asks .row);
         }
 
-    pub start-held : (d : List ℕ) {t : List ℕ} → length d ≡ scratch → t ≡ onto d (countsOf (s .min) (s .max) b (greysOf pic w r)) → Held w h pic side s 0 y b d t
+    pub start-held : (d : List ℕ) {t : List ℕ} → length d ≡ scratch → t ≡ onto d (countsOf (s .min) (s .max) b (greysOf pic w r)) → RegionHeld w h pic side s 0 y b d t
     start-held d {t} l q =
         record {
           front = λ k i. ap (λ z. getD z k 0) q ∙ counts-front (s .min) (s .max) b d (greysOf pic w r) k i ∙ ap (λ z. times k (map (binOf (s .min) (s .max) b) (greysOf pic w z))) e;
@@ -108,7 +108,7 @@ module _ {w h : ℕ} {pic : List ℕ} {side : ℕ} {s : Settings} {y b scratch :
 
 -- ---- a pixel's grey
 
-module _ {w h : ℕ} {pic : List ℕ} {side : ℕ} {s : Settings} {x y b factor : ℕ} {t : List ℕ} (asks : PixelAsks w h pic side s x y b factor t) where
+module _ {w h : ℕ} {pic : List ℕ} {side : ℕ} {s : Settings} {x y b factor : ℕ} {t : List ℕ} (asks : AroundPixelAsks w h pic side s x y b factor t) where
   pub pixel-scale : Scale (s .min) (s .max) b
   pixel-scale = subst (λ n. Scale (s .min) (s .max) n) (sym (asks .bins)) (asks .film .scale)
 
@@ -118,7 +118,7 @@ module _ {w h : ℕ} {pic : List ℕ} {side : ℕ} {s : Settings} {x y b factor 
   pub index-small : y * w + x < 16777216
   index-small = omega (arith, digits-lt {q = y} {m = 4096} {r = x} {c = w} (omega (arith, asks .row, asks .film .highest)) (asks .column), mul-comm w 4096, asks .film .widest)
 
-  pub pixel-bin : BinAsks pic s (y * w + x) b factor
+  pub pixel-bin : AroundBinAsks pic s (y * w + x) b factor
   pixel-bin =
       record {
         scale = pixel-scale;
@@ -147,7 +147,7 @@ module _ {w h : ℕ} {pic : List ℕ} {side : ℕ} {s : Settings} {x y b factor 
     pixels = length-greys pic w (regionRect w h side x y) ∙ sym p
 
     holds-own : Holds (s .clip) n b
-    holds-own = films.holds (s .clip) n b (asks .film .fair) some-bins
+    holds-own = clip-holds (s .clip) n b (asks .film .fair) some-bins
 
     below : k < b
     below = bin-small pixel-bin q
@@ -212,7 +212,7 @@ module _ {w h : ℕ} {pic : List ℕ} {side : ℕ} {s : Settings} {x y b factor 
             ∙ ap length part-counts
             ∙ length-counts (s .min) (s .max) b greys
 
-        pub grey-held : Held w h pic side s x y b t (putMid b (b + b - b) t′ ds)
+        pub grey-held : RegionHeld w h pic side s x y b t (putMid b (b + b - b) t′ ds)
         grey-held =
             record {
               front = λ i l. twin-front t b (asks .room) e ds written-length i l ∙ asks .front i l;
@@ -220,12 +220,12 @@ module _ {w h : ℕ} {pic : List ℕ} {side : ℕ} {s : Settings} {x y b factor 
               size = twin-size t b (asks .room) e ds written-length;
             }
 
-        pub grey-is : Greyed w h pic side s x y v
+        pub grey-is : AroundGreyed w h pic side s x y v
         grey-is = let is = counts-value part-counts given in record { grey = is ∙ own-grey; most = omega (arith, is, mapped-most) }
 
   -- ---- the counts moved on
 
-  module _ {t₁ : List ℕ} (held : Held w h pic side s x y b t t₁) where
+  module _ {t₁ : List ℕ} (held : RegionHeld w h pic side s x y b t t₁) where
     pub slide-asks : SlideAsks pic w h side x y (s .min) (s .max) b factor t₁
     slide-asks =
         record {
@@ -238,7 +238,7 @@ module _ {w h : ℕ} {pic : List ℕ} {side : ℕ} {s : Settings} {x y b factor 
           front = held .front;
         }
 
-    pub slid-held : {t₂ : List ℕ} → Slid pic w h side x y (s .min) (s .max) b t₁ t₂ → Held w h pic side s (x + 1) y b t t₂
+    pub slid-held : {t₂ : List ℕ} → Slid pic w h side x y (s .min) (s .max) b t₁ t₂ → RegionHeld w h pic side s (x + 1) y b t t₂
     slid-held {t₂} slid =
         record {
           front = slid .front;

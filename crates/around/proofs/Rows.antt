@@ -15,11 +15,11 @@ use Rattle.lists.proofs.Windows.{length-block, blocks-whole}
 use Rattle.binning.specs.Binning.{factorOf}
 use Rattle.settings.specs.declared.Settings.{Settings}
 use Rattle.settings.specs.Settings.{binsOf}
-use Rattle.around.specs.Around.{aroundRow, PixelAsks, Held, StartAsks, RowAsks, PaintAsks, Behind}
+use Rattle.around.specs.Around.{aroundRow, AroundPixelAsks, RegionHeld, AroundStartAsks, AroundRowAsks, AroundPaintAsks, BehindTwiceBins}
 
 -- ---- a row
 
-module _ {w h : ℕ} {pic : List ℕ} {side : ℕ} {s : Settings} {y out : ℕ} (t₀ : List ℕ) (asks : RowAsks w h pic side s y out (length t₀)) {b : ℕ} (e : b ≡ binsOf s) where
+module _ {w h : ℕ} {pic : List ℕ} {side : ℕ} {s : Settings} {y out : ℕ} (t₀ : List ℕ) (asks : AroundRowAsks w h pic side s y out (length t₀)) {b : ℕ} (e : b ≡ binsOf s) where
   -- what the bins' factor asks
   pub factor-asks : (s .min ≤ s .max) × (s .max ≤ 4095) × (0 < b) × (b ≤ s .max - s .min + 1)
   factor-asks =
@@ -27,17 +27,17 @@ module _ {w h : ℕ} {pic : List ℕ} {side : ℕ} {s : Settings} {y out : ℕ} 
       (scale .order, scale .most, omega (arith, scale .some, e), omega (arith, scale .reach, e))
 
   -- what the first region asks
-  pub start-asks : StartAsks w h pic side s y b (length t₀)
+  pub start-asks : AroundStartAsks w h pic side s y b (length t₀)
   start-asks = record { film = asks .film; row = asks .row; bins = e; room = omega (arith, asks .enough, e) }
 
-  module _ {t₁ : List ℕ} (begun : Held w h pic side s 0 y b t₀ t₁) where
+  module _ {t₁ : List ℕ} (begun : RegionHeld w h pic side s 0 y b t₀ t₁) where
     -- before the first pixel
-    pub held-first : Held w h pic side s 0 y b t₁ t₁
+    pub held-first : RegionHeld w h pic side s 0 y b t₁ t₁
     held-first = record { front = begun .front; behind = refl; size = refl }
 
-    module _ {x : ℕ} {t : List ℕ} (held : Held w h pic side s x y b t₁ t) where
+    module _ {x : ℕ} {t : List ℕ} (held : RegionHeld w h pic side s x y b t₁ t) where
       -- what the next one asks
-      pub pixel-asks : {f : ℕ} → f ≡ factorOf (s .min) (s .max) b → x < w → PixelAsks w h pic side s x y b f t
+      pub pixel-asks : {f : ℕ} → f ≡ factorOf (s .min) (s .max) b → x < w → AroundPixelAsks w h pic side s x y b f t
       pixel-asks q l =
           record {
             film = asks .film;
@@ -50,7 +50,7 @@ module _ {w h : ℕ} {pic : List ℕ} {side : ℕ} {s : Settings} {y out : ℕ} 
           }
 
       -- the last
-      pub held-end : Behind s t₀ t
+      pub held-end : BehindTwiceBins s t₀ t
       held-end =
           record {
             behind = ap (λ n. drop (n + n) t) (sym e) ∙ held .behind ∙ begun .behind ∙ ap (λ n. drop (n + n) t₀) e;
@@ -58,19 +58,19 @@ module _ {w h : ℕ} {pic : List ℕ} {side : ℕ} {s : Settings} {y out : ℕ} 
           }
 
 -- one pixel more
-pub held-next : {w h : ℕ} {pic : List ℕ} {side : ℕ} {s : Settings} {x x′ y b : ℕ} {t₁ t t′ : List ℕ} → Held w h pic side s x y b t₁ t → Held w h pic side s x′ y b t t′ → Held w h pic side s x′ y b t₁ t′
+pub held-next : {w h : ℕ} {pic : List ℕ} {side : ℕ} {s : Settings} {x x′ y b : ℕ} {t₁ t t′ : List ℕ} → RegionHeld w h pic side s x y b t₁ t → RegionHeld w h pic side s x′ y b t t′ → RegionHeld w h pic side s x′ y b t₁ t′
 held-next a c = record { front = c .front; behind = c .behind ∙ a .behind; size = c .size ∙ a .size }
 
 -- ---- the scratch between rows
 
-pub behind-first : {s : Settings} {t : List ℕ} → Behind s t t
+pub behind-first : {s : Settings} {t : List ℕ} → BehindTwiceBins s t t
 behind-first = record { behind = refl; size = refl }
 
-pub behind-next : {s : Settings} {t₀ t u : List ℕ} → Behind s t₀ t → Behind s t u → Behind s t₀ u
+pub behind-next : {s : Settings} {t₀ t u : List ℕ} → BehindTwiceBins s t₀ t → BehindTwiceBins s t u → BehindTwiceBins s t₀ u
 behind-next a b = record { behind = b .behind ∙ a .behind; size = b .size ∙ a .size }
 
 -- cleared at the end, it is as if it had been cleared at once
-pub behind-clear : {s : Settings} {t₀ t u : List ℕ} {b : ℕ} → Behind s t₀ t → b ≡ binsOf s → u ≡ filled (λ k. 0) t (2 * b) → u ≡ filled (λ k. 0) t₀ (2 * binsOf s)
+pub behind-clear : {s : Settings} {t₀ t u : List ℕ} {b : ℕ} → BehindTwiceBins s t₀ t → b ≡ binsOf s → u ≡ filled (λ k. 0) t (2 * b) → u ≡ filled (λ k. 0) t₀ (2 * binsOf s)
 behind-clear {s} {t₀} {t} {u} {b} kept e q =
     let twice : binsOf s + binsOf s ≡ 2 * binsOf s = omega arith in
     q
@@ -84,7 +84,7 @@ pub length-around-row : (w h : ℕ) (pic : List ℕ) (side : ℕ) (s : Settings)
 unfolding aroundRow
 length-around-row w h pic side s y = length-tab w _
 
-module _ {w h : ℕ} {pic : List ℕ} {side : ℕ} {s : Settings} {target scratch : ℕ} (asks : PaintAsks w h pic side s target scratch) where
+module _ {w h : ℕ} {pic : List ℕ} {side : ℕ} {s : Settings} {target scratch : ℕ} (asks : AroundPaintAsks w h pic side s target scratch) where
   -- the target is small
   pub target-small : target ≤ 16777216
   target-small = omega (arith, asks .room, mul-le-mul {n₂ = 4096} {m₂ = 4096} (asks .film .widest) (asks .film .highest))
@@ -94,7 +94,7 @@ module _ {w h : ℕ} {pic : List ℕ} {side : ℕ} {s : Settings} {target scratc
   row-room y l = block-fits w h l (omega (arith, asks .room, mul-comm w h))
 
   -- what the row asks
-  pub row-asks : (px : List ℕ) (y : ℕ) {n : ℕ} → y < h → length px ≡ target → n ≡ scratch → RowAsks w h pic side s y (length (take (y * w + w - y * w) (drop (y * w) px))) n
+  pub row-asks : (px : List ℕ) (y : ℕ) {n : ℕ} → y < h → length px ≡ target → n ≡ scratch → AroundRowAsks w h pic side s y (length (take (y * w + w - y * w) (drop (y * w) px))) n
   row-asks px y l e q =
       record { film = asks .film; row = l; room = length-block px y w (omega (arith, row-room y l)); enough = omega (arith, asks .enough, q) }
 

@@ -18,7 +18,7 @@ use Rattle.settings.specs.declared.Settings.{Settings}
 use Rattle.settings.specs.Settings.{binsOf, sizeRows, rangeRows, greyRows}
 use Rattle.settings.proofs.Ready.{size-numbered, sides-within, sides-most, ranged, whole-length, clip-fair}
 use Rattle.settings.proofs.Parts.{size-numbers, grey-numbers, grey-numbered, size-both, grey-both}
-use Rattle.around.specs.Around.{regionRows, workRows, aroundRows, FilmAsks}
+use Rattle.around.specs.Around.{regionRows, aroundWorkRows, aroundRows, AroundReady}
 
 -- ---- 39
 
@@ -65,35 +65,35 @@ region-numbered side = rw (region-numbers side) refl
 
 module _ (w h : ℕ) (pic : List ℕ) (s : Settings) (scratch target : ℕ) where
   -- the numbers, in their order
-  pub work-numbers : numbersOf (workRows w h pic s scratch target) ≡ 12 ∷ 17 ∷ 13 ∷ []
-  unfolding numbersOf workRows
-  work-numbers = refl
+  pub around-work-numbers : numbersOf (aroundWorkRows w h pic s scratch target) ≡ 12 ∷ 17 ∷ 13 ∷ []
+  unfolding numbersOf aroundWorkRows
+  around-work-numbers = refl
 
   module _ {b : ℕ} (e : b ≡ binsOf s) where
     -- 12 applies
-    pub work-scratch : scratch < 2 * b → 12 ≡ first (workRows w h pic s scratch target)
-    unfolding first workRows
-    work-scratch l = let t : ltb scratch (2 * binsOf s) ≡ true = lt-ltb scratch (2 * binsOf s) (omega arith) in rw t refl
+    pub around-work-scratch : scratch < 2 * b → 12 ≡ first (aroundWorkRows w h pic s scratch target)
+    unfolding first aroundWorkRows
+    around-work-scratch l = let t : ltb scratch (2 * binsOf s) ≡ true = lt-ltb scratch (2 * binsOf s) (omega arith) in rw t refl
 
     module _ (l : 2 * b ≤ scratch) where
       fits : ltb scratch (2 * binsOf s) ≡ false
       fits = le-ltb scratch (2 * binsOf s) (omega arith)
 
       -- 17 does
-      pub work-target : (target ≡ w * h → ⊥) → 17 ≡ first (workRows w h pic s scratch target)
-      unfolding first workRows
-      work-target n = let q : eqb target (w * h) ≡ false = ne-eqb target (w * h) n in rw (fits, q) refl
+      pub around-work-target : (target ≡ w * h → ⊥) → 17 ≡ first (aroundWorkRows w h pic s scratch target)
+      unfolding first aroundWorkRows
+      around-work-target n = let q : eqb target (w * h) ≡ false = ne-eqb target (w * h) n in rw (fits, q) refl
 
       -- neither does, and 13 decides
-      pub work-greys : target ≡ w * h → (t : Bool) → t ≡ all (within (s .min) (s .max)) pic → cond t 0 13 ≡ first (workRows w h pic s scratch target)
-      unfolding first workRows
-      work-greys n true g = let q : eqb target (w * h) ≡ true = eq-eqb target (w * h) n in rw (fits, q, sym g) refl
-      work-greys n false g = let q : eqb target (w * h) ≡ true = eq-eqb target (w * h) n in rw (fits, q, sym g) refl
+      pub around-work-greys : target ≡ w * h → (t : Bool) → t ≡ all (within (s .min) (s .max)) pic → cond t 0 13 ≡ first (aroundWorkRows w h pic s scratch target)
+      unfolding first aroundWorkRows
+      around-work-greys n true g = let q : eqb target (w * h) ≡ true = eq-eqb target (w * h) n in rw (fits, q, sym g) refl
+      around-work-greys n false g = let q : eqb target (w * h) ≡ true = eq-eqb target (w * h) n in rw (fits, q, sym g) refl
 
   -- with a target of another length they come to 12, and 17 else
-  pub work-other : (target ≡ w * h → ⊥) → first (workRows w h pic s scratch target) ≡ first (row 12 (ltb scratch (2 * binsOf s)) ∷ row 17 true ∷ [])
-  unfolding first workRows
-  work-other n = rw (ne-eqb target (w * h) n) refl
+  pub around-work-other : (target ≡ w * h → ⊥) → first (aroundWorkRows w h pic s scratch target) ≡ first (row 12 (ltb scratch (2 * binsOf s)) ∷ row 17 true ∷ [])
+  unfolding first aroundWorkRows
+  around-work-other n = rw (ne-eqb target (w * h) n) refl
 
 -- ---- all of them
 
@@ -103,39 +103,39 @@ range-scale s e = let r = ranged s e in record { order = omega (arith, r .1); mo
 
 module _ (w h : ℕ) (pic : List ℕ) (side : ℕ) (s : Settings) (scratch target : ℕ) where
   -- the numbers, in their order
-  pub table-numbers : numbersOf (aroundRows w h pic side s scratch target) ≡ 1 ∷ 1 ∷ 1 ∷ 1 ∷ 2 ∷ 39 ∷ 39 ∷ 39 ∷ 7 ∷ 8 ∷ 9 ∷ 9 ∷ 31 ∷ 10 ∷ 12 ∷ 17 ∷ 13 ∷ []
+  pub around-table-numbers : numbersOf (aroundRows w h pic side s scratch target) ≡ 1 ∷ 1 ∷ 1 ∷ 1 ∷ 2 ∷ 39 ∷ 39 ∷ 39 ∷ 7 ∷ 8 ∷ 9 ∷ 9 ∷ 31 ∷ 10 ∷ 12 ∷ 17 ∷ 13 ∷ []
   unfolding aroundRows
-  table-numbers =
+  around-table-numbers =
       rw (
-        numbers-append (sizeRows w h (length pic)) (regionRows side ++ (greyRows s ++ workRows w h pic s scratch target)),
-        numbers-append (regionRows side) (greyRows s ++ workRows w h pic s scratch target),
-        numbers-append (greyRows s) (workRows w h pic s scratch target),
+        numbers-append (sizeRows w h (length pic)) (regionRows side ++ (greyRows s ++ aroundWorkRows w h pic s scratch target)),
+        numbers-append (regionRows side) (greyRows s ++ aroundWorkRows w h pic s scratch target),
+        numbers-append (greyRows s) (aroundWorkRows w h pic s scratch target),
         size-numbers w h (length pic),
         region-numbers side,
         grey-numbers s,
-        work-numbers w h pic s scratch target,
+        around-work-numbers w h pic s scratch target,
       )
       refl
 
   -- its parts
-  pub table-parts : aroundRows w h pic side s scratch target ≡ sizeRows w h (length pic) ++ (regionRows side ++ (greyRows s ++ workRows w h pic s scratch target))
+  pub around-table-parts : aroundRows w h pic side s scratch target ≡ sizeRows w h (length pic) ++ (regionRows side ++ (greyRows s ++ aroundWorkRows w h pic s scratch target))
   unfolding aroundRows
-  table-parts = refl
+  around-table-parts = refl
 
   -- "11 is never given"
-  pub table-never-11 : first (aroundRows w h pic side s scratch target) ≢ 11
+  pub around-table-never-11 : first (aroundRows w h pic side s scratch target) ≢ 11
   unfolding all
-  table-never-11 = first-never 11 (aroundRows w h pic side s scratch target) refl (rw table-numbers refl)
+  around-table-never-11 = first-never 11 (aroundRows w h pic side s scratch target) refl (rw around-table-numbers refl)
 
   -- nor 32: no list is lent
-  pub table-never-32 : first (aroundRows w h pic side s scratch target) ≢ 32
+  pub around-table-never-32 : first (aroundRows w h pic side s scratch target) ≢ 32
   unfolding all
-  table-never-32 = first-never 32 (aroundRows w h pic side s scratch target) refl (rw table-numbers refl)
+  around-table-never-32 = first-never 32 (aroundRows w h pic side s scratch target) refl (rw around-table-numbers refl)
 
   -- 1 or 2 applies
-  pub table-size : {r : ℕ} → r ≡ first (sizeRows w h (length pic)) → (r ≡ 0 → ⊥) → r ≡ first (aroundRows w h pic side s scratch target)
+  pub around-table-size : {r : ℕ} → r ≡ first (sizeRows w h (length pic)) → (r ≡ 0 → ⊥) → r ≡ first (aroundRows w h pic side s scratch target)
   unfolding aroundRows
-  table-size e z = front (sizeRows w h (length pic)) _ e z
+  around-table-size e z = front (sizeRows w h (length pic)) _ e z
 
   module _ {a : ℕ} (ea : a ≡ first (sizeRows w h (length pic))) (za : a ≡ 0) where
     -- the sides are small enough for 17 to be asked
@@ -143,28 +143,28 @@ module _ (w h : ℕ) (pic : List ℕ) (side : ℕ) (s : Settings) (scratch targe
     sides-small = sides-most w h (size-both w h (length pic) (sym ea ∙ za) .0)
 
     -- 39 does
-    pub table-region : {r : ℕ} → r ≡ first (regionRows side) → (r ≡ 0 → ⊥) → r ≡ first (aroundRows w h pic side s scratch target)
+    pub around-table-region : {r : ℕ} → r ≡ first (regionRows side) → (r ≡ 0 → ⊥) → r ≡ first (aroundRows w h pic side s scratch target)
     unfolding aroundRows
-    table-region e z = behind (sizeRows w h (length pic)) _ (size-numbered w h (length pic)) ea za (front (regionRows side) _ e z)
+    around-table-region e z = behind (sizeRows w h (length pic)) _ (size-numbered w h (length pic)) ea za (front (regionRows side) _ e z)
 
     module _ {b : ℕ} (eb : b ≡ first (regionRows side)) (zb : b ≡ 0) where
       -- one of 7 to 9, 31 and 10 does
-      pub table-grey : {r : ℕ} → r ≡ first (greyRows s) → (r ≡ 0 → ⊥) → r ≡ first (aroundRows w h pic side s scratch target)
+      pub around-table-grey : {r : ℕ} → r ≡ first (greyRows s) → (r ≡ 0 → ⊥) → r ≡ first (aroundRows w h pic side s scratch target)
       unfolding aroundRows
-      table-grey e z =
+      around-table-grey e z =
           behind (sizeRows w h (length pic)) _ (size-numbered w h (length pic)) ea za
           (behind (regionRows side) _ (region-numbered side) eb zb (front (greyRows s) _ e z))
 
       -- none of them does, and 12, 17 and 13 decide
-      pub table-work : {c r : ℕ} → c ≡ first (greyRows s) → c ≡ 0 → r ≡ first (workRows w h pic s scratch target) → r ≡ first (aroundRows w h pic side s scratch target)
+      pub around-table-work : {c r : ℕ} → c ≡ first (greyRows s) → c ≡ 0 → r ≡ first (aroundWorkRows w h pic s scratch target) → r ≡ first (aroundRows w h pic side s scratch target)
       unfolding aroundRows
-      table-work e z q =
+      around-table-work e z q =
           behind (sizeRows w h (length pic)) _ (size-numbered w h (length pic)) ea za
           (behind (regionRows side) _ (region-numbered side) eb zb (behind (greyRows s) _ (grey-numbered s) e z q))
 
 -- what an accepting table tells besides what the work asks
 pub record Known (w h : ℕ) (pic : List ℕ) (side : ℕ) (s : Settings) (scratch target : ℕ) : Type 0 where
-  pub film : FilmAsks w h pic side s
+  pub film : AroundReady w h pic side s
   pub odd : side % 2 ≡ 0 → ⊥
   pub least : 3 ≤ side
   pub enough : 2 * binsOf s ≤ scratch
@@ -172,16 +172,16 @@ pub record Known (w h : ℕ) (pic : List ℕ) (side : ℕ) (s : Settings) (scrat
 
 -- none of all applies: what the work below relies on
 pub known : (w h : ℕ) (pic : List ℕ) (side : ℕ) (s : Settings) (scratch target : ℕ) → first (aroundRows w h pic side s scratch target) ≡ 0 → Known w h pic side s scratch target
-unfolding all numbersOf regionRows workRows aroundRows
+unfolding all numbersOf regionRows aroundWorkRows aroundRows
 known w h pic side s scratch target e =
     let a = first-both (sizeRows w h (length pic)) _ (size-numbered w h (length pic)) e in
     let b = first-both (regionRows side) _ (region-numbered side) (a .1) in
-    let c = first-both (greyRows s) (workRows w h pic s scratch target) (grey-numbered s) (b .1) in
+    let c = first-both (greyRows s) (aroundWorkRows w h pic s scratch target) (grey-numbered s) (b .1) in
     let d = size-both w h (length pic) (a .0) in
     let g = grey-both s (c .0) in
     let n = sides-within w h (d .0) in
     let r = first-none (regionRows side) (region-numbered side) (b .0) in
-    let t = first-none (workRows w h pic s scratch target) refl (c .1) in
+    let t = first-none (aroundWorkRows w h pic s scratch target) refl (c .1) in
     record {
       film = record {
         wide = n .0;

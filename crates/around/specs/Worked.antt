@@ -30,7 +30,7 @@ plain e = record { across = 0; down = 0; bins = 4; min = 0; max = 15; clip = Fac
 
 -- a worked number: the edition, and a pixel; what comes out are N, L, the raw counts, the clipped counts and the grey
 pub data Worked : Type 0 where
-  pixel : Edition → ℕ → ℕ → ℕ → ℕ → List ℕ → List ℕ → ℕ → Worked
+  pixel : (e : Edition) (x y n l : ℕ) (counts clipped : List ℕ) (grey : ℕ) → Worked
 
 -- it holds of the rules
 unfoldable pub holds : Worked → Bool

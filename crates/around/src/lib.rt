@@ -7,8 +7,8 @@ ghost use Rattle.refuse.specs.Refuse.{first};
 ghost use Rattle.binning.specs.Binning.{binOf};
 ghost use Rattle.settings.specs.Settings.{binsOf};
 ghost use Rattle.slide.specs.Slide.{RegionAsks};
-ghost use Rattle.prepare.specs.Prepare.{painting};
-ghost use Rattle.around.specs.Around.{regionRows, workRows, aroundRows, regionPixels, aroundRow, aroundOf, BinAsks, PixelAsks, Greyed, Held, StartAsks, RowAsks, PaintAsks, Behind};
+ghost use Rattle.prepare.specs.Prepare.{paintLeaves};
+ghost use Rattle.around.specs.Around.{regionRows, aroundWorkRows, aroundRows, regionPixels, aroundRow, aroundOf, AroundBinAsks, AroundPixelAsks, AroundGreyed, RegionHeld, AroundStartAsks, AroundRowAsks, AroundPaintAsks, BehindTwiceBins};
 use prepare::Enhanced;
 use settings::Settings;
 
@@ -38,7 +38,7 @@ fn work_refusal(
     target: usize,
 ) -> u32
     requires { ⌜ (width ≤ 4096) × (height ≤ 4096) ⌝ }
-    ensures { λ r. ⌜ r ≡ first (workRows width height (now (picture .entry)) s scratch target) ⌝ }
+    ensures { λ r. ⌜ r ≡ first (aroundWorkRows width height (now (picture .entry)) s scratch target) ⌝ }
 {
     if scratch < 2 * (settings::bins(s) as usize) {
         return 12;
@@ -93,7 +93,7 @@ fn twin(t: &mut [u32], n: usize)
 
 // The bin of the grey at `at`.
 fn bin_at(picture: &[u16], s: Settings, at: usize, bins: u32, factor: u32) -> usize
-    requires { ⌜ BinAsks (now picture) s at bins factor ⌝ }
+    requires { ⌜ AroundBinAsks (now picture) s at bins factor ⌝ }
     ensures { λ r. ⌜ r ≡ binOf (s .min) (s .max) bins (getD (now (picture .entry)) at 0) ⌝ }
 {
     binning::bin_by(picture[at] as u32, s.min, factor) as usize
@@ -121,8 +121,8 @@ fn grey(
     factor: u32,
     scratch: &mut [u32],
 ) -> u32
-    requires { ⌜ PixelAsks width height (now picture) side s x y bins factor (now scratch) ⌝ }
-    ensures { λ r. ⌜ Held width height (now (picture .entry)) side s x y bins (now (scratch .entry)) (now (scratch .exit)) × Greyed width height (now (picture .entry)) side s x y r ⌝ }
+    requires { ⌜ AroundPixelAsks width height (now picture) side s x y bins factor (now scratch) ⌝ }
+    ensures { λ r. ⌜ RegionHeld width height (now (picture .entry)) side s x y bins (now (scratch .entry)) (now (scratch .exit)) × AroundGreyed width height (now (picture .entry)) side s x y r ⌝ }
 {
     let at = (y as usize) * (width as usize) + (x as usize);
     let k = bin_at(picture, s, at, bins, factor);
@@ -156,8 +156,8 @@ fn pixel(
     factor: u32,
     scratch: &mut [u32],
 ) -> u32
-    requires { ⌜ PixelAsks width height (now picture) side s x y bins factor (now scratch) ⌝ }
-    ensures { λ r. ⌜ Held width height (now (picture .entry)) side s (x + 1) y bins (now (scratch .entry)) (now (scratch .exit)) × Greyed width height (now (picture .entry)) side s x y r ⌝ }
+    requires { ⌜ AroundPixelAsks width height (now picture) side s x y bins factor (now scratch) ⌝ }
+    ensures { λ r. ⌜ RegionHeld width height (now (picture .entry)) side s (x + 1) y bins (now (scratch .entry)) (now (scratch .exit)) × AroundGreyed width height (now (picture .entry)) side s x y r ⌝ }
 {
     let shown = grey(picture, width, height, side, s, x, y, bins, factor, scratch);
     slide::slide(
@@ -187,8 +187,8 @@ fn start(
     bins: u32,
     scratch: &mut [u32],
 )
-    requires { ⌜ StartAsks width height (now picture) side s y bins (length (now scratch)) ⌝ }
-    ensures { λ _. ⌜ Held width height (now (picture .entry)) side s 0 y bins (now (scratch .entry)) (now (scratch .exit)) ⌝ }
+    requires { ⌜ AroundStartAsks width height (now picture) side s y bins (length (now scratch)) ⌝ }
+    ensures { λ _. ⌜ RegionHeld width height (now (picture .entry)) side s 0 y bins (now (scratch .entry)) (now (scratch .exit)) ⌝ }
 {
     let rect = slide::region(width, height, side, 0, y);
     tally::count(picture, width as usize, rect, s.min, s.max, bins, scratch);
@@ -205,8 +205,8 @@ fn paint_row(
     out: &mut [u16],
     scratch: &mut [u32],
 )
-    requires { ⌜ RowAsks width height (now picture) side s y (length (now out)) (length (now scratch)) ⌝ }
-    ensures { λ _. ⌜ Behind s (now (scratch .entry)) (now (scratch .exit)) × (now (out .exit) ≡ aroundRow width height (now (picture .entry)) side s y) ⌝ }
+    requires { ⌜ AroundRowAsks width height (now picture) side s y (length (now out)) (length (now scratch)) ⌝ }
+    ensures { λ _. ⌜ BehindTwiceBins s (now (scratch .entry)) (now (scratch .exit)) × (now (out .exit) ≡ aroundRow width height (now (picture .entry)) side s y) ⌝ }
 {
     let bins = settings::bins(s);
     let factor = binning::bin_factor(s.min, s.max, bins);
@@ -230,7 +230,7 @@ fn paint(
     target: &mut [u16],
     scratch: &mut [u32],
 )
-    requires { ⌜ PaintAsks width height (now picture) side s (length (now target)) (length (now scratch)) ⌝ }
+    requires { ⌜ AroundPaintAsks width height (now picture) side s (length (now target)) (length (now scratch)) ⌝ }
     ensures { λ _. ⌜ (now (target .exit) ≡ joined height (aroundRow width height (now (picture .entry)) side s)) × (now (scratch .exit) ≡ filled (λ k. 0) (now (scratch .entry)) (2 * binsOf s)) ⌝ }
 {
     let wide = width as usize;
@@ -264,7 +264,7 @@ pub fn around(
     target: &mut [u16],
     scratch: &mut [u32],
 ) -> Enhanced
-    ensures { λ r. ⌜ painting r (now (target .exit)) (now (scratch .exit)) ≡ aroundOf width height (now (picture .entry)) side s (now (target .entry)) (now (scratch .entry)) ⌝ }
+    ensures { λ r. ⌜ paintLeaves r (now (target .exit)) (now (scratch .exit)) ≡ aroundOf width height (now (picture .entry)) side s (now (target .entry)) (now (scratch .entry)) ⌝ }
 {
     let refused = refusal(width, height, picture, side, s, scratch.len(), target.len());
     if refused != 0 {

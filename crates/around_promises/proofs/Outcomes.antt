@@ -25,19 +25,19 @@ use Rattle.settings.proofs.Parts.{grey-numbered}
 use Rattle.tiles.specs.Tiles.{FooterAsks}
 use Rattle.tiles.proofs.Footers.{footer-off, footer-one, footer-above}
 use Rattle.prepare.specs.declared.Enhanced.the-variants as Enhanced
-use Rattle.prepare.specs.Prepare.{enhancedSays, Painted, painting}
+use Rattle.prepare.specs.Prepare.{enhancedSays, PaintOut, paintLeaves}
 use Rattle.around.specs.Around.{regionRows, aroundRows, regionPixels, aroundGrey, aroundRow, aroundFilm, aroundFoot, aroundedOf, aroundOf}
-use Rattle.around.proofs.Table.{Known, known, table-numbers, table-parts, table-region, region-numbered, region-even, region-small, region-large, work-other}
+use Rattle.around.proofs.Table.{Known, known, around-table-numbers, around-table-parts, around-table-region, region-numbered, region-even, region-small, region-large, around-work-other}
 use Rattle.around.proofs.Endings.{asks-footer, around-refused, around-done}
 use Rattle.around.proofs.Like.{SameRead, around-grey-like, around-like}
 use Rattle.promises.specs.Films.{FooterShows}
 use Rattle.promises.proofs.Accepted.{ByTable, table-says, table-accepted, table-done, table-refused, table-kept}
 use Rattle.around_promises.specs.Regions.{NeverGiven, three, four, five, six, eleven, listless, SideFits, otherRows, gridless, shownAround}
-use Rattle.around_promises.proofs.Runs.{AroundCall, Arounds, around-given, around-read, around-ends}
+use Rattle.around_promises.proofs.Runs.{AroundCall, Arounds, around-arguments, around-read, around-ends}
 
 -- around goes by the rows 1, 2, 39, 7 to 9, 31, 10, 12, 17 and 13
 pub around-table : (w h : ℕ) (pic : List ℕ) (side : ℕ) (s : Settings) (o t : List ℕ)
-    → ByTable (λ (x : Painted). enhancedSays (x .answer)) (first (aroundRows w h pic side s (length t) (length o))) (aroundFoot w h side s) (aroundedOf w h pic side s t) (λ k. painting (Enhanced.Refused k) o t) (aroundOf w h pic side s o t)
+    → ByTable (λ (x : PaintOut). enhancedSays (x .answer)) (first (aroundRows w h pic side s (length t) (length o))) (aroundFoot w h side s) (aroundedOf w h pic side s t) (λ k. paintLeaves (Enhanced.Refused k) o t) (aroundOf w h pic side s o t)
 unfolding aroundedOf enhancedSays
 around-table w h pic side s o t =
     record {
@@ -71,9 +71,9 @@ module _ (w h : ℕ) (pic : List ℕ) (side : ℕ) (s : Settings) (scratch targe
 
   rows-other : first (aroundRows w h pic side s scratch target) ≡ first (otherRows w h pic side s scratch)
   rows-other =
-      ap first (table-parts w h pic side s scratch target)
+      ap first (around-table-parts w h pic side s scratch target)
       ∙ first-rest (sizeRows w h (length pic)) _ _ (size-numbered w h (length pic))
-      (λ x. first-rest (regionRows side) _ _ (region-numbered side) (λ y. first-rest (greyRows s) _ _ (grey-numbered s) (λ z. work-other w h pic s scratch target other)))
+      (λ x. first-rest (regionRows side) _ _ (region-numbered side) (λ y. first-rest (greyRows s) _ _ (grey-numbered s) (λ z. around-work-other w h pic s scratch target other)))
 
   rows-some : first (otherRows w h pic side s scratch) ≢ 0
   rows-some z =
@@ -89,7 +89,7 @@ rowsOf c = first (aroundRows (c .width) (c .height) (c .pixels) (c .side) (c .se
 
 module _ {c : AroundCall} (ran : Arounds c) where
   said : enhancedSays (c .answer) ≡ enhancedSays (aroundOf (c .width) (c .height) (c .pixels) (c .side) (c .settings) (c .target) (c .scratch) .answer)
-  said = ap (λ (y : Painted). enhancedSays (y .answer)) (around-ends ran)
+  said = ap (λ (y : PaintOut). enhancedSays (y .answer)) (around-ends ran)
 
   -- it says the number of the first row that applies, and where none does the footer
   pub around-says : enhancedSays (c .answer) ≡ says (rowsOf c) (aroundFoot (c .width) (c .height) (c .side) (c .settings))
@@ -100,12 +100,12 @@ module _ {c : AroundCall} (ran : Arounds c) where
 
   not-first : (k : ℕ) → NeverGiven k → rowsOf c ≢ k
   unfolding all
-  not-first _ three = other 3 refl (rw table-numbers refl)
-  not-first _ four = other 4 refl (rw table-numbers refl)
-  not-first _ five = other 5 refl (rw table-numbers refl)
-  not-first _ six = other 6 refl (rw table-numbers refl)
-  not-first _ eleven = other 11 refl (rw table-numbers refl)
-  not-first _ listless = other 32 refl (rw table-numbers refl)
+  not-first _ three = other 3 refl (rw around-table-numbers refl)
+  not-first _ four = other 4 refl (rw around-table-numbers refl)
+  not-first _ five = other 5 refl (rw around-table-numbers refl)
+  not-first _ six = other 6 refl (rw around-table-numbers refl)
+  not-first _ eleven = other 11 refl (rw around-table-numbers refl)
+  not-first _ listless = other 32 refl (rw around-table-numbers refl)
 
   -- 3 to 6, 11 and 32 are never given
   pub around-never : (n : ℕ) → NeverGiven n → enhancedSays (c .answer) ≢ refused n
@@ -116,7 +116,7 @@ module _ {c : AroundCall} (ran : Arounds c) where
   around-thirty-nine none bad =
       around-says
       ∙ ap (λ n. says n (aroundFoot (c .width) (c .height) (c .side) (c .settings)))
-      (sym (table-region (c .width) (c .height) (c .pixels) (c .side) (c .settings) (length (c .scratch)) (length (c .target)) (sym none) refl (bad-side (c .side) bad) (λ z. omega arith)))
+      (sym (around-table-region (c .width) (c .height) (c .pixels) (c .side) (c .settings) (length (c .scratch)) (length (c .target)) (sym none) refl (bad-side (c .side) bad) (λ z. omega arith)))
 
   -- "17 for the target as in order 12": where its length is not width x height, and none of 1, 2, 39, 7 to 9, 31, 10 and 12 applies
   pub around-seventeen : (length (c .target) ≡ c .width * c .height → ⊥)
@@ -134,7 +134,7 @@ module _ {c : AroundCall} (ran : Arounds c) where
   pub around-refusal-keeps : (n : ℕ) → enhancedSays (c .answer) ≡ refused n → (c .target′ ≡ c .target) × (c .scratch′ ≡ c .scratch)
   around-refusal-keeps n q =
       let k = around-ends ran ∙ table-kept (around-table _ _ _ _ _ _ _) (sym said ∙ q) in
-      (ap (λ (y : Painted). y .target) k, ap (λ (y : Painted). y .scratch) k)
+      (ap (λ (y : PaintOut). y .target) k, ap (λ (y : PaintOut). y .scratch) k)
 
   module _ {foot : Footer} (done : enhancedSays (c .answer) ≡ accepted foot) where
     -- no row applies
@@ -145,24 +145,24 @@ module _ {c : AroundCall} (ran : Arounds c) where
     pub around-side : SideFits (c .side)
     around-side = let k = around-known in record { odd = omega (arith, k .odd); least = k .least; most = k .film .few }
 
-    left : _≡_ {A = Painted} (painting (c .answer) (c .target′) (c .scratch′)) (aroundedOf (c .width) (c .height) (c .pixels) (c .side) (c .settings) (c .scratch))
+    left : _≡_ {A = PaintOut} (paintLeaves (c .answer) (c .target′) (c .scratch′)) (aroundedOf (c .width) (c .height) (c .pixels) (c .side) (c .settings) (c .scratch))
     left = around-ends ran ∙ table-done (around-table _ _ _ _ _ _ _) (sym said ∙ done)
 
     -- "factor 1.0 copies the film and leaves scratch"
     pub around-as-film : clipOne (c .settings .clip) ≡ true → (c .target′ ≡ c .pixels) × (c .scratch′ ≡ c .scratch)
     unfolding aroundedOf
     around-as-film one =
-        (ap (λ (y : Painted). y .target) left ∙ rw one refl, ap (λ (y : Painted). y .scratch) left ∙ rw one refl)
+        (ap (λ (y : PaintOut). y .target) left ∙ rw one refl, ap (λ (y : PaintOut). y .scratch) left ∙ rw one refl)
 
     -- "Scratch is .. zero afterwards": twice the bins; what lies behind stays
     pub around-scratch : clipOne (c .settings .clip) ≡ false → c .scratch′ ≡ filled (λ k. 0) (c .scratch) (2 * binsOf (c .settings))
     unfolding aroundedOf
-    around-scratch one = ap (λ (y : Painted). y .scratch) left ∙ rw one refl
+    around-scratch one = ap (λ (y : PaintOut). y .scratch) left ∙ rw one refl
 
     -- the whole target
     pub around-film : clipOne (c .settings .clip) ≡ false → c .target′ ≡ aroundFilm (c .width) (c .height) (c .pixels) (c .side) (c .settings)
     unfolding aroundedOf
-    around-film one = ap (λ (y : Painted). y .target) left ∙ rw one refl
+    around-film one = ap (λ (y : PaintOut). y .target) left ∙ rw one refl
 
     -- each pixel by the rule: "The grey is the mapping of the pixel's own bin"
     pub around-by-rule : clipOne (c .settings .clip) ≡ false → (i j : ℕ) → i < c .width → j < c .height
@@ -220,8 +220,8 @@ around-any-grid {c} {d} x y same =
     ∙ ap (λ (g : ℕ × ℕ × List ℕ × ℕ × Settings × List ℕ × List ℕ). aroundOf (g .0) (g .1) (g .2) (g .3) (g .4) (g .5) (g .6)) same
     ∙ around-gridless (d .width) (d .height) (d .pixels) (d .side) (d .settings) (d .target) (d .scratch)
     ∙ sym (around-ends y) in
-    (ap (λ (z : Painted). z .answer) k, ap (λ (z : Painted). z .target) k, ap (λ (z : Painted). z .scratch) k)
+    (ap (λ (z : PaintOut). z .answer) k, ap (λ (z : PaintOut). z .target) k, ap (λ (z : PaintOut). z .scratch) k)
 
 -- "any two outcomes it allows are equal"
-pub around-determined : {c d : AroundCall} → Arounds c → Arounds d → around-given c ≡ around-given d → (c .answer ≡ d .answer) × (c .target′ ≡ d .target′) × (c .scratch′ ≡ d .scratch′)
+pub around-determined : {c d : AroundCall} → Arounds c → Arounds d → around-arguments c ≡ around-arguments d → (c .answer ≡ d .answer) × (c .target′ ≡ d .target′) × (c .scratch′ ≡ d .scratch′)
 around-determined x y same = around-any-grid x y (ap (λ (g : ℕ × ℕ × List ℕ × ℕ × Settings × List ℕ × List ℕ). (g .0, g .1, g .2, g .3, gridless (g .4), g .5, g .6)) same)

@@ -20,10 +20,10 @@ use Rattle.tally.specs.Tally.{greysOf}
 use Rattle.tile.proofs.Tiles.{getD-tile-mapping}
 use Rattle.settings.specs.declared.Footer.{Footer}
 use Rattle.settings.specs.Settings.{binsOf, clipBad}
-use Rattle.tiles.proofs.Films as films
+use Rattle.tiles.proofs.Films.{clip-holds}
 use Rattle.prepare.specs.Prepare.{enhancedSays}
 use Rattle.slide.specs.Slide.{regionRect}
-use Rattle.around.specs.Around.{regionPixels, regionMapping, FilmAsks}
+use Rattle.around.specs.Around.{regionPixels, regionMapping, AroundReady}
 use Rattle.around.proofs.Pixels.{film-inside, film-greys, bin-small}
 use Rattle.around.proofs.Like.{around-grey}
 use Rattle.promises.specs.Films.{ClippingOn, ClipCase, clip-off, clip-one, clip-on, LimitFits}
@@ -49,7 +49,7 @@ around-clip {c} ran done = go (c .settings .clip) refl
 
 module _ {c : AroundCall} {foot : Footer} (ran : Arounds c) (done : enhancedSays (c .answer) ≡ accepted foot) {f : Float} (on : ClippingOn (c .settings .clip) f) (i j : ℕ) (l : i < c .width)
     (k : j < c .height) where
-  film : FilmAsks (c .width) (c .height) (c .pixels) (c .side) (c .settings)
+  film : AroundReady (c .width) (c .height) (c .pixels) (c .side) (c .settings)
   film = around-known ran done .film
 
   -- a region is a rectangle of which demand 3 can be asked
@@ -60,7 +60,7 @@ module _ {c : AroundCall} {foot : Footer} (ran : Arounds c) (done : enhancedSays
         bins = omega (arith, film .scale .some);
         order = film .scale .order;
         greys = film-greys film l k;
-        holds = films.holds (c .settings .clip) _ (binsOf (c .settings)) (film .fair) (omega (arith, film .scale .some));
+        holds = clip-holds (c .settings .clip) _ (binsOf (c .settings)) (film .fair) (omega (arith, film .scale .some));
       }
 
   own-bin : ownBin (c .width) (c .pixels) (c .settings) i j < binsOf (c .settings)

@@ -7,7 +7,7 @@ use denote.Ref.{now}
 use Rattle.refuse.specs.Run.{Run, Ran}
 use Rattle.settings.specs.declared.Settings.{Settings}
 use Rattle.prepare.specs.declared.Enhanced.{Enhanced}
-use Rattle.prepare.specs.Prepare.{painting}
+use Rattle.prepare.specs.Prepare.{paintLeaves}
 use Rattle.around.specs.Around.{aroundOf}
 use Rattle.around.proofs.around.Kinds as around
 use Rattle.around.proofs.around.Reads as around-reads
@@ -32,8 +32,8 @@ around-values run =
     record { width = width; height = height; pixels = now pixels; side = side; settings = settings; target = now target; scratch = now scratch; answer = run .answer; target′ = now target′; scratch′ = now scratch′ }
 
 -- what it is handed
-abbrev pub around-given : AroundCall → ℕ × ℕ × List ℕ × ℕ × Settings × List ℕ × List ℕ
-around-given c = (c .width, c .height, c .pixels, c .side, c .settings, c .target, c .scratch)
+abbrev pub around-arguments : AroundCall → ℕ × ℕ × List ℕ × ℕ × Settings × List ℕ × List ℕ
+around-arguments c = (c .width, c .height, c .pixels, c .side, c .settings, c .target, c .scratch)
 
 -- what it reads of that: of the settings no grid, and "bins 0 kept as 128"
 abbrev pub around-read : AroundCall → ℕ × ℕ × List ℕ × ℕ × Settings × List ℕ × List ℕ
@@ -44,5 +44,5 @@ abbrev pub Arounds : AroundCall → Type 0
 Arounds = Ran around-values
 
 pub around-ends : {c : AroundCall} → Arounds c
-    → painting (c .answer) (c .target′) (c .scratch′) ≡ aroundOf (c .width) (c .height) (c .pixels) (c .side) (c .settings) (c .target) (c .scratch)
+    → paintLeaves (c .answer) (c .target′) (c .scratch′) ≡ aroundOf (c .width) (c .height) (c .pixels) (c .side) (c .settings) (c .target) (c .scratch)
 around-ends ran = rw (ran .named) (ran .run .allowed)

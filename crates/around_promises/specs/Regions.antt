@@ -37,7 +37,7 @@ pub record SideFits (side : ℕ) : Type 0 where
   pub most : side ≤ 63
 
 -- "17 for the target as in order 12", "after 12": where the target has another length, 1, 2, 39, 7 to 9, 31, 10 and 12, and 17 else
-abbrev pub otherRows : ℕ → ℕ → List ℕ → ℕ → Settings → ℕ → List Row
+abbrev pub otherRows : (w h : ℕ) (pic : List ℕ) (side : ℕ) (s : Settings) (scratch : ℕ) → List Row
 otherRows w h pic side s scratch = sizeRows w h (length pic) ++ (regionRows side ++ (greyRows s ++ (scratchRow scratch (2 * binsOf s) ∷ row 17 true ∷ [])))
 
 -- the settings that around reads: bins 0 as 128, and no grid
@@ -45,7 +45,7 @@ abbrev pub gridless : Settings → Settings
 gridless s = record { across = 0; down = 0; bins = binsOf s; min = s .min; max = s .max; clip = s .clip; edition = s .edition }
 
 -- what is shown of a pixel: "The grey is the mapping of the pixel's own bin", "factor 1.0 copies the film"
-unfoldable pub shownAround : ℕ → ℕ → List ℕ → ℕ → Settings → ℕ → ℕ → ℕ
+unfoldable pub shownAround : (w h : ℕ) (pic : List ℕ) (side : ℕ) (s : Settings) (x y : ℕ) → ℕ
 shownAround w h pic side s x y = cond (clipOne (s .clip)) (getD pic (y * w + x) 0) (aroundGrey w h pic side s x y)
 
 -- "the region centred on the pixel and cut off at the film's border": the pixel in column u and row v is one of the film's, and at most half a side away from the one in column x and row y
@@ -58,19 +58,19 @@ pub record Near (w h side x y u v : ℕ) : Type 0 where
   pub below : v ≤ y + side / 2
 
 -- the raw counts of the region around a pixel
-abbrev pub regionRaw : ℕ → ℕ → List ℕ → ℕ → Settings → ℕ → ℕ → List ℕ
+abbrev pub regionRaw : (w h : ℕ) (pic : List ℕ) (side : ℕ) (s : Settings) (x y : ℕ) → List ℕ
 regionRaw w h pic side s x y = countsOf (s .min) (s .max) (binsOf s) (greysOf pic w (regionRect w h side x y))
 
 -- its clipped counts, the raw ones where the clip is off
-abbrev pub regionCounts : ℕ → ℕ → List ℕ → ℕ → Settings → ℕ → ℕ → List ℕ
+abbrev pub regionCounts : (w h : ℕ) (pic : List ℕ) (side : ℕ) (s : Settings) (x y : ℕ) → List ℕ
 regionCounts w h pic side s x y = tileCounts (s .min) (s .max) (binsOf s) (s .edition) (s .clip) (greysOf pic w (regionRect w h side x y))
 
 -- its limit with the factor f: L of this region's own N
-abbrev pub regionLimit : ℕ → ℕ → ℕ → Settings → Float → ℕ → ℕ → ℕ
+abbrev pub regionLimit : (w h side : ℕ) (s : Settings) (f : Float) (x y : ℕ) → ℕ
 regionLimit w h side s f x y = limitOf f (regionPixels w h side x y) (binsOf s)
 
 -- "the pixel's own bin"
-abbrev pub ownBin : ℕ → List ℕ → Settings → ℕ → ℕ → ℕ
+abbrev pub ownBin : (w : ℕ) (pic : List ℕ) (s : Settings) (x y : ℕ) → ℕ
 ownBin w pic s x y = binOf (s .min) (s .max) (binsOf s) (getD pic (y * w + x) 0)
 
 -- "demand 3's .. facts for every region": of the mapping by which this pixel is shown, as v
@@ -98,7 +98,7 @@ abbrev pub MarginBefore : ℕ → ℕ → ℕ → Type 0
 MarginBefore side from x = (from ≡ 0) ⊎ (side / 2 ≤ x)
 
 -- and behind it there is half a side, or the part ends at the film's border
-abbrev pub MarginBehind : ℕ → ℕ → ℕ → ℕ → ℕ → Type 0
+abbrev pub MarginBehind : (side most from part x : ℕ) → Type 0
 MarginBehind side most from part x = (from + part ≡ most) ⊎ (x + side / 2 < part)
 
 -- a column (or row) of the part, which begins at `from` of the film's `most` and has `part` of them, with its margin on both sides

@@ -12,7 +12,7 @@ use native.Mathlib.Omega.{arith}
 use Rattle.grid.specs.Grid.{edgeOf, sizeOf, centreOf, Fits}
 use Rattle.grid.proofs.Edges.{edge-first, edge-last, size-ends, size-some, size-most, centre-least, centre-most, centre-rises, centre-apart, tile-in, tile-starts, tile-ends}
 use Rattle.blend.specs.declared.Place.{Place}
-use Rattle.blend.specs.Blend.{alone, between, reachedOf, placed, placeOf, Sound, moved, Run, lengthOf}
+use Rattle.blend.specs.Blend.{alone, between, reachedOf, placed, placeOf, Sound, moved, SameTiles, lengthOf}
 
 -- ---- the three places
 
@@ -145,7 +145,7 @@ module _ {side grid : ℕ} (fits : Fits side grid) where
 
 module _ {side grid : ℕ} (fits : Fits side grid) {x : ℕ} (h : x < side) {p : Place} (e : p ≡ placeOf side grid x) where
   -- the run between two tiles, to the next centre
-  pub run-two : p .lower < p .upper → Run side grid x p (p .lowerweight)
+  pub run-two : p .lower < p .upper → SameTiles side grid x p (p .lowerweight)
   run-two l =
       by-cases fits h e
       record {
@@ -168,7 +168,7 @@ module _ {side grid : ℕ} (fits : Fits side grid) {x : ℕ} (h : x < side) {p :
           place-between fits (x + j) k n (omega arith) r ∙ rw (low, up) refl
 
   -- one tile used alone for n columns
-  run-one : {n : ℕ} (k : ℕ) → p ≡ alone side grid k → 0 < n → n ≤ sizeOf side grid k → ((j : ℕ) → j < n → placeOf side grid (x + j) ≡ alone side grid k) → Run side grid x p n
+  run-one : {n : ℕ} (k : ℕ) → p ≡ alone side grid k → 0 < n → n ≤ sizeOf side grid k → ((j : ℕ) → j < n → placeOf side grid (x + j) ≡ alone side grid k) → SameTiles side grid x p n
   run-one k q s m f =
       record {
         some = s;
@@ -178,7 +178,7 @@ module _ {side grid : ℕ} (fits : Fits side grid) {x : ℕ} (h : x < side) {p :
       }
 
   -- the run of the last tile, to the film's edge
-  pub run-last : p .upper ≤ p .lower → p .lower + 1 ≡ grid → Run side grid x p (side - x)
+  pub run-last : p .upper ≤ p .lower → p .lower + 1 ≡ grid → SameTiles side grid x p (side - x)
   run-last l g =
       by-cases fits h e
       record {
@@ -190,7 +190,7 @@ module _ {side grid : ℕ} (fits : Fits side grid) {x : ℕ} (h : x < side) {p :
       }
 
   -- the run of the first tile, to its centre
-  pub run-first : p .upper ≤ p .lower → p .lower + 1 ≢ grid → (x < centreOf side grid 0) × Run side grid x p (centreOf side grid 0 - x)
+  pub run-first : p .upper ≤ p .lower → p .lower + 1 ≢ grid → (x < centreOf side grid 0) × SameTiles side grid x p (centreOf side grid 0 - x)
   run-first l g =
       by-cases fits h e
       record {
@@ -203,7 +203,7 @@ module _ {side grid : ℕ} (fits : Fits side grid) {x : ℕ} (h : x < side) {p :
       }
 
 -- a run's first columns are a run
-pub run-shorter : {side grid x n k : ℕ} {p : Place} → Run side grid x p n → 0 < k → k ≤ n → Run side grid x p k
+pub run-shorter : {side grid x n k : ℕ} {p : Place} → SameTiles side grid x p n → 0 < k → k ≤ n → SameTiles side grid x p k
 run-shorter run s l =
     record {
       some = s;
@@ -213,7 +213,7 @@ run-shorter run s l =
     }
 
 -- what is worked out of the moved weights of a run is worked out of each column's own place, if one tile alone gives the same wherever its weights are moved to
-pub run-place : {R : Type 0} (f : Place → R) {side grid x n : ℕ} {p : Place} → Run side grid x p n → (j : ℕ) → j < n → (p .upper ≡ p .lower → f (moved p j) ≡ f p)
+pub run-place : {R : Type 0} (f : Place → R) {side grid x n : ℕ} {p : Place} → SameTiles side grid x p n → (j : ℕ) → j < n → (p .upper ≡ p .lower → f (moved p j) ≡ f p)
     → f (moved p j) ≡ f (placeOf side grid (x + j))
 run-place f {side} {grid} {x} {n} {p} run j l same = tiles (ltb (p .lower) (p .upper)) refl
   where

@@ -14,7 +14,7 @@ alone side grid k =
     record { lower = k; upper = k; lowerweight = sizeOf side grid k; upperweight = 0; span = sizeOf side grid k }
 
 -- "a column between two centres weighs each of the two tiles by its distance from the other's centre, over the distance between the centres"
-abbrev pub between : ℕ → ℕ → ℕ → ℕ → Place
+abbrev pub between : (side grid x k : ℕ) → Place
 between side grid x k =
     record {
       lower = k;
@@ -25,12 +25,12 @@ between side grid x k =
     }
 
 -- of the first n tiles: one more than the last whose centre x has reached, 0 for none
-unfoldable pub reachedOf : ℕ → ℕ → ℕ → ℕ → ℕ
+unfoldable pub reachedOf : (side grid n x : ℕ) → ℕ
 reachedOf side grid zero x = 0
 reachedOf side grid (suc n) x = cond (leb (centreOf side grid n) x) (suc n) (reachedOf side grid n x)
 
 -- a column that has reached n centres: "one outside the first or last centre uses that tile alone"
-abbrev pub placed : ℕ → ℕ → ℕ → ℕ → Place
+abbrev pub placed : (side grid x reached : ℕ) → Place
 placed side grid x zero = alone side grid 0
 placed side grid x (suc k) = cond (eqb (suc k) grid) (alone side grid k) (between side grid x k)
 
@@ -39,13 +39,13 @@ unfoldable pub placeOf : ℕ → ℕ → ℕ → Place
 placeOf side grid x = placed side grid x (reachedOf side grid grid x)
 
 -- "(th - p)((tw - o)A + oB') + p((tw - o)C + oD)", by the weights of the two places, a b c d the mapped values upper left, upper right, lower left, lower right
-abbrev pub weighedOf : Place → Place → ℕ → ℕ → ℕ → ℕ → ℕ
+abbrev pub weighedOf : (column row : Place) (a b c d : ℕ) → ℕ
 weighedOf column row a b c d =
     row .lowerweight * (column .lowerweight * a + column .upperweight * b)
     + row .upperweight * (column .lowerweight * c + column .upperweight * d)
 
 -- "floor(.. / (tw x th))" of that, the spans in the place of tw and th
-unfoldable pub greyOf : Place → Place → ℕ → ℕ → ℕ → ℕ → ℕ
+unfoldable pub greyOf : (column row : Place) (a b c d : ℕ) → ℕ
 greyOf column row a b c d = weighedOf column row a b c d / (column .span * row .span)
 
 -- two values, each by its weight
@@ -78,13 +78,13 @@ abbrev pub moved : Place → ℕ → Place
 moved p j = record { lower = p .lower; upper = p .upper; lowerweight = p .lowerweight - j; upperweight = p .upperweight + j; span = p .span }
 
 -- n columns from x on have the tiles of x: between two tiles the weights move along, and a tile used alone stays alone
-pub record Run (side grid x : ℕ) (p : Place) (n : ℕ) : Type 0 where
+pub record SameTiles (side grid x : ℕ) (p : Place) (n : ℕ) : Type 0 where
   pub some : 0 < n
   pub most : n ≤ p .lowerweight
   pub two : p .lower < p .upper → (j : ℕ) → j < n → placeOf side grid (x + j) ≡ moved p j
   pub one : p .upper ≤ p .lower → (p .upper ≡ p .lower) × ((j : ℕ) → j < n → placeOf side grid (x + j) ≡ p)
 
 -- how many columns that is: as far as the lower weight goes, and of a tile used alone to the film's end or to the first centre
-unfoldable pub lengthOf : ℕ → ℕ → ℕ → Place → ℕ
+unfoldable pub lengthOf : (side grid x : ℕ) (p : Place) → ℕ
 lengthOf side grid x p =
     cond (ltb (p .lower) (p .upper)) (p .lowerweight) (cond (eqb (p .lower + 1) grid) (side - x) (centreOf side grid 0 - x))

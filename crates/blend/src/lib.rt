@@ -2,7 +2,7 @@
 ghost use mathlib.Core.Path.{_≡_};
 ghost use Prim.Native.Nat.{_+_, _*_, _/_, _≤_, _<_};
 ghost use Rattle.grid.specs.Grid.{centreOf, Fits};
-ghost use Rattle.blend.specs.Blend.{alone, between, placeOf, weighedOf, greyOf, pairOf, sidesOf, Sound, inverseOf, Inverse, Run, lengthOf};
+ghost use Rattle.blend.specs.Blend.{alone, between, placeOf, weighedOf, greyOf, pairOf, sidesOf, Sound, inverseOf, Inverse, SameTiles, lengthOf};
 
 // A column's or a row's place: the tiles below and above it, the weight of each, and the span that the weights add up to.
 pub struct Place {
@@ -65,7 +65,7 @@ pub fn locate(side: u32, grid: u32, x: u32) -> Place
 // How many columns (or rows) from x on lie between the tiles of x, whose place this is: 1 at least, and no more than the lower weight.
 pub fn run(place: Place, side: u32, grid: u32, x: u32) -> u32
     requires { ⌜ Fits side grid × (x < side) × (place ≡ placeOf side grid x) ⌝ }
-    ensures { λ r. ⌜ (r ≡ lengthOf side grid x place) × Run side grid x place r ⌝ }
+    ensures { λ r. ⌜ (r ≡ lengthOf side grid x place) × SameTiles side grid x place r ⌝ }
 {
     if place.lower < place.upper {
         return place.lowerweight;

@@ -16,10 +16,10 @@ use Rattle.settings.specs.declared.Window.{Window}
 use Rattle.settings.specs.Settings.{entriesOf, clipOne}
 use Rattle.render.specs.Render.{renderOf, rectOf}
 use Rattle.draw.specs.declared.Drawn.the-variants.{Done, Refused}
-use Rattle.draw.specs.Draw.{drawnPixels, showing}
+use Rattle.draw.specs.Draw.{drawnPixels, drawLeaves}
 use Rattle.draw.proofs.Works.{render-asks}
 use Rattle.draw.proofs.Like.{drawn-pixels}
-use Rattle.byte_render.specs.Bytes.{FromAsks}
+use Rattle.byte_render.specs.Bytes.{RenderFromAsks}
 use Rattle.profile.specs.Profile.{Profile}
 use Rattle.byte_draw.specs.Bytes.{byteDrawRows, byteDrawOf, ByteWindowReady}
 
@@ -29,7 +29,7 @@ entries-most known = mul-le-mul (mul-le-mul (le-of-eq (known .across)) (le-of-eq
 
 -- what the rendering of the copied bytes asks
 pub from-asks : {w h : ℕ} {pic : List ℕ} {s : Settings} {win : Window} {m out : List ℕ} {room : ℕ} → ByteWindowReady w h pic s win m room → out ≡ greysOf pic w (rectOf win)
-    → clipOne (s .clip) ≡ false → FromAsks w h s m win out
+    → clipOne (s .clip) ≡ false → RenderFromAsks w h s m win out
 from-asks ready e one =
     let (mapped, shown) = render-asks (ready .shown) e one in
     record {
@@ -66,13 +66,13 @@ module _ (w h : ℕ) (pic : List ℕ) (s : Settings) (win : Window) (m : List �
 -- ---- the returns of draw
 
 module _ (film w h : ℕ) (pic : List ℕ) (s : Settings) (r : MapRecord) (win : Window) (m out : List ℕ) where
-  pub ends-refused : {x : ℕ} → x ≡ first (byteDrawRows film w h pic s r win m (length out)) → (x ≡ 0 → ⊥) → showing (Refused x) out ≡ byteDrawOf film w h pic s r win m out
+  pub byte-draw-ends-refused : {x : ℕ} → x ≡ first (byteDrawRows film w h pic s r win m (length out)) → (x ≡ 0 → ⊥) → drawLeaves (Refused x) out ≡ byteDrawOf film w h pic s r win m out
   unfolding byteDrawOf
-  ends-refused {x} e z =
-      unless-refused x (λ n. showing (Refused n) out) (showing Done (drawnPixels w h pic s win m)) z
-      ∙ ap (λ k. unless k (λ n. showing (Refused n) out) (showing Done (drawnPixels w h pic s win m))) e
+  byte-draw-ends-refused {x} e z =
+      unless-refused x (λ n. drawLeaves (Refused n) out) (drawLeaves Done (drawnPixels w h pic s win m)) z
+      ∙ ap (λ k. unless k (λ n. drawLeaves (Refused n) out) (drawLeaves Done (drawnPixels w h pic s win m))) e
 
-  pub ends-well : {x : ℕ} {end : List ℕ} → x ≡ first (byteDrawRows film w h pic s r win m (length out)) → x ≡ 0 → end ≡ drawnPixels w h pic s win m
-      → showing Done end ≡ byteDrawOf film w h pic s r win m out
+  pub byte-draw-ends-well : {x : ℕ} {end : List ℕ} → x ≡ first (byteDrawRows film w h pic s r win m (length out)) → x ≡ 0 → end ≡ drawnPixels w h pic s win m
+      → drawLeaves Done end ≡ byteDrawOf film w h pic s r win m out
   unfolding byteDrawOf
-  ends-well e z q = ap (showing Done) q ∙ ap (λ k. unless k (λ n. showing (Refused n) out) (showing Done (drawnPixels w h pic s win m))) (sym z ∙ e)
+  byte-draw-ends-well e z q = ap (drawLeaves Done) q ∙ ap (λ k. unless k (λ n. drawLeaves (Refused n) out) (drawLeaves Done (drawnPixels w h pic s win m))) (sym z ∙ e)

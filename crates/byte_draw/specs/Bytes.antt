@@ -10,18 +10,18 @@ use Rattle.settings.specs.declared.MapRecord.{MapRecord}
 use Rattle.settings.specs.declared.Window.{Window}
 use Rattle.draw.specs.declared.Drawn.the-variants.{Done, Refused}
 use Rattle.held.specs.Held.{recordRows, windowRows}
-use Rattle.draw.specs.Draw.{pixelRows, drawnPixels, Shows, showing, WindowReady}
+use Rattle.draw.specs.Draw.{pixelRows, drawnPixels, DrawOut, drawLeaves, WindowReady}
 use Rattle.profile.specs.Profile.{byteRows, Profile}
 
 -- 1 to 10 with 31 after 9, "30 for a setting outside the profile, after 10", then 11 and on as in the wide call
-unfoldable pub byteDrawRows : ℕ → ℕ → ℕ → List ℕ → Settings → MapRecord → Window → List ℕ → ℕ → List Row
+unfoldable pub byteDrawRows : (film w h : ℕ) (pic : List ℕ) (s : Settings) (r : MapRecord) (win : Window) (m : List ℕ) (room : ℕ) → List Row
 byteDrawRows film w h pic s r win m room =
     byteRows w h (length pic) s (length m) ++ (recordRows film w h s r ++ (windowRows w h win room ++ pixelRows w pic s win m))
 
 -- draw on bytes: a refusal leaves the output as it was; else what draw does
-unfoldable pub byteDrawOf : ℕ → ℕ → ℕ → List ℕ → Settings → MapRecord → Window → List ℕ → List ℕ → Shows
+unfoldable pub byteDrawOf : (film w h : ℕ) (pic : List ℕ) (s : Settings) (r : MapRecord) (win : Window) (m out : List ℕ) → DrawOut
 byteDrawOf film w h pic s r win m out =
-    unless (first (byteDrawRows film w h pic s r win m (length out))) (λ n. showing (Refused n) out) (showing Done (drawnPixels w h pic s win m))
+    unless (first (byteDrawRows film w h pic s r win m (length out))) (λ n. drawLeaves (Refused n) out) (drawLeaves Done (drawnPixels w h pic s win m))
 
 -- what the work of draw asks: what the wide call's work asks, and settings inside the profile
 pub record ByteWindowReady (w h : ℕ) (pic : List ℕ) (s : Settings) (win : Window) (m : List ℕ) (room : ℕ) : Type 0 where

@@ -4,7 +4,7 @@ ghost use mathlib.Core.Path.{_≡_};
 ghost use lib.ListN.{length};
 ghost use Rattle.lists.specs.Lists.{all};
 ghost use Rattle.refuse.specs.Refuse.{first};
-ghost use Rattle.draw.specs.Draw.{drawnPixels, showing};
+ghost use Rattle.draw.specs.Draw.{drawnPixels, drawLeaves};
 ghost use Rattle.narrow.specs.Narrow.{isByte};
 ghost use Rattle.byte_draw.specs.Bytes.{byteDrawRows, byteDrawOf, ByteWindowReady};
 use draw::Drawn;
@@ -71,7 +71,7 @@ pub fn draw_bytes(
     map: &[u8],
     out: &mut [u8],
 ) -> Drawn
-    ensures { λ r. ⌜ (showing r (now (out .exit)) ≡ byteDrawOf film width height (now (picture .entry)) s «record» win (now (map .entry)) (now (out .entry))) × (all isByte (now (picture .entry)) ≡ true) × (all isByte (now (map .entry)) ≡ true) ⌝ }
+    ensures { λ r. ⌜ (drawLeaves r (now (out .exit)) ≡ byteDrawOf film width height (now (picture .entry)) s «record» win (now (map .entry)) (now (out .entry))) × (all isByte (now (picture .entry)) ≡ true) × (all isByte (now (map .entry)) ≡ true) ⌝ }
 {
     let refused = refusal(film, width, height, picture, s, record, win, map, out.len());
     if refused != 0 {

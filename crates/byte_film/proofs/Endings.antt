@@ -11,7 +11,7 @@ use Rattle.settings.specs.declared.Settings.{Settings}
 use Rattle.profile.specs.Profile.{profileRows}
 use Rattle.prepare.specs.declared.Prepared.{Prepared}
 use Rattle.prepare.specs.declared.Enhanced.the-variants as Enhanced
-use Rattle.prepare.specs.Prepare.{preparedNot, prepareRows, enhanceRows, Ended, ending, preparedOf, prepareOf, Over, overing, enhancedOf, enhanceOf}
+use Rattle.prepare.specs.Prepare.{preparedNot, prepareRows, enhanceRows, PrepareOut, prepareLeaves, preparedOf, prepareOf, EnhanceOut, enhanceLeaves, enhancedOf, enhanceOf}
 use Rattle.prepare.proofs.Endings.{ends-refused, ends-done}
 use Rattle.prepare.proofs.Renders.{over-refused, over-done}
 use Rattle.byte_film.specs.Bytes.{bytePrepareRows, byteEnhanceRows, bytePrepareOf, byteEnhanceOf}
@@ -22,24 +22,24 @@ use Rattle.byte_film.proofs.Tables.{rows-inside, enhance-rows-inside, w
 module _ (film w h : ℕ) (pic : List ℕ) (s : Settings) (m t n : List ℕ) where
   -- a refusal, as it was worked out
   pub bytes-refused : {r : ℕ} → r ≡ first (bytePrepareRows w h pic s (length m) (length t) (length n)) → (r ≡ 0 → ⊥)
-      → ending (preparedNot r) m t n ≡ bytePrepareOf film w h pic s m t n
+      → prepareLeaves (preparedNot r) m t n ≡ bytePrepareOf film w h pic s m t n
   unfolding bytePrepareOf
   bytes-refused {r} e z =
-      unless-refused r (λ k. ending (preparedNot k) m t n) (preparedOf film w h pic s m t n) z
-      ∙ ap (λ i. unless i (λ k. ending (preparedNot k) m t n) (preparedOf film w h pic s m t n)) e
+      unless-refused r (λ k. prepareLeaves (preparedNot k) m t n) (preparedOf film w h pic s m t n) z
+      ∙ ap (λ i. unless i (λ k. prepareLeaves (preparedNot k) m t n) (preparedOf film w h pic s m t n)) e
 
   -- the same of the answer that `not_prepared` gives
   pub bytes-not : {r : ℕ} {p : Prepared} → r ≡ first (bytePrepareRows w h pic s (length m) (length t) (length n)) → (r ≡ 0 → ⊥) → p ≡ preparedNot r
-      → ending p m t n ≡ bytePrepareOf film w h pic s m t n
-  bytes-not e z q = ap (λ p. ending p m t n) q ∙ bytes-refused e z
+      → prepareLeaves p m t n ≡ bytePrepareOf film w h pic s m t n
+  bytes-not e z q = ap (λ p. prepareLeaves p m t n) q ∙ bytes-refused e z
 
   -- no refusal
   bytes-done : {r : ℕ} → r ≡ first (bytePrepareRows w h pic s (length m) (length t) (length n)) → r ≡ 0 → preparedOf film w h pic s m t n ≡ bytePrepareOf film w h pic s m t n
   unfolding bytePrepareOf
-  bytes-done {r} e z = ap (λ i. unless i (λ k. ending (preparedNot k) m t n) (preparedOf film w h pic s m t n)) (sym z ∙ e)
+  bytes-done {r} e z = ap (λ i. unless i (λ k. prepareLeaves (preparedNot k) m t n) (preparedOf film w h pic s m t n)) (sym z ∙ e)
 
   -- what the wide call leaves then is what the byte call leaves
-  pub bytes-well : {r : ℕ} {x : Ended} → r ≡ first (bytePrepareRows w h pic s (length m) (length t) (length n)) → r ≡ 0
+  pub bytes-well : {r : ℕ} {x : PrepareOut} → r ≡ first (bytePrepareRows w h pic s (length m) (length t) (length n)) → r ≡ 0
       → (r ≡ first (prepareRows w h pic s (length m) (length t) (length n)) → x ≡ prepareOf film w h pic s m t n) → x ≡ bytePrepareOf film w h pic s m t n
   bytes-well e z so =
       let wide = wide-rows w h pic s (length m) (length t) (length n) e z in
@@ -61,19 +61,19 @@ module _ (film w h : ℕ) (pic : List ℕ) (s : Settings) (m t n : List ℕ) whe
 module _ (w h : ℕ) (pic : List ℕ) (s : Settings) (m t : List ℕ) where
   -- a refusal, as it was worked out
   pub film-refused : {r : ℕ} → r ≡ first (byteEnhanceRows w h pic s (length m) (length t)) → (r ≡ 0 → ⊥)
-      → overing (Enhanced.Refused r) pic m t ≡ byteEnhanceOf w h pic s m t
+      → enhanceLeaves (Enhanced.Refused r) pic m t ≡ byteEnhanceOf w h pic s m t
   unfolding byteEnhanceOf
   film-refused {r} e z =
-      unless-refused r (λ n. overing (Enhanced.Refused n) pic m t) (enhancedOf w h pic s m t) z
-      ∙ ap (λ k. unless k (λ n. overing (Enhanced.Refused n) pic m t) (enhancedOf w h pic s m t)) e
+      unless-refused r (λ n. enhanceLeaves (Enhanced.Refused n) pic m t) (enhancedOf w h pic s m t) z
+      ∙ ap (λ k. unless k (λ n. enhanceLeaves (Enhanced.Refused n) pic m t) (enhancedOf w h pic s m t)) e
 
   -- no refusal
   film-done : {r : ℕ} → r ≡ first (byteEnhanceRows w h pic s (length m) (length t)) → r ≡ 0 → enhancedOf w h pic s m t ≡ byteEnhanceOf w h pic s m t
   unfolding byteEnhanceOf
-  film-done {r} e z = ap (λ k. unless k (λ n. overing (Enhanced.Refused n) pic m t) (enhancedOf w h pic s m t)) (sym z ∙ e)
+  film-done {r} e z = ap (λ k. unless k (λ n. enhanceLeaves (Enhanced.Refused n) pic m t) (enhancedOf w h pic s m t)) (sym z ∙ e)
 
   -- what the wide call leaves then is what the byte call leaves
-  pub film-well : {r : ℕ} {x : Over} → r ≡ first (byteEnhanceRows w h pic s (length m) (length t)) → r ≡ 0
+  pub film-well : {r : ℕ} {x : EnhanceOut} → r ≡ first (byteEnhanceRows w h pic s (length m) (length t)) → r ≡ 0
       → (r ≡ first (enhanceRows w h pic s (length m) (length t)) → x ≡ enhanceOf w h pic s m t) → x ≡ byteEnhanceOf w h pic s m t
   film-well e z so =
       let wide = wide-enhance-rows w h pic s (length m) (length t) e z in

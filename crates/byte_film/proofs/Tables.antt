@@ -13,13 +13,13 @@ use Rattle.refuse.proofs.Walk.{front, behind, first-both, first-same, first-res
 use Rattle.settings.specs.declared.Settings.{Settings}
 use Rattle.settings.specs.Settings.{clipOne, sharedRows, Tiled}
 use Rattle.settings.proofs.Ready.{shared-numbered}
-use Rattle.tiles.specs.Tiles.{spentEntries, FilmAsks}
+use Rattle.tiles.specs.Tiles.{spentEntries, FilmFooterAsks}
 use Rattle.prepare.specs.Prepare.{workRows, listedRows, prepareRows, enhanceRows}
 use Rattle.tiles.proofs.Footers.{film-asks}
 use Rattle.prepare.proofs.Table.{listed-work, table-parts, table-listed, work, over-parts}
 use Rattle.profile.specs.Profile.{profileRows, byteRows, Profile}
 use Rattle.profile.proofs.Profile.{byte-numbered, byte-ready, byte-inside, profile-none}
-use Rattle.byte_film.specs.Bytes.{bytePrepareRows, byteEnhanceRows, ByteWork, ByteListAsks}
+use Rattle.byte_film.specs.Bytes.{bytePrepareRows, byteEnhanceRows, ByteWork, ByteMapTilesAsks}
 
 -- inside the profile the rows 1 to 9, 31, 10, 30 and 11 give what the wide calls' do, whatever stands behind them
 front-inside : (w h size : ℕ) (s : Settings) (room : ℕ) (rest : List Row) → first (profileRows s) ≡ 0
@@ -70,11 +70,11 @@ module _ (w h : ℕ) (pic : List ℕ) (s : Settings) (room scratch list : ℕ) w
     bytes-record = bytes-film .work .ready .tiled
 
     -- the footer
-    pub bytes-foot : FilmAsks w h s
+    pub bytes-foot : FilmFooterAsks w h s
     bytes-foot = film-asks (bytes-film .work .ready)
 
     -- the tiles
-    pub bytes-tiles : {o : Bool} → o ≡ clipOne (s .clip) → o ≡ false → ByteListAsks w h pic s room scratch list
+    pub bytes-tiles : {o : Bool} → o ≡ clipOne (s .clip) → o ≡ false → ByteMapTilesAsks w h pic s room scratch list
     bytes-tiles q f = record { film = record { film = bytes-film; changes = sym q ∙ f }; pairs = table-listed w h pic s room scratch list (sym wide-rows ∙ z) }
 
 -- ---- enhance, which is lent no list

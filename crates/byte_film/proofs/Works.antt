@@ -10,27 +10,27 @@ use Rattle.tally.specs.declared.Rect.{Rect}
 use Rattle.settings.specs.declared.Settings.{Settings}
 use Rattle.settings.specs.Settings.{binsOf, Ready}
 use Rattle.render.specs.Render.{whole}
-use Rattle.tiles.specs.Tiles.{tileOf, TilesAsk, TileAsks, TilesDone}
+use Rattle.tiles.specs.Tiles.{tileOf, TilesReady, MapTileAsks, TilesDone}
 use Rattle.tiles.proofs.Tiles.{tile-inside}
 use Rattle.tiles.proofs.Films.{tile-asks}
 use Rattle.tiles.proofs.Turns.{Laid, laid-length}
 use Rattle.prepare.proofs.Renders.{asks-render}
-use Rattle.byte_tile.specs.ByteTile as tile
-use Rattle.byte_render.specs.Bytes.{FromAsks}
-use Rattle.byte_film.specs.Bytes.{ByteTilesAsk, ByteTileAsks}
+use Rattle.byte_tile.specs.ByteTile.{ByteMappingAsks}
+use Rattle.byte_render.specs.Bytes.{RenderFromAsks}
+use Rattle.byte_film.specs.Bytes.{ByteTilesReady, ByteMapTileAsks}
 
 -- what the wide tiles ask
-pub wide-tiles : {w h : ℕ} {pic : List ℕ} {s : Settings} {room scratch : ℕ} → ByteTilesAsk w h pic s room scratch → TilesAsk w h pic s room scratch
+pub wide-tiles : {w h : ℕ} {pic : List ℕ} {s : Settings} {room scratch : ℕ} → ByteTilesReady w h pic s room scratch → TilesReady w h pic s room scratch
 wide-tiles asks = record { work = asks .film .work; changes = asks .changes }
 
 -- and one of them
-pub wide-tile : {w h : ℕ} {pic : List ℕ} {s : Settings} {k room scratch : ℕ} → ByteTileAsks w h pic s k room scratch → TileAsks w h pic s k room scratch
+pub wide-tile : {w h : ℕ} {pic : List ℕ} {s : Settings} {k room scratch : ℕ} → ByteMapTileAsks w h pic s k room scratch → MapTileAsks w h pic s k room scratch
 wide-tile asks = record { film = wide-tiles (asks .tiles); tile = asks .tile }
 
 -- what the mapping of tile k asks, its rectangle and the bins as they were worked out
-pub byte-tile-asks : (m : List ℕ) {w h : ℕ} {pic : List ℕ} {s : Settings} {k scratch : ℕ} → ByteTileAsks w h pic s k (length m) scratch
+pub byte-tile-asks : (m : List ℕ) {w h : ℕ} {pic : List ℕ} {s : Settings} {k scratch : ℕ} → ByteMapTileAsks w h pic s k (length m) scratch
     → {r : Rect} {b : ℕ} → r ≡ tileOf w h s k → b ≡ binsOf s
-    → tile.ByteTileAsks pic w r (s .min) (s .max) b (s .clip) scratch (length (take (k * b + b - k * b) (drop (k * b) m)))
+    → ByteMappingAsks pic w r (s .min) (s .max) b (s .clip) scratch (length (take (k * b + b - k * b) (drop (k * b) m)))
 byte-tile-asks m {w} {h} {pic} {s} {k} {scratch} asks {r} {b} p q =
     let ready : Ready w h (length pic) s (length m) = asks .tiles .film .work .ready in
     record {
@@ -41,15 +41,15 @@ byte-tile-asks m {w} {h} {pic} {s} {k} {scratch} asks {r} {b} p q =
     }
 
 -- what tile k asks, before it in `map_tiles`
-pub laid-bytes : {w h : ℕ} {pic : List ℕ} {s : Settings} {m₀ t₀ : List ℕ} → ByteTilesAsk w h pic s (length m₀) (length t₀)
+pub laid-bytes : {w h : ℕ} {pic : List ℕ} {s : Settings} {m₀ t₀ : List ℕ} → ByteTilesReady w h pic s (length m₀) (length t₀)
     → {m t : List ℕ} {k : ℕ} → Laid w h pic s m₀ m t₀ t k → k < s .across * s .down
-    → ByteTileAsks w h pic s k (length m) (length t)
+    → ByteMapTileAsks w h pic s k (length m) (length t)
 laid-bytes asks {m} {t} {k} laid l =
     rw (laid-length (wide-tiles asks) laid (omega arith), laid .size) record { tiles = asks; tile = l }
 
 -- what rendering from the mappings asks
-pub asks-from : {w h : ℕ} {pic : List ℕ} {s : Settings} {m m′ t t′ n n′ : List ℕ} → ByteTilesAsk w h pic s (length m) (length t)
-    → TilesDone w h pic s m m′ t t′ n n′ → FromAsks w h s m′ (whole w h) pic
+pub asks-from : {w h : ℕ} {pic : List ℕ} {s : Settings} {m m′ t t′ n n′ : List ℕ} → ByteTilesReady w h pic s (length m) (length t)
+    → TilesDone w h pic s m m′ t t′ n n′ → RenderFromAsks w h s m′ (whole w h) pic
 asks-from asks done =
     let (mapped, shown) = asks-render (wide-tiles asks) done in
     record {

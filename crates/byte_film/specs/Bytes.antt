@@ -11,26 +11,26 @@ use Rattle.settings.specs.declared.Settings.{Settings}
 use Rattle.settings.specs.Settings.{clipOne}
 use Rattle.prepare.specs.declared.Enhanced.the-variants as Enhanced
 use Rattle.tiles.specs.Tiles.{spentEntries, Work}
-use Rattle.prepare.specs.Prepare.{preparedNot, workRows, listedRows, Ended, ending, preparedOf, Over, overing, enhancedOf}
+use Rattle.prepare.specs.Prepare.{preparedNot, workRows, listedRows, PrepareOut, prepareLeaves, preparedOf, EnhanceOut, enhanceLeaves, enhancedOf}
 use Rattle.profile.specs.Profile.{byteRows, Profile}
 
 -- 1 to 10 with 31 after 9, "30 for a setting outside the profile, after 10", then 11 and on as in the wide call
-unfoldable pub byteEnhanceRows : ℕ → ℕ → List ℕ → Settings → ℕ → ℕ → List Row
+unfoldable pub byteEnhanceRows : (w h : ℕ) (pic : List ℕ) (s : Settings) (room scratch : ℕ) → List Row
 byteEnhanceRows w h pic s room scratch = byteRows w h (length pic) s room ++ workRows pic s scratch
 
 -- and prepare, with 32 behind 12
-unfoldable pub bytePrepareRows : ℕ → ℕ → List ℕ → Settings → ℕ → ℕ → ℕ → List Row
+unfoldable pub bytePrepareRows : (w h : ℕ) (pic : List ℕ) (s : Settings) (room scratch list : ℕ) → List Row
 bytePrepareRows w h pic s room scratch list = byteRows w h (length pic) s room ++ listedRows pic s scratch list
 
 -- prepare on bytes: a refusal keeps all memory; else what prepare does
-unfoldable pub bytePrepareOf : ℕ → ℕ → ℕ → List ℕ → Settings → List ℕ → List ℕ → List ℕ → Ended
+unfoldable pub bytePrepareOf : (film w h : ℕ) (pic : List ℕ) (s : Settings) (m t n : List ℕ) → PrepareOut
 bytePrepareOf film w h pic s m t n =
-    unless (first (bytePrepareRows w h pic s (length m) (length t) (length n))) (λ k. ending (preparedNot k) m t n) (preparedOf film w h pic s m t n)
+    unless (first (bytePrepareRows w h pic s (length m) (length t) (length n))) (λ k. prepareLeaves (preparedNot k) m t n) (preparedOf film w h pic s m t n)
 
 -- enhance on bytes, "in place": a refusal keeps all memory; else what enhance does
-unfoldable pub byteEnhanceOf : ℕ → ℕ → List ℕ → Settings → List ℕ → List ℕ → Over
+unfoldable pub byteEnhanceOf : (w h : ℕ) (pic : List ℕ) (s : Settings) (m t : List ℕ) → EnhanceOut
 byteEnhanceOf w h pic s m t =
-    unless (first (byteEnhanceRows w h pic s (length m) (length t))) (λ n. overing (Enhanced.Refused n) pic m t) (enhancedOf w h pic s m t)
+    unless (first (byteEnhanceRows w h pic s (length m) (length t))) (λ n. enhanceLeaves (Enhanced.Refused n) pic m t) (enhancedOf w h pic s m t)
 
 -- ---- what the functions below ask
 
@@ -40,16 +40,16 @@ pub record ByteWork (w h : ℕ) (pic : List ℕ) (s : Settings) (room scratch : 
   pub profile : Profile s
 
 -- what `map_tile` knows of the film: that, and a factor that is not 1.0
-pub record ByteTilesAsk (w h : ℕ) (pic : List ℕ) (s : Settings) (room scratch : ℕ) : Type 0 where
+pub record ByteTilesReady (w h : ℕ) (pic : List ℕ) (s : Settings) (room scratch : ℕ) : Type 0 where
   pub film : ByteWork w h pic s room scratch
   pub changes : clipOne (s .clip) ≡ false
 
 -- what `map_tiles` asks: that, and a list with two entries for each tile
-pub record ByteListAsks (w h : ℕ) (pic : List ℕ) (s : Settings) (room scratch list : ℕ) : Type 0 where
-  pub film : ByteTilesAsk w h pic s room scratch
+pub record ByteMapTilesAsks (w h : ℕ) (pic : List ℕ) (s : Settings) (room scratch list : ℕ) : Type 0 where
+  pub film : ByteTilesReady w h pic s room scratch
   pub pairs : spentEntries s ≤ list
 
 -- what `map_tile` asks: that of the film, of one of its tiles
-pub record ByteTileAsks (w h : ℕ) (pic : List ℕ) (s : Settings) (k room scratch : ℕ) : Type 0 where
-  pub tiles : ByteTilesAsk w h pic s room scratch
+pub record ByteMapTileAsks (w h : ℕ) (pic : List ℕ) (s : Settings) (k room scratch : ℕ) : Type 0 where
+  pub tiles : ByteTilesReady w h pic s room scratch
   pub tile : k < s .across * s .down

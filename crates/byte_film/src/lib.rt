@@ -5,9 +5,9 @@ ghost use lib.ListN.{length};
 ghost use Rattle.lists.specs.Lists.{all};
 ghost use Rattle.refuse.specs.Refuse.{first};
 ghost use Rattle.tiles.specs.Tiles.{TileDone, TilesDone};
-ghost use Rattle.prepare.specs.Prepare.{ending, overing};
+ghost use Rattle.prepare.specs.Prepare.{prepareLeaves, enhanceLeaves};
 ghost use Rattle.narrow.specs.Narrow.{isByte};
-ghost use Rattle.byte_film.specs.Bytes.{bytePrepareRows, bytePrepareOf, byteEnhanceOf, ByteListAsks, ByteTileAsks};
+ghost use Rattle.byte_film.specs.Bytes.{bytePrepareRows, bytePrepareOf, byteEnhanceOf, ByteMapTilesAsks, ByteMapTileAsks};
 use clip::Spent;
 use prepare::Enhanced;
 use prepare::Made;
@@ -50,7 +50,7 @@ fn map_tile(
     map: &mut [u8],
     scratch: &mut [u32],
 ) -> Spent
-    requires { ⌜ ByteTileAsks width height (now picture) s k (length (now map)) (length (now scratch)) ⌝ }
+    requires { ⌜ ByteMapTileAsks width height (now picture) s k (length (now map)) (length (now scratch)) ⌝ }
     ensures { λ r. ⌜ TileDone width height (now (picture .entry)) s k (now (map .entry)) (now (map .exit)) (now (scratch .entry)) (now (scratch .exit)) r ⌝ }
 {
     let rect = tiles::tile_rect(width, height, s.across, s.down, k);
@@ -84,7 +84,7 @@ fn map_tiles(
     scratch: &mut [u32],
     list: &mut [u64],
 )
-    requires { ⌜ ByteListAsks width height (now picture) s (length (now map)) (length (now scratch)) (length (now list)) ⌝ }
+    requires { ⌜ ByteMapTilesAsks width height (now picture) s (length (now map)) (length (now scratch)) (length (now list)) ⌝ }
     ensures { λ _. ⌜ TilesDone width height (now (picture .entry)) s (now (map .entry)) (now (map .exit)) (now (scratch .entry)) (now (scratch .exit)) (now (list .entry)) (now (list .exit)) ⌝ }
 {
     let tiles = (s.across * s.down) as usize;
@@ -109,7 +109,7 @@ pub fn prepare_bytes(
     scratch: &mut [u32],
     list: &mut [u64],
 ) -> Prepared
-    ensures { λ r. ⌜ (ending r (now (map .exit)) (now (scratch .exit)) (now (list .exit)) ≡ bytePrepareOf film width height (now (picture .entry)) s (now (map .entry)) (now (scratch .entry)) (now (list .entry))) × (all isByte (now (picture .entry)) ≡ true) ⌝ }
+    ensures { λ r. ⌜ (prepareLeaves r (now (map .exit)) (now (scratch .exit)) (now (list .exit)) ≡ bytePrepareOf film width height (now (picture .entry)) s (now (map .entry)) (now (scratch .entry)) (now (list .entry))) × (all isByte (now (picture .entry)) ≡ true) ⌝ }
 {
     let refused = refusal(
         width,
@@ -149,7 +149,7 @@ pub fn enhance_bytes(
     map: &mut [u8],
     scratch: &mut [u32],
 ) -> Enhanced
-    ensures { λ r. ⌜ (overing r (now (picture .exit)) (now (map .exit)) (now (scratch .exit)) ≡ byteEnhanceOf width height (now (picture .entry)) s (now (map .entry)) (now (scratch .entry))) × (all isByte (now (picture .entry)) ≡ true) ⌝ }
+    ensures { λ r. ⌜ (enhanceLeaves r (now (picture .exit)) (now (map .exit)) (now (scratch .exit)) ≡ byteEnhanceOf width height (now (picture .entry)) s (now (map .entry)) (now (scratch .entry))) × (all isByte (now (picture .entry)) ≡ true) ⌝ }
 {
     // no list is lent, and none is too short: this one has two entries for each of 8 x 8 tiles
     let mut list = [0u64; 128];

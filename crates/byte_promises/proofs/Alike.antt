@@ -16,10 +16,10 @@ use Rattle.settings.specs.declared.Window.{Window}
 use Rattle.settings.specs.Settings.{entriesOf, keptOf, keptRecord, settingRows}
 use Rattle.settings.proofs.Like.{setting-kept}
 use Rattle.prepare.specs.declared.Enhanced.the-variants as Enhanced
-use Rattle.prepare.specs.Prepare.{preparedNot, Ended, ending, Over, overing}
+use Rattle.prepare.specs.Prepare.{preparedNot, PrepareOut, prepareLeaves, EnhanceOut, enhanceLeaves}
 use Rattle.prepare.proofs.Like.{prepare-kept, enhance-kept}
 use Rattle.draw.specs.declared.Drawn.the-variants as Drawn
-use Rattle.draw.specs.Draw.{Shows, showing}
+use Rattle.draw.specs.Draw.{DrawOut, drawLeaves}
 use Rattle.draw.proofs.Like.{draw-kept, draw-kept-record, draw-front}
 use Rattle.profile.specs.Profile.{profileRows}
 use Rattle.profile.proofs.Profile.{profile-kept}
@@ -57,31 +57,31 @@ module _ (w h : ℕ) (pic : List ℕ) (s : Settings) where
   prepare-bytes-kept : (film : ℕ) (m t n : List ℕ) → bytePrepareOf film w h pic (keptOf s) m t n ≡ bytePrepareOf film w h pic s m t n
   prepare-bytes-kept film m t n = go (first (profileRows s)) refl
     where
-      out : (x : Settings) → (first (profileRows x) ≡ 0 → ⊥) → bytePrepareOf film w h pic x m t n ≡ ending (preparedNot (outsideNumber w h (length pic) x)) m t n
+      out : (x : Settings) → (first (profileRows x) ≡ 0 → ⊥) → bytePrepareOf film w h pic x m t n ≡ prepareLeaves (preparedNot (outsideNumber w h (length pic) x)) m t n
       out x outside =
           let number = bytes-outside w h pic x (length m) (length t) (length n) outside in
-          prepare-bytes-table film w h pic x m t n .when-some (λ z. outside-some w h (length pic) x (sym number ∙ z)) ∙ ap (λ k. ending (preparedNot k) m t n) number
+          prepare-bytes-table film w h pic x m t n .when-some (λ z. outside-some w h (length pic) x (sym number ∙ z)) ∙ ap (λ k. prepareLeaves (preparedNot k) m t n) number
 
       go : (k : ℕ) → first (profileRows s) ≡ k → bytePrepareOf film w h pic (keptOf s) m t n ≡ bytePrepareOf film w h pic s m t n
       go zero e = prepare-inside film w h pic (keptOf s) m t n (ap first (profile-kept s) ∙ e) ∙ prepare-kept film w h pic s m t n ∙ sym (prepare-inside film w h pic s m t n e)
       go (suc k) e =
           out (keptOf s) (λ z. omega (arith, sym (ap first (profile-kept s)) ∙ z, e))
-          ∙ ap (λ x. ending (preparedNot x) m t n) (outside-kept w h (length pic) s)
+          ∙ ap (λ x. prepareLeaves (preparedNot x) m t n) (outside-kept w h (length pic) s)
           ∙ sym (out s (λ z. omega (arith, z, e)))
 
   enhance-bytes-kept : (m t : List ℕ) → byteEnhanceOf w h pic (keptOf s) m t ≡ byteEnhanceOf w h pic s m t
   enhance-bytes-kept m t = go (first (profileRows s)) refl
     where
-      out : (x : Settings) → (first (profileRows x) ≡ 0 → ⊥) → byteEnhanceOf w h pic x m t ≡ overing (Enhanced.Refused (outsideNumber w h (length pic) x)) pic m t
+      out : (x : Settings) → (first (profileRows x) ≡ 0 → ⊥) → byteEnhanceOf w h pic x m t ≡ enhanceLeaves (Enhanced.Refused (outsideNumber w h (length pic) x)) pic m t
       out x outside =
           let number = sym (rows-enough w h pic x (length m) (length t)) ∙ bytes-outside w h pic x (length m) (length t) 128 outside in
-          enhance-bytes-table w h pic x m t .when-some (λ z. outside-some w h (length pic) x (sym number ∙ z)) ∙ ap (λ k. overing (Enhanced.Refused k) pic m t) number
+          enhance-bytes-table w h pic x m t .when-some (λ z. outside-some w h (length pic) x (sym number ∙ z)) ∙ ap (λ k. enhanceLeaves (Enhanced.Refused k) pic m t) number
 
       go : (k : ℕ) → first (profileRows s) ≡ k → byteEnhanceOf w h pic (keptOf s) m t ≡ byteEnhanceOf w h pic s m t
       go zero e = enhance-inside w h pic (keptOf s) m t (ap first (profile-kept s) ∙ e) ∙ enhance-kept w h pic s m t ∙ sym (enhance-inside w h pic s m t e)
       go (suc k) e =
           out (keptOf s) (λ z. omega (arith, sym (ap first (profile-kept s)) ∙ z, e))
-          ∙ ap (λ x. overing (Enhanced.Refused x) pic m t) (outside-kept w h (length pic) s)
+          ∙ ap (λ x. enhanceLeaves (Enhanced.Refused x) pic m t) (outside-kept w h (length pic) s)
           ∙ sym (out s (λ z. omega (arith, z, e)))
 
   draw-bytes-read : (film : ℕ) (r : MapRecord) (win : Window) (m out : List ℕ)
@@ -89,10 +89,10 @@ module _ (w h : ℕ) (pic : List ℕ) (s : Settings) where
   draw-bytes-read film r win m out = go (first (profileRows s)) refl
     where
       refuses : (x : Settings) (q : MapRecord) (ys : List ℕ) → (first (profileRows x) ≡ 0 → ⊥)
-          → byteDrawOf film w h pic x q win ys out ≡ showing (Drawn.Refused (outsideNumber w h (length pic) x)) out
+          → byteDrawOf film w h pic x q win ys out ≡ drawLeaves (Drawn.Refused (outsideNumber w h (length pic) x)) out
       refuses x q ys outside =
           let number = draw-outside film w h pic x q win ys (length out) outside in
-          draw-bytes-table film w h pic x q win ys out .when-some (λ z. outside-some w h (length pic) x (sym number ∙ z)) ∙ ap (λ k. showing (Drawn.Refused k) out) number
+          draw-bytes-table film w h pic x q win ys out .when-some (λ z. outside-some w h (length pic) x (sym number ∙ z)) ∙ ap (λ k. drawLeaves (Drawn.Refused k) out) number
 
       go : (k : ℕ) → first (profileRows s) ≡ k → byteDrawOf film w h pic (keptOf s) (keptRecord r) win (take (entriesOf s) m) out ≡ byteDrawOf film w h pic s r win m out
       go zero e =
@@ -103,7 +103,7 @@ module _ (w h : ℕ) (pic : List ℕ) (s : Settings) where
           ∙ sym (draw-inside film w h pic s r win m out e)
       go (suc k) e =
           refuses (keptOf s) (keptRecord r) (take (entriesOf s) m) (λ z. omega (arith, sym (ap first (profile-kept s)) ∙ z, e))
-          ∙ ap (λ x. showing (Drawn.Refused x) out) (outside-kept w h (length pic) s)
+          ∙ ap (λ x. drawLeaves (Drawn.Refused x) out) (outside-kept w h (length pic) s)
           ∙ sym (refuses s r m (λ z. omega (arith, z, e)))
 
 -- ---- the calls
@@ -117,7 +117,7 @@ prepare-bytes-alike {p} {q} x y same =
     ∙ ap (λ g. bytePrepareOf (g .0) (g .1) (g .2) (g .3) (g .4) (g .5) (g .6) (g .7)) same
     ∙ prepare-bytes-kept (q .width) (q .height) (q .pixels) (q .settings) (q .film) (q .map) (q .scratch) (q .list)
     ∙ sym (prepare-bytes-ends y) in
-    (ap (λ (z : Ended). z .answer) e, ap (λ (z : Ended). z .map) e, ap (λ (z : Ended). z .scratch) e, ap (λ (z : Ended). z .list) e)
+    (ap (λ (z : PrepareOut). z .answer) e, ap (λ (z : PrepareOut). z .map) e, ap (λ (z : PrepareOut). z .scratch) e, ap (λ (z : PrepareOut). z .list) e)
 
 pub enhance-bytes-alike : {e f : EnhanceCall} → EnhancesBytes e → EnhancesBytes f → enhance-read e ≡ enhance-read f
     → (e .answer ≡ f .answer) × (e .pixels′ ≡ f .pixels′) × (e .map′ ≡ f .map′) × (e .scratch′ ≡ f .scratch′)
@@ -128,7 +128,7 @@ enhance-bytes-alike {e} {f} x y same =
     ∙ ap (λ g. byteEnhanceOf (g .0) (g .1) (g .2) (g .3) (g .4) (g .5)) same
     ∙ enhance-bytes-kept (f .width) (f .height) (f .pixels) (f .settings) (f .map) (f .scratch)
     ∙ sym (enhance-bytes-ends y) in
-    (ap (λ (z : Over). z .answer) k, ap (λ (z : Over). z .picture) k, ap (λ (z : Over). z .map) k, ap (λ (z : Over). z .scratch) k)
+    (ap (λ (z : EnhanceOut). z .answer) k, ap (λ (z : EnhanceOut). z .picture) k, ap (λ (z : EnhanceOut). z .map) k, ap (λ (z : EnhanceOut). z .scratch) k)
 
 pub draw-bytes-alike : {d f : DrawCall} → DrawsBytes d → DrawsBytes f → draw-read d ≡ draw-read f → (d .answer ≡ f .answer) × (d .out′ ≡ f .out′)
 draw-bytes-alike {d} {f} x y same =
@@ -138,4 +138,4 @@ draw-bytes-alike {d} {f} x y same =
     ∙ ap (λ g. byteDrawOf (g .0) (g .1) (g .2) (g .3) (g .4) (g .5) (g .6) (g .7) (g .8)) same
     ∙ draw-bytes-read (f .width) (f .height) (f .pixels) (f .settings) (f .film) (f .kept) (f .window) (f .map) (f .out)
     ∙ sym (draw-bytes-ends y) in
-    (ap (λ (z : Shows). z .answer) e, ap (λ (z : Shows). z .out) e)
+    (ap (λ (z : DrawOut). z .answer) e, ap (λ (z : DrawOut). z .out) e)

@@ -14,9 +14,9 @@ use Rattle.settings.specs.declared.MapRecord.{MapRecord}
 use Rattle.settings.specs.declared.Footer.{Footer}
 use Rattle.settings.specs.Settings.{binsOf, entriesOf, keptOf, clipOne}
 use Rattle.tiles.specs.Tiles.{pixelsIn}
-use Rattle.prepare.specs.Prepare.{preparedSays, enhancedSays, Ended, ending, prepareOf, Over, overing, enhanceOf}
+use Rattle.prepare.specs.Prepare.{preparedSays, enhancedSays, PrepareOut, prepareLeaves, prepareOf, EnhanceOut, enhanceLeaves, enhanceOf}
 use Rattle.held.specs.Held.{Held}
-use Rattle.draw.specs.Draw.{drawnSays, Shows, showing, drawOf, DrawReady}
+use Rattle.draw.specs.Draw.{drawnSays, DrawOut, drawLeaves, drawOf, DrawReady}
 use Rattle.draw.proofs.Tables.{draw-ready}
 use Rattle.draw.proofs.Laws.{other-field}
 use Rattle.profile.specs.Profile.{byteRows}
@@ -39,27 +39,27 @@ use Rattle.byte_promises.proofs.Outcomes.{draw-bytes-says}
 
 module _ {p : PrepareCall} {r : MapRecord} {foot : Footer} (ran : PreparesBytes p) (prepared : preparedSays (p .answer) ≡ accepted (r, foot)) where
   -- it ended as prepare does
-  pub prepare-bytes-as-wide : ending (p .answer) (p .map′) (p .scratch′) (p .list′) ≡ prepareOf (p .film) (p .width) (p .height) (p .pixels) (p .settings) (p .map) (p .scratch) (p .list)
+  pub prepare-bytes-as-wide : prepareLeaves (p .answer) (p .map′) (p .scratch′) (p .list′) ≡ prepareOf (p .film) (p .width) (p .height) (p .pixels) (p .settings) (p .map) (p .scratch) (p .list)
   prepare-bytes-as-wide =
       prepare-bytes-ends ran
       ∙ prepare-bytes-wide (p .film) (p .width) (p .height) (p .pixels) (p .settings) (p .map) (p .scratch) (p .list)
-      (sym (ap (λ (z : Ended). preparedSays (z .answer)) (prepare-bytes-ends ran)) ∙ prepared)
+      (sym (ap (λ (z : PrepareOut). preparedSays (z .answer)) (prepare-bytes-ends ran)) ∙ prepared)
 
   pub prepare-bytes-done : preparedSays (prepareOf (p .film) (p .width) (p .height) (p .pixels) (p .settings) (p .map) (p .scratch) (p .list) .answer) ≡ accepted (r, foot)
-  prepare-bytes-done = sym (ap (λ (z : Ended). preparedSays (z .answer)) prepare-bytes-as-wide) ∙ prepared
+  prepare-bytes-done = sym (ap (λ (z : PrepareOut). preparedSays (z .answer)) prepare-bytes-as-wide) ∙ prepared
 
   -- its settings are of our edition: order 8, "The byte profile keeps the present edition only."
   pub prepared-bytes-ours : p .settings .edition ≡ Ours
   prepared-bytes-ours =
       prepare-bytes-profile (p .film) (p .width) (p .height) (p .pixels) (p .settings) (p .map) (p .scratch) (p .list)
-      (sym (ap (λ (z : Ended). preparedSays (z .answer)) (prepare-bytes-ends ran)) ∙ prepared) .edition
+      (sym (ap (λ (z : PrepareOut). preparedSays (z .answer)) (prepare-bytes-ends ran)) ∙ prepared) .edition
 
   -- each tile's own mapping lies in the map buffer
   pub prepared-bytes-by-rule : clipOne (p .settings .clip) ≡ false → (k b : ℕ) → k < p .settings .across * p .settings .down → b < binsOf (p .settings)
       → getD (p .map′) (k * binsOf (p .settings) + b) 0
       ≡ mappedOf (p .settings .min) (p .settings .max) (pixelsIn (p .width) (p .height) (p .settings) k) (clippedCounts (p .width) (p .height) (p .pixels) (p .settings) k) b
   prepared-bytes-by-rule one k b l q =
-      ap (λ (z : Ended). getD (z .map) (k * binsOf (p .settings) + b) 0) prepare-bytes-as-wide ∙ own-mapping _ _ _ _ _ _ _ _ prepare-bytes-done one k b l q
+      ap (λ (z : PrepareOut). getD (z .map) (k * binsOf (p .settings) + b) 0) prepare-bytes-as-wide ∙ own-mapping _ _ _ _ _ _ _ _ prepare-bytes-done one k b l q
       ∙ ap (λ n. mappedOf (p .settings .min) (p .settings .max) n (clippedCounts (p .width) (p .height) (p .pixels) (p .settings) k) b)
       (divides-pixels (p .width) (p .height) (p .pixels) (p .settings) k prepared-bytes-ours)
 
@@ -73,7 +73,7 @@ module _ {p : PrepareCall} {r : MapRecord} {foot : Footer} (ran : PreparesBytes 
 
   -- and every tile, "with each tile's own N and L"
   pub prepared-bytes-tiles-sound : {f : Float} → ClippingOn (p .settings .clip) f → FilmSound (p .width) (p .height) (p .pixels) (p .settings) f (p .map′)
-  prepared-bytes-tiles-sound on = rw (ap (λ (z : Ended). z .map) prepare-bytes-as-wide) (tiles-sound _ _ _ _ _ (p .map) (p .scratch) (p .list) prepare-bytes-done on prepared-bytes-ours)
+  prepared-bytes-tiles-sound on = rw (ap (λ (z : PrepareOut). z .map) prepare-bytes-as-wide) (tiles-sound _ _ _ _ _ (p .map) (p .scratch) (p .list) prepare-bytes-done on prepared-bytes-ours)
 
   -- whose own limit holds it
   pub prepared-bytes-limit-fits : {f : Float} → ClippingOn (p .settings .clip) f → (k : ℕ)
@@ -88,37 +88,37 @@ module _ {p : PrepareCall} {r : MapRecord} {foot : Footer} (ran : PreparesBytes 
 
 module _ {e : EnhanceCall} {foot : Footer} (ran : EnhancesBytes e) (done : enhancedSays (e .answer) ≡ accepted foot) where
   -- it ended as enhance does
-  pub enhance-bytes-as-wide : overing (e .answer) (e .pixels′) (e .map′) (e .scratch′) ≡ enhanceOf (e .width) (e .height) (e .pixels) (e .settings) (e .map) (e .scratch)
+  pub enhance-bytes-as-wide : enhanceLeaves (e .answer) (e .pixels′) (e .map′) (e .scratch′) ≡ enhanceOf (e .width) (e .height) (e .pixels) (e .settings) (e .map) (e .scratch)
   enhance-bytes-as-wide =
       enhance-bytes-ends ran
       ∙ enhance-bytes-wide (e .width) (e .height) (e .pixels) (e .settings) (e .map) (e .scratch)
-      (sym (ap (λ (z : Over). enhancedSays (z .answer)) (enhance-bytes-ends ran)) ∙ done)
+      (sym (ap (λ (z : EnhanceOut). enhancedSays (z .answer)) (enhance-bytes-ends ran)) ∙ done)
 
   pub enhance-bytes-done : enhancedSays (enhanceOf (e .width) (e .height) (e .pixels) (e .settings) (e .map) (e .scratch) .answer) ≡ accepted foot
-  enhance-bytes-done = sym (ap (λ (z : Over). enhancedSays (z .answer)) enhance-bytes-as-wide) ∙ done
+  enhance-bytes-done = sym (ap (λ (z : EnhanceOut). enhancedSays (z .answer)) enhance-bytes-as-wide) ∙ done
 
   -- its settings are of our edition
   pub enhanced-bytes-ours : e .settings .edition ≡ Ours
   enhanced-bytes-ours =
       enhance-bytes-profile (e .width) (e .height) (e .pixels) (e .settings) (e .map) (e .scratch)
-      (sym (ap (λ (z : Over). enhancedSays (z .answer)) (enhance-bytes-ends ran)) ∙ done) .edition
+      (sym (ap (λ (z : EnhanceOut). enhancedSays (z .answer)) (enhance-bytes-ends ran)) ∙ done) .edition
 
   -- demand 2: each pixel is the rule's
   pub enhanced-bytes-by-rule : clipOne (e .settings .clip) ≡ false → (i j : ℕ) → i < e .width → j < e .height
       → getD (e .pixels′) (j * e .width + i) 0 ≡ ruleGrey (e .width) (e .height) (e .pixels) (e .settings) i j
   enhanced-bytes-by-rule one i j l k =
-      ap (λ (z : Over). getD (z .picture) (j * e .width + i) 0) enhance-bytes-as-wide ∙ own-rendering _ _ _ _ (e .map) (e .scratch) enhance-bytes-done one i j l k
+      ap (λ (z : EnhanceOut). getD (z .picture) (j * e .width + i) 0) enhance-bytes-as-wide ∙ own-rendering _ _ _ _ (e .map) (e .scratch) enhance-bytes-done one i j l k
 
   -- at the factor 1.0 the film is unchanged
   pub enhanced-bytes-as-film : clipOne (e .settings .clip) ≡ true → e .pixels′ ≡ e .pixels
-  enhanced-bytes-as-film one = ap (λ (z : Over). z .picture) enhance-bytes-as-wide ∙ own-pixels _ _ _ _ (e .map) (e .scratch) enhance-bytes-done one
+  enhanced-bytes-as-film one = ap (λ (z : EnhanceOut). z .picture) enhance-bytes-as-wide ∙ own-pixels _ _ _ _ (e .map) (e .scratch) enhance-bytes-done one
 
   -- each tile's own mapping lies in the map buffer
   pub enhanced-bytes-mapped-by-rule : clipOne (e .settings .clip) ≡ false → (k b : ℕ) → k < e .settings .across * e .settings .down → b < binsOf (e .settings)
       → getD (e .map′) (k * binsOf (e .settings) + b) 0
       ≡ mappedOf (e .settings .min) (e .settings .max) (pixelsIn (e .width) (e .height) (e .settings) k) (clippedCounts (e .width) (e .height) (e .pixels) (e .settings) k) b
   enhanced-bytes-mapped-by-rule one k b l q =
-      ap (λ (z : Over). getD (z .map) (k * binsOf (e .settings) + b) 0) enhance-bytes-as-wide ∙ own-mapping-enhance _ _ _ _ (e .map) (e .scratch) enhance-bytes-done one k b l q
+      ap (λ (z : EnhanceOut). getD (z .map) (k * binsOf (e .settings) + b) 0) enhance-bytes-as-wide ∙ own-mapping-enhance _ _ _ _ (e .map) (e .scratch) enhance-bytes-done one k b l q
       ∙ ap (λ n. mappedOf (e .settings .min) (e .settings .max) n (clippedCounts (e .width) (e .height) (e .pixels) (e .settings) k) b)
       (divides-pixels (e .width) (e .height) (e .pixels) (e .settings) k enhanced-bytes-ours)
 
@@ -127,7 +127,7 @@ module _ {e : EnhanceCall} {foot : Footer} (ran : EnhancesBytes e) (done : enhan
   enhanced-bytes-footer = footer-shows-enhance _ _ _ _ (e .map) (e .scratch) enhance-bytes-done
 
   pub enhanced-bytes-tiles-sound : {f : Float} → ClippingOn (e .settings .clip) f → FilmSound (e .width) (e .height) (e .pixels) (e .settings) f (e .map′)
-  enhanced-bytes-tiles-sound on = rw (ap (λ (z : Over). z .map) enhance-bytes-as-wide) (tiles-sound-enhance _ _ _ _ (e .map) (e .scratch) enhance-bytes-done on enhanced-bytes-ours)
+  enhanced-bytes-tiles-sound on = rw (ap (λ (z : EnhanceOut). z .map) enhance-bytes-as-wide) (tiles-sound-enhance _ _ _ _ (e .map) (e .scratch) enhance-bytes-done on enhanced-bytes-ours)
 
   pub enhanced-bytes-limit-fits : {f : Float} → ClippingOn (e .settings .clip) f → (k : ℕ)
       → LimitFits f (pixelsIn (e .width) (e .height) (e .settings) k) (binsOf (e .settings)) (limitIn (e .width) (e .height) (e .settings) f k)
@@ -143,9 +143,9 @@ pub drawn-bytes-ready : {d : DrawCall} → DrawsBytes d → drawnSays (d .answer
     → DrawReady (d .film) (d .width) (d .height) (d .pixels) (d .settings) (d .kept) (d .window) (d .map) (length (d .out))
 drawn-bytes-ready {d} ran done =
     let wide = draw-bytes-ends ran ∙ draw-bytes-wide (d .film) (d .width) (d .height) (d .pixels) (d .settings) (d .kept) (d .window) (d .map) (d .out)
-    (sym (ap (λ (z : Shows). drawnSays (z .answer)) (draw-bytes-ends ran)) ∙ done) in
+    (sym (ap (λ (z : DrawOut). drawnSays (z .answer)) (draw-bytes-ends ran)) ∙ done) in
     draw-ready (d .film) (d .width) (d .height) (d .pixels) (d .settings) (d .kept) (d .window) (d .map) (length (d .out))
-    (table-accepted (draw-table (d .film) (d .width) (d .height) (d .pixels) (d .settings) (d .kept) (d .window) (d .map) (d .out)) (sym (ap (λ (z : Shows). drawnSays (z .answer)) wide) ∙ done) .0)
+    (table-accepted (draw-table (d .film) (d .width) (d .height) (d .pixels) (d .settings) (d .kept) (d .window) (d .map) (d .out)) (sym (ap (λ (z : DrawOut). drawnSays (z .answer)) wide) ∙ done) .0)
 
 pub drawn-bytes-bins-reached : {d : DrawCall} → DrawsBytes d → drawnSays (d .answer) ≡ accepted tt → BinsReached (d .settings)
 drawn-bytes-bins-reached ran done = tiled-reached (drawn-bytes-ready ran done .shown .ready .tiled)
@@ -182,19 +182,19 @@ module _ {p : PrepareCall} {foot : Footer} {d : DrawCall} (from : DrawnFromBytes
   made : preparedSays (prepareOf (p .film) (p .width) (p .height) (p .pixels) (p .settings) (p .map) (p .scratch) (p .list) .answer) ≡ accepted (d .kept, foot)
   made = prepare-bytes-done (from .prepares) (from .prepared)
 
-  shows : showing (d .answer) (d .out′) ≡ drawOf (d .film) (d .width) (d .height) (p .pixels) (d .settings) (d .kept) (d .window) (d .map) (d .out)
+  shows : drawLeaves (d .answer) (d .out′) ≡ drawOf (d .film) (d .width) (d .height) (p .pixels) (d .settings) (d .kept) (d .window) (d .map) (d .out)
   shows =
       draw-bytes-ends (from .draws)
       ∙ draw-bytes-wide (d .film) (d .width) (d .height) (d .pixels) (d .settings) (d .kept) (d .window) (d .map) (d .out)
-      (sym (ap (λ (z : Shows). drawnSays (z .answer)) (draw-bytes-ends (from .draws))) ∙ from .drawn)
+      (sym (ap (λ (z : DrawOut). drawnSays (z .answer)) (draw-bytes-ends (from .draws))) ∙ from .drawn)
       ∙ rw (from .pixels) refl
 
   accepts : drawnSays (drawOf (d .film) (d .width) (d .height) (p .pixels) (d .settings) (d .kept) (d .window) (d .map) (d .out) .answer) ≡ accepted tt
-  accepts = sym (ap (λ (z : Shows). drawnSays (z .answer)) shows) ∙ from .drawn
+  accepts = sym (ap (λ (z : DrawOut). drawnSays (z .answer)) shows) ∙ from .drawn
 
   entries : clipOne (p .settings .clip) ≡ false
       → take (entriesOf (p .settings)) (d .map) ≡ take (entriesOf (p .settings)) (prepareOf (p .film) (p .width) (p .height) (p .pixels) (p .settings) (p .map) (p .scratch) (p .list) .map)
-  entries one = from .mappings one ∙ ap (λ (z : Ended). take (entriesOf (p .settings)) (z .map)) (prepare-bytes-as-wide (from .prepares) (from .prepared))
+  entries one = from .mappings one ∙ ap (λ (z : PrepareOut). take (entriesOf (p .settings)) (z .map)) (prepare-bytes-as-wide (from .prepares) (from .prepared))
 
   -- the window lies inside the film
   pub drawn-bytes-inside : (d .window .left + d .window .width ≤ p .width) × (d .window .top + d .window .height ≤ p .height)
@@ -206,12 +206,12 @@ module _ {p : PrepareCall} {foot : Footer} {d : DrawCall} (from : DrawnFromBytes
   pub drawn-bytes-by-rule : clipOne (p .settings .clip) ≡ false → (j i : ℕ) → j < d .window .height → i < d .window .width
       → drawnGrey d i j ≡ ruleGrey (p .width) (p .height) (p .pixels) (p .settings) (d .window .left + i) (d .window .top + j)
   drawn-bytes-by-rule one j i l k =
-      ap (λ (z : Shows). getD (z .out) (j * d .window .width + i) 0) shows
+      ap (λ (z : DrawOut). getD (z .out) (j * d .window .width + i) 0) shows
       ∙ accepted-by-rule (p .film) (p .width) (p .height) (p .pixels) (p .settings) _ _ _ made _ _ _ _ _ (d .window) _ accepts entries one j i l k
 
   -- at the factor 1.0 the film's own pixels
   pub drawn-bytes-as-film : clipOne (p .settings .clip) ≡ true → (j i : ℕ) → j < d .window .height → i < d .window .width
       → drawnGrey d i j ≡ getD (p .pixels) ((d .window .top + j) * p .width + (d .window .left + i)) 0
   drawn-bytes-as-film one j i l k =
-      ap (λ (z : Shows). getD (z .out) (j * d .window .width + i) 0) shows
+      ap (λ (z : DrawOut). getD (z .out) (j * d .window .width + i) 0) shows
       ∙ accepted-as-film (p .film) (p .width) (p .height) (p .pixels) (p .settings) _ _ _ made _ _ _ _ _ (d .window) _ accepts entries one j i l k

@@ -13,9 +13,9 @@ use Rattle.settings.specs.declared.Settings.{Settings}
 use Rattle.settings.specs.declared.MapRecord.{MapRecord}
 use Rattle.settings.specs.declared.Footer.{Footer}
 use Rattle.settings.specs.Settings.{entriesOf, keptOf, clipOne}
-use Rattle.prepare.specs.Prepare.{preparedSays, enhancedSays, Ended}
+use Rattle.prepare.specs.Prepare.{preparedSays, enhancedSays, PrepareOut}
 use Rattle.held.specs.Held.{Held}
-use Rattle.draw.specs.Draw.{drawnSays, Shows}
+use Rattle.draw.specs.Draw.{drawnSays, DrawOut}
 use Rattle.profile.specs.Profile.{profileRows}
 use Rattle.profile.proofs.Profile.{profile-none, profile-kept}
 use Rattle.byte_film.proofs.Endings.{enhance-inside}
@@ -71,16 +71,16 @@ kept-inside s s′ like inside = ap first (sym (profile-kept s′) ∙ ap profil
 pub either-made : {p : PrepareCall} {r : MapRecord} {foot : Footer} → PreparesEither p → preparedSays (p .answer) ≡ accepted (r, foot)
     → Made (p .film) (p .width) (p .height) (p .pixels) (p .settings) r foot (p .map′)
 either-made {p} (inl ran) done =
-    record { map = p .map; scratch = p .scratch; list = p .list; accepts = prepare-accepted ran done; leaves = ap (λ (z : Ended). z .map) (prepare-ends ran) }
+    record { map = p .map; scratch = p .scratch; list = p .list; accepts = prepare-accepted ran done; leaves = ap (λ (z : PrepareOut). z .map) (prepare-ends ran) }
 either-made {p} (inr ran) done =
-    record { map = p .map; scratch = p .scratch; list = p .list; accepts = prepare-bytes-done ran done; leaves = ap (λ (z : Ended). z .map) (prepare-bytes-as-wide ran done) }
+    record { map = p .map; scratch = p .scratch; list = p .list; accepts = prepare-bytes-done ran done; leaves = ap (λ (z : PrepareOut). z .map) (prepare-bytes-as-wide ran done) }
 
 -- a film that prepare on bytes accepted has settings inside the profile
 pub prepared-bytes-inside : {p : PrepareCall} {r : MapRecord} {foot : Footer} → PreparesBytes p → preparedSays (p .answer) ≡ accepted (r, foot) → Inside (p .settings)
 prepared-bytes-inside {p} ran done =
     profile-none (p .settings)
     (prepare-bytes-profile (p .film) (p .width) (p .height) (p .pixels) (p .settings) (p .map) (p .scratch) (p .list)
-    (sym (ap (λ (z : Ended). preparedSays (z .answer)) (prepare-bytes-ends ran)) ∙ done))
+    (sym (ap (λ (z : PrepareOut). preparedSays (z .answer)) (prepare-bytes-ends ran)) ∙ done))
 
 -- with settings inside the profile either draw shows what draw does
 pub either-shown : {d : DrawCall} → DrawsEither d → Inside (d .settings) → Shown d
@@ -95,7 +95,7 @@ accepted-shown {d} (inr ran) done =
     record {
       ends = draw-bytes-ends ran
           ∙ draw-bytes-wide (d .film) (d .width) (d .height) (d .pixels) (d .settings) (d .kept) (d .window) (d .map) (d .out)
-          (sym (ap (λ (z : Shows). drawnSays (z .answer)) (draw-bytes-ends ran)) ∙ done);
+          (sym (ap (λ (z : DrawOut). drawnSays (z .answer)) (draw-bytes-ends ran)) ∙ done);
     }
 
 -- and either enhance renders what enhance does

@@ -10,7 +10,7 @@ use Rattle.refuse.specs.Refuse.{accepted}
 use Rattle.settings.specs.declared.MapRecord.{MapRecord}
 use Rattle.settings.specs.declared.Footer.{Footer}
 use Rattle.settings.specs.Settings.{clipOne}
-use Rattle.prepare.specs.Prepare.{preparedSays, enhancedSays, Ended, Over, enhancedOf}
+use Rattle.prepare.specs.Prepare.{preparedSays, enhancedSays, PrepareOut, EnhanceOut, enhancedOf}
 use Rattle.promises.specs.Fitted.{Fitted, fitGrey, fitMappings, fitFoot, FilmAsBefore}
 use Rattle.promises.proofs.Accepted.{prepare-work, prepare-foot, enhance-work, enhance-done, enhance-foot}
 use Rattle.promises.proofs.Reuse.{left-map}
@@ -30,7 +30,7 @@ module _ {p : PrepareCall} {r : MapRecord} {foot : Footer} (ran : PreparesBytes 
   pub fitted-bytes-prepared : (p .map′ ≡ cond (clipOne (p .settings .clip)) (p .map) (onto (p .map) (fitMappings (p .width) (p .height) (p .pixels) (p .settings))))
       × (foot ≡ fitFoot (p .width) (p .height) (p .settings))
   fitted-bytes-prepared = (
-    ap (λ (z : Ended). z .map) (prepare-bytes-as-wide ran prepared)
+    ap (λ (z : PrepareOut). z .map) (prepare-bytes-as-wide ran prepared)
         ∙ left-map _ _ _ _ _ _ _ _ (prepare-bytes-done ran prepared)
         ∙ ap (λ ys. cond (clipOne (p .settings .clip)) (p .map) (onto (p .map) ys)) (prepared-same .maps),
     sym (prepare-foot _ _ _ _ _ _ _ _ (prepare-bytes-done ran prepared)) ∙ prepared-same .foot,
@@ -52,7 +52,7 @@ module _ {e : EnhanceCall} {foot : Footer} (ran : EnhancesBytes e) (enhanced : e
       × (foot ≡ fitFoot (e .width) (e .height) (e .settings))
   unfolding enhancedOf
   fitted-bytes-enhanced-left = (
-    ap (λ (z : Over). z .map) (enhance-bytes-as-wide ran enhanced ∙ enhance-done _ _ _ _ _ _ (enhance-bytes-done ran enhanced))
+    ap (λ (z : EnhanceOut). z .map) (enhance-bytes-as-wide ran enhanced ∙ enhance-done _ _ _ _ _ _ (enhance-bytes-done ran enhanced))
         ∙ ap (λ ys. cond (clipOne (e .settings .clip)) (e .map) (onto (e .map) ys)) (enhanced-same .maps),
     sym (enhance-foot _ _ _ _ _ _ (enhance-bytes-done ran enhanced)) ∙ enhanced-same .foot,
   )

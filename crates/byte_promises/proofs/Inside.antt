@@ -15,10 +15,10 @@ use Rattle.settings.specs.Settings.{recordOf, sharedRows}
 use Rattle.settings.proofs.Ready.{shared-numbered}
 use Rattle.prepare.specs.declared.Enhanced.the-variants as Enhanced
 use Rattle.tiles.specs.Tiles.{footOf}
-use Rattle.prepare.specs.Prepare.{preparedNot, preparedSays, enhancedSays, Ended, ending, preparedOf, prepareOf, Over, overing, enhancedOf, enhanceOf}
+use Rattle.prepare.specs.Prepare.{preparedNot, preparedSays, enhancedSays, PrepareOut, prepareLeaves, preparedOf, prepareOf, EnhanceOut, enhanceLeaves, enhancedOf, enhanceOf}
 use Rattle.draw.specs.declared.Drawn.the-variants as Drawn
 use Rattle.held.specs.Held.{recordRows, windowRows}
-use Rattle.draw.specs.Draw.{pixelRows, drawRows, drawnPixels, drawnSays, Shows, showing, drawOf}
+use Rattle.draw.specs.Draw.{pixelRows, drawRows, drawnPixels, drawnSays, DrawOut, drawLeaves, drawOf}
 use Rattle.draw.proofs.Tables.{draw-rows}
 use Rattle.profile.specs.Profile.{profileRows, byteRows, Profile}
 use Rattle.profile.proofs.Profile.{byte-numbered, byte-ready, byte-inside, profile-none}
@@ -32,13 +32,13 @@ use Rattle.promises.proofs.Accepted.{ByTable, table-accepted}
 
 module _ (film w h : ℕ) (pic : List ℕ) (s : Settings) (m t n : List ℕ) where
   -- prepare on bytes goes by its own rows
-  pub prepare-bytes-table : ByTable (λ (x : Ended). preparedSays (x .answer)) (first (bytePrepareRows w h pic s (length m) (length t) (length n)))
-      (recordOf film w h s, footOf w h s) (preparedOf film w h pic s m t n) (λ k. ending (preparedNot k) m t n) (bytePrepareOf film w h pic s m t n)
+  pub prepare-bytes-table : ByTable (λ (x : PrepareOut). preparedSays (x .answer)) (first (bytePrepareRows w h pic s (length m) (length t) (length n)))
+      (recordOf film w h s, footOf w h s) (preparedOf film w h pic s m t n) (λ k. prepareLeaves (preparedNot k) m t n) (bytePrepareOf film w h pic s m t n)
   unfolding bytePrepareOf preparedOf preparedSays
   prepare-bytes-table =
       record {
-        when-none = λ z. ap (λ i. unless i (λ k. ending (preparedNot k) m t n) (preparedOf film w h pic s m t n)) z;
-        when-some = λ z. sym (unless-refused _ (λ k. ending (preparedNot k) m t n) (preparedOf film w h pic s m t n) z);
+        when-none = λ z. ap (λ i. unless i (λ k. prepareLeaves (preparedNot k) m t n) (preparedOf film w h pic s m t n)) z;
+        when-some = λ z. sym (unless-refused _ (λ k. prepareLeaves (preparedNot k) m t n) (preparedOf film w h pic s m t n) z);
         says-done = refl;
         says-lent = λ k. refl;
       }
@@ -53,13 +53,13 @@ module _ (film w h : ℕ) (pic : List ℕ) (s : Settings) (m t n : List ℕ) whe
 
 module _ (w h : ℕ) (pic : List ℕ) (s : Settings) (m t : List ℕ) where
   -- enhance on bytes goes by the same rows but 32
-  pub enhance-bytes-table : ByTable (λ (x : Over). enhancedSays (x .answer)) (first (byteEnhanceRows w h pic s (length m) (length t)))
-      (footOf w h s) (enhancedOf w h pic s m t) (λ k. overing (Enhanced.Refused k) pic m t) (byteEnhanceOf w h pic s m t)
+  pub enhance-bytes-table : ByTable (λ (x : EnhanceOut). enhancedSays (x .answer)) (first (byteEnhanceRows w h pic s (length m) (length t)))
+      (footOf w h s) (enhancedOf w h pic s m t) (λ k. enhanceLeaves (Enhanced.Refused k) pic m t) (byteEnhanceOf w h pic s m t)
   unfolding byteEnhanceOf enhancedOf enhancedSays
   enhance-bytes-table =
       record {
-        when-none = λ z. ap (λ k. unless k (λ n. overing (Enhanced.Refused n) pic m t) (enhancedOf w h pic s m t)) z;
-        when-some = λ z. sym (unless-refused _ (λ n. overing (Enhanced.Refused n) pic m t) (enhancedOf w h pic s m t) z);
+        when-none = λ z. ap (λ k. unless k (λ n. enhanceLeaves (Enhanced.Refused n) pic m t) (enhancedOf w h pic s m t)) z;
+        when-some = λ z. sym (unless-refused _ (λ n. enhanceLeaves (Enhanced.Refused n) pic m t) (enhancedOf w h pic s m t) z);
         says-done = refl;
         says-lent = λ k. refl;
       }
@@ -86,16 +86,16 @@ module _ (film w h : ℕ) (pic : List ℕ) (s : Settings) (r : MapRecord) (win :
   pub draw-inside : first (profileRows s) ≡ 0 → byteDrawOf film w h pic s r win m out ≡ drawOf film w h pic s r win m out
   unfolding byteDrawOf drawOf
   draw-inside inside =
-      ap (λ k. unless k (λ n. showing (Drawn.Refused n) out) (showing Drawn.Done (drawnPixels w h pic s win m))) (draw-rows-inside inside)
+      ap (λ k. unless k (λ n. drawLeaves (Drawn.Refused n) out) (drawLeaves Drawn.Done (drawnPixels w h pic s win m))) (draw-rows-inside inside)
 
   -- it goes by its own rows
-  pub draw-bytes-table : ByTable (λ (x : Shows). drawnSays (x .answer)) (first (byteDrawRows film w h pic s r win m (length out))) tt
-      (showing Drawn.Done (drawnPixels w h pic s win m)) (λ k. showing (Drawn.Refused k) out) (byteDrawOf film w h pic s r win m out)
+  pub draw-bytes-table : ByTable (λ (x : DrawOut). drawnSays (x .answer)) (first (byteDrawRows film w h pic s r win m (length out))) tt
+      (drawLeaves Drawn.Done (drawnPixels w h pic s win m)) (λ k. drawLeaves (Drawn.Refused k) out) (byteDrawOf film w h pic s r win m out)
   unfolding byteDrawOf drawnSays
   draw-bytes-table =
       record {
-        when-none = λ z. ap (λ k. unless k (λ n. showing (Drawn.Refused n) out) (showing Drawn.Done (drawnPixels w h pic s win m))) z;
-        when-some = λ z. sym (unless-refused _ (λ n. showing (Drawn.Refused n) out) (showing Drawn.Done (drawnPixels w h pic s win m)) z);
+        when-none = λ z. ap (λ k. unless k (λ n. drawLeaves (Drawn.Refused n) out) (drawLeaves Drawn.Done (drawnPixels w h pic s win m))) z;
+        when-some = λ z. sym (unless-refused _ (λ n. drawLeaves (Drawn.Refused n) out) (drawLeaves Drawn.Done (drawnPixels w h pic s win m)) z);
         says-done = refl;
         says-lent = λ k. refl;
       }

@@ -18,12 +18,12 @@ use Rattle.settings.specs.Settings.{clipOne}
 use Rattle.tally.specs.Tally.{greysOf}
 use Rattle.render.specs.Render.{renderOf, rectOf, whole}
 use Rattle.render.proofs.Laws.{render-within}
-use Rattle.tiles.specs.Tiles.{mappings, Work, TilesAsk}
-use Rattle.prepare.specs.Prepare.{prepareRows, enhanceRows, Ended, preparedOf, prepareOf, Over, enhancedOf, enhanceOf}
+use Rattle.tiles.specs.Tiles.{mappings, Work, TilesReady}
+use Rattle.prepare.specs.Prepare.{prepareRows, enhanceRows, PrepareOut, preparedOf, prepareOf, EnhanceOut, enhancedOf, enhanceOf}
 use Rattle.prepare.proofs.Table.{work, over-work}
 use Rattle.tiles.proofs.Films.{mappings-within}
 use Rattle.prepare.proofs.Renders.{whole-shown, laid-mapped, laid-render}
-use Rattle.draw.specs.Draw.{drawRows, Shows, drawOf, DrawReady}
+use Rattle.draw.specs.Draw.{drawRows, DrawOut, drawOf, DrawReady}
 use Rattle.draw.proofs.Tables.{draw-ready}
 use Rattle.draw.proofs.Works.{render-asks}
 use Rattle.draw.proofs.Like.{drawn-pixels}
@@ -33,14 +33,14 @@ use Rattle.promises.proofs.Accepted.{prepare-table, enhance-table, draw-table}
 
 module _ (w h : ℕ) (pic : List ℕ) (s : Settings) (m t : List ℕ) (most : s .max ≤ 255) (bytes : all isByte pic ≡ true) (entries : all isByte m ≡ true) where
   -- the mappings laid down in a buffer of bytes
-  laid-bytes : TilesAsk w h pic s (length m) (length t) → all isByte (onto m (mappings w h pic s)) ≡ true
+  laid-bytes : TilesReady w h pic s (length m) (length t) → all isByte (onto m (mappings w h pic s)) ≡ true
   unfolding onto
   laid-bytes asks =
       all-both isByte (mappings w h pic s) (drop (length (mappings w h pic s)) m)
       (within-bytes (s .min) (s .max) (mappings w h pic s) most (mappings-within asks)) (all-drop isByte (length (mappings w h pic s)) m entries)
 
   -- the picture rendered from them
-  rendered-bytes : TilesAsk w h pic s (length m) (length t) → all isByte (renderOf w h s (mappings w h pic s) (whole w h) pic) ≡ true
+  rendered-bytes : TilesReady w h pic s (length m) (length t) → all isByte (renderOf w h s (mappings w h pic s) (whole w h) pic) ≡ true
   rendered-bytes asks =
       within-bytes (s .min) (s .max) _ most
       (ap (all (within (s .min) (s .max))) (sym (laid-render m asks refl refl)) ∙ render-within (laid-mapped m asks refl) (whole-shown (asks .work)))
@@ -59,8 +59,8 @@ module _ (w h : ℕ) (pic : List ℕ) (s : Settings) (m t : List ℕ) (most : s 
   prepare-leaves-bytes film n = go (first (prepareRows w h pic s (length m) (length t) (length n))) refl
     where
       go : (k : ℕ) → first (prepareRows w h pic s (length m) (length t) (length n)) ≡ k → all isByte (prepareOf film w h pic s m t n .map) ≡ true
-      go zero z = ap (λ (x : Ended). all isByte (x .map)) (prepare-table film w h pic s m t n .when-none z) ∙ map-bytes (work w h pic s (length m) (length t) (length n) z) (clipOne (s .clip)) refl
-      go (suc k) z = ap (λ (x : Ended). all isByte (x .map)) (prepare-table film w h pic s m t n .when-some (λ q. omega (arith, z, q))) ∙ entries
+      go zero z = ap (λ (x : PrepareOut). all isByte (x .map)) (prepare-table film w h pic s m t n .when-none z) ∙ map-bytes (work w h pic s (length m) (length t) (length n) z) (clipOne (s .clip)) refl
+      go (suc k) z = ap (λ (x : PrepareOut). all isByte (x .map)) (prepare-table film w h pic s m t n .when-some (λ q. omega (arith, z, q))) ∙ entries
 
   -- the picture and the map buffer that enhance leaves
   pub enhance-leaves-bytes : (all isByte (enhanceOf w h pic s m t .picture) ≡ true) × (all isByte (enhanceOf w h pic s m t .map) ≡ true)
@@ -71,12 +71,12 @@ module _ (w h : ℕ) (pic : List ℕ) (s : Settings) (m t : List ℕ) (most : s 
       go zero z =
           let e = enhance-table w h pic s m t .when-none z in
           let known = over-work w h pic s (length m) (length t) z in (
-            ap (λ (x : Over). all isByte (x .picture)) e ∙ picture-bytes known (clipOne (s .clip)) refl,
-            ap (λ (x : Over). all isByte (x .map)) e ∙ map-bytes known (clipOne (s .clip)) refl,
+            ap (λ (x : EnhanceOut). all isByte (x .picture)) e ∙ picture-bytes known (clipOne (s .clip)) refl,
+            ap (λ (x : EnhanceOut). all isByte (x .map)) e ∙ map-bytes known (clipOne (s .clip)) refl,
           )
       go (suc n) z =
           let e = enhance-table w h pic s m t .when-some (λ q. omega (arith, z, q)) in
-          (ap (λ (x : Over). all isByte (x .picture)) e ∙ bytes, ap (λ (x : Over). all isByte (x .map)) e ∙ entries)
+          (ap (λ (x : EnhanceOut). all isByte (x .picture)) e ∙ bytes, ap (λ (x : EnhanceOut). all isByte (x .map)) e ∙ entries)
 
 -- the output that draw leaves
 module _ (film w h : ℕ) (pic : List ℕ) (s : Settings) (r : MapRecord) (win : Window) (m out : List ℕ) (most : s .max ≤ 255) (bytes : all isByte out ≡ true) where
@@ -90,7 +90,7 @@ module _ (film w h : ℕ) (pic : List ℕ) (s : Settings) (r : MapRecord) (win :
 
       go : (n : ℕ) → first (drawRows film w h pic s r win m (length out)) ≡ n → all isByte (drawOf film w h pic s r win m out .out) ≡ true
       go zero z =
-          ap (λ (x : Shows). all isByte (x .out)) (draw-table film w h pic s r win m out .when-none z)
+          ap (λ (x : DrawOut). all isByte (x .out)) (draw-table film w h pic s r win m out .when-none z)
           ∙ ap (all isByte) (drawn-pixels w h pic s win m)
           ∙ pixels (draw-ready film w h pic s r win m (length out) z) (clipOne (s .clip)) refl
-      go (suc n) z = ap (λ (x : Shows). all isByte (x .out)) (draw-table film w h pic s r win m out .when-some (λ q. omega (arith, z, q))) ∙ bytes
+      go (suc n) z = ap (λ (x : DrawOut). all isByte (x .out)) (draw-table film w h pic s r win m out .when-some (λ q. omega (arith, z, q))) ∙ bytes

@@ -12,7 +12,7 @@ use Rattle.settings.specs.declared.MapRecord.{MapRecord}
 use Rattle.settings.specs.declared.Footer.{Footer}
 use Rattle.settings.specs.Settings.{clipOne}
 use Rattle.tiles.specs.Tiles.{spentEntries}
-use Rattle.prepare.specs.Prepare.{preparedSays, Ended, prepareOf}
+use Rattle.prepare.specs.Prepare.{preparedSays, PrepareOut, prepareOf}
 use Rattle.promises.specs.Films.{ClippingOn}
 use Rattle.promises.specs.Looks.{FilmLooks, NoLooks}
 use Rattle.promises.proofs.Looks.{list-looks, list-looks-off, list-kept, list-long, list-behind}
@@ -25,7 +25,7 @@ module _ {p : PrepareCall} {r : MapRecord} {foot : Footer} (ran : PreparesBytes 
   done = prepare-bytes-done ran prepared
 
   listed : p .list′ ≡ prepareOf (p .film) (p .width) (p .height) (p .pixels) (p .settings) (p .map) (p .scratch) (p .list) .list
-  listed = ap (λ (z : Ended). z .list) (prepare-bytes-as-wide ran prepared)
+  listed = ap (λ (z : PrepareOut). z .list) (prepare-bytes-as-wide ran prepared)
 
   -- each tile's E and looks, and their bound, with a factor above one
   pub prepared-bytes-looks : {f : Float} → ClippingOn (p .settings .clip) f → FilmLooks (p .width) (p .height) (p .pixels) (p .settings) f (p .list′)

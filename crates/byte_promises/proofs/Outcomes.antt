@@ -10,8 +10,8 @@ use lib.ListN.{length}
 use Rattle.refuse.specs.Refuse.{first, refused, says}
 use Rattle.settings.specs.Settings.{recordOf, settingRows}
 use Rattle.tiles.specs.Tiles.{footOf}
-use Rattle.prepare.specs.Prepare.{preparedSays, enhancedSays, Ended, Over}
-use Rattle.draw.specs.Draw.{drawnSays, Shows}
+use Rattle.prepare.specs.Prepare.{preparedSays, enhancedSays, PrepareOut, EnhanceOut}
+use Rattle.draw.specs.Draw.{drawnSays, DrawOut}
 use Rattle.profile.specs.Profile.{profileRows}
 use Rattle.profile.proofs.Greys.{byte-at}
 use Rattle.byte_film.specs.Bytes.{bytePrepareRows, byteEnhanceRows, bytePrepareOf, byteEnhanceOf}
@@ -20,7 +20,7 @@ use Rattle.byte_film.proofs.Parts.{bytes-never-13, bytes-never-14, bytes-outsid
 use Rattle.byte_draw.specs.Bytes.{byteDrawRows, byteDrawOf}
 use Rattle.byte_draw.proofs.Parts.{draw-never-13-18, draw-outside}
 use Rattle.promises.proofs.Accepted.{says-refused, refused-says, table-says, table-kept}
-use Rattle.promises.proofs.Runs.{PrepareCall, prepare-given, EnhanceCall, enhance-given, DrawCall, draw-given}
+use Rattle.promises.proofs.Runs.{PrepareCall, prepare-arguments, EnhanceCall, enhance-arguments, DrawCall, draw-arguments}
 use Rattle.byte_promises.proofs.Inside.{prepare-bytes-table, enhance-bytes-table, draw-bytes-table}
 use Rattle.byte_promises.proofs.Runs.{PreparesBytes, prepare-bytes-ends, prepare-bytes-picture, EnhancesBytes, enhance-bytes-ends, enhance-bytes-picture, DrawsBytes, draw-bytes-ends, draw-bytes-lent}
 
@@ -31,18 +31,18 @@ pub prepare-bytes-says : {p : PrepareCall} → PreparesBytes p
     → preparedSays (p .answer)
     ≡ says (first (bytePrepareRows (p .width) (p .height) (p .pixels) (p .settings) (length (p .map)) (length (p .scratch)) (length (p .list))))
     (recordOf (p .film) (p .width) (p .height) (p .settings), footOf (p .width) (p .height) (p .settings))
-prepare-bytes-says ran = ap (λ (y : Ended). preparedSays (y .answer)) (prepare-bytes-ends ran) ∙ table-says (prepare-bytes-table _ _ _ _ _ _ _ _)
+prepare-bytes-says ran = ap (λ (y : PrepareOut). preparedSays (y .answer)) (prepare-bytes-ends ran) ∙ table-says (prepare-bytes-table _ _ _ _ _ _ _ _)
 
 -- enhance on bytes: that of the same rows but 32, or the same footer
 pub enhance-bytes-says : {e : EnhanceCall} → EnhancesBytes e
     → enhancedSays (e .answer)
     ≡ says (first (byteEnhanceRows (e .width) (e .height) (e .pixels) (e .settings) (length (e .map)) (length (e .scratch)))) (footOf (e .width) (e .height) (e .settings))
-enhance-bytes-says ran = ap (λ (y : Over). enhancedSays (y .answer)) (enhance-bytes-ends ran) ∙ table-says (enhance-bytes-table _ _ _ _ _ _)
+enhance-bytes-says ran = ap (λ (y : EnhanceOut). enhancedSays (y .answer)) (enhance-bytes-ends ran) ∙ table-says (enhance-bytes-table _ _ _ _ _ _)
 
 -- draw on bytes: that of its own rows
 pub draw-bytes-says : {d : DrawCall} → DrawsBytes d
     → drawnSays (d .answer) ≡ says (first (byteDrawRows (d .film) (d .width) (d .height) (d .pixels) (d .settings) (d .kept) (d .window) (d .map) (length (d .out)))) tt
-draw-bytes-says ran = ap (λ (y : Shows). drawnSays (y .answer)) (draw-bytes-ends ran) ∙ table-says (draw-bytes-table _ _ _ _ _ _ _ _ _)
+draw-bytes-says ran = ap (λ (y : DrawOut). drawnSays (y .answer)) (draw-bytes-ends ran) ∙ table-says (draw-bytes-table _ _ _ _ _ _ _ _ _)
 
 -- ---- a refusal keeps all lent memory
 
@@ -50,39 +50,39 @@ pub prepare-bytes-refusal-keeps : {p : PrepareCall} (n : ℕ) → PreparesBytes 
     → (p .map′ ≡ p .map) × (p .scratch′ ≡ p .scratch) × (p .list′ ≡ p .list)
 prepare-bytes-refusal-keeps n ran q =
     let x = prepare-bytes-ends ran in
-    let e = x ∙ table-kept (prepare-bytes-table _ _ _ _ _ _ _ _) (sym (ap (λ (y : Ended). preparedSays (y .answer)) x) ∙ q) in
-    (ap (λ (y : Ended). y .map) e, ap (λ (y : Ended). y .scratch) e, ap (λ (y : Ended). y .list) e)
+    let e = x ∙ table-kept (prepare-bytes-table _ _ _ _ _ _ _ _) (sym (ap (λ (y : PrepareOut). preparedSays (y .answer)) x) ∙ q) in
+    (ap (λ (y : PrepareOut). y .map) e, ap (λ (y : PrepareOut). y .scratch) e, ap (λ (y : PrepareOut). y .list) e)
 
 pub enhance-bytes-refusal-keeps : {e : EnhanceCall} (n : ℕ) → EnhancesBytes e → enhancedSays (e .answer) ≡ refused n
     → (e .pixels′ ≡ e .pixels) × (e .map′ ≡ e .map) × (e .scratch′ ≡ e .scratch)
 enhance-bytes-refusal-keeps n ran q =
     let x = enhance-bytes-ends ran in
-    let k = x ∙ table-kept (enhance-bytes-table _ _ _ _ _ _) (sym (ap (λ (y : Over). enhancedSays (y .answer)) x) ∙ q) in
-    (ap (λ (y : Over). y .picture) k, ap (λ (y : Over). y .map) k, ap (λ (y : Over). y .scratch) k)
+    let k = x ∙ table-kept (enhance-bytes-table _ _ _ _ _ _) (sym (ap (λ (y : EnhanceOut). enhancedSays (y .answer)) x) ∙ q) in
+    (ap (λ (y : EnhanceOut). y .picture) k, ap (λ (y : EnhanceOut). y .map) k, ap (λ (y : EnhanceOut). y .scratch) k)
 
 pub draw-bytes-refusal-keeps : {d : DrawCall} (n : ℕ) → DrawsBytes d → drawnSays (d .answer) ≡ refused n → d .out′ ≡ d .out
 draw-bytes-refusal-keeps n ran q =
     let x = draw-bytes-ends ran in
-    ap (λ (y : Shows). y .out) (x ∙ table-kept (draw-bytes-table _ _ _ _ _ _ _ _ _) (sym (ap (λ (y : Shows). drawnSays (y .answer)) x) ∙ q))
+    ap (λ (y : DrawOut). y .out) (x ∙ table-kept (draw-bytes-table _ _ _ _ _ _ _ _ _) (sym (ap (λ (y : DrawOut). drawnSays (y .answer)) x) ∙ q))
 
 -- ---- one outcome only
 
-pub prepare-bytes-determined : {p q : PrepareCall} → PreparesBytes p → PreparesBytes q → prepare-given p ≡ prepare-given q
+pub prepare-bytes-determined : {p q : PrepareCall} → PreparesBytes p → PreparesBytes q → prepare-arguments p ≡ prepare-arguments q
     → (p .answer ≡ q .answer) × (p .map′ ≡ q .map′) × (p .scratch′ ≡ q .scratch′) × (p .list′ ≡ q .list′)
 prepare-bytes-determined x y same =
     let e = prepare-bytes-ends x ∙ ap (λ g. bytePrepareOf (g .0) (g .1) (g .2) (g .3) (g .4) (g .5) (g .6) (g .7)) same ∙ sym (prepare-bytes-ends y) in
-    (ap (λ (z : Ended). z .answer) e, ap (λ (z : Ended). z .map) e, ap (λ (z : Ended). z .scratch) e, ap (λ (z : Ended). z .list) e)
+    (ap (λ (z : PrepareOut). z .answer) e, ap (λ (z : PrepareOut). z .map) e, ap (λ (z : PrepareOut). z .scratch) e, ap (λ (z : PrepareOut). z .list) e)
 
-pub enhance-bytes-determined : {e f : EnhanceCall} → EnhancesBytes e → EnhancesBytes f → enhance-given e ≡ enhance-given f
+pub enhance-bytes-determined : {e f : EnhanceCall} → EnhancesBytes e → EnhancesBytes f → enhance-arguments e ≡ enhance-arguments f
     → (e .answer ≡ f .answer) × (e .pixels′ ≡ f .pixels′) × (e .map′ ≡ f .map′) × (e .scratch′ ≡ f .scratch′)
 enhance-bytes-determined x y same =
     let k = enhance-bytes-ends x ∙ ap (λ g. byteEnhanceOf (g .0) (g .1) (g .2) (g .3) (g .4) (g .5)) same ∙ sym (enhance-bytes-ends y) in
-    (ap (λ (z : Over). z .answer) k, ap (λ (z : Over). z .picture) k, ap (λ (z : Over). z .map) k, ap (λ (z : Over). z .scratch) k)
+    (ap (λ (z : EnhanceOut). z .answer) k, ap (λ (z : EnhanceOut). z .picture) k, ap (λ (z : EnhanceOut). z .map) k, ap (λ (z : EnhanceOut). z .scratch) k)
 
-pub draw-bytes-determined : {d f : DrawCall} → DrawsBytes d → DrawsBytes f → draw-given d ≡ draw-given f → (d .answer ≡ f .answer) × (d .out′ ≡ f .out′)
+pub draw-bytes-determined : {d f : DrawCall} → DrawsBytes d → DrawsBytes f → draw-arguments d ≡ draw-arguments f → (d .answer ≡ f .answer) × (d .out′ ≡ f .out′)
 draw-bytes-determined x y same =
     let e = draw-bytes-ends x ∙ ap (λ g. byteDrawOf (g .0) (g .1) (g .2) (g .3) (g .4) (g .5) (g .6) (g .7) (g .8)) same ∙ sym (draw-bytes-ends y) in
-    (ap (λ (z : Shows). z .answer) e, ap (λ (z : Shows). z .out) e)
+    (ap (λ (z : DrawOut). z .answer) e, ap (λ (z : DrawOut). z .out) e)
 
 -- ---- 13 and 18 are never given: bytes lie in 0 to 255
 

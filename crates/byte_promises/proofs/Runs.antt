@@ -8,8 +8,8 @@ use mathlib.Core.Path.{_≡_}
 use denote.Ref.{now}
 use Rattle.lists.specs.Lists.{onto, all}
 use Rattle.refuse.specs.Run.{Run, Ran}
-use Rattle.prepare.specs.Prepare.{ending, overing}
-use Rattle.draw.specs.Draw.{showing}
+use Rattle.prepare.specs.Prepare.{prepareLeaves, enhanceLeaves}
+use Rattle.draw.specs.Draw.{drawLeaves}
 use Rattle.narrow.specs.Narrow.{isByte}
 use Rattle.narrow.proofs.widen.Kinds as widen
 use Rattle.narrow.proofs.widen.Reads as widen-reads
@@ -38,7 +38,7 @@ abbrev pub PreparesBytes : PrepareCall → Type 0
 PreparesBytes = Ran prepare-bytes-values
 
 pub prepare-bytes-ends : {p : PrepareCall} → PreparesBytes p
-    → ending (p .answer) (p .map′) (p .scratch′) (p .list′) ≡ bytePrepareOf (p .film) (p .width) (p .height) (p .pixels) (p .settings) (p .map) (p .scratch) (p .list)
+    → prepareLeaves (p .answer) (p .map′) (p .scratch′) (p .list′) ≡ bytePrepareOf (p .film) (p .width) (p .height) (p .pixels) (p .settings) (p .map) (p .scratch) (p .list)
 prepare-bytes-ends ran = rw (ran .named) (ran .run .allowed .0)
 
 -- its picture holds bytes
@@ -56,7 +56,7 @@ abbrev pub EnhancesBytes : EnhanceCall → Type 0
 EnhancesBytes = Ran enhance-bytes-values
 
 pub enhance-bytes-ends : {e : EnhanceCall} → EnhancesBytes e
-    → overing (e .answer) (e .pixels′) (e .map′) (e .scratch′) ≡ byteEnhanceOf (e .width) (e .height) (e .pixels) (e .settings) (e .map) (e .scratch)
+    → enhanceLeaves (e .answer) (e .pixels′) (e .map′) (e .scratch′) ≡ byteEnhanceOf (e .width) (e .height) (e .pixels) (e .settings) (e .map) (e .scratch)
 enhance-bytes-ends ran = rw (ran .named) (ran .run .allowed .0)
 
 -- its picture holds bytes
@@ -74,7 +74,7 @@ abbrev pub DrawsBytes : DrawCall → Type 0
 DrawsBytes = Ran draw-bytes-values
 
 pub draw-bytes-ends : {d : DrawCall} → DrawsBytes d
-    → showing (d .answer) (d .out′) ≡ byteDrawOf (d .film) (d .width) (d .height) (d .pixels) (d .settings) (d .kept) (d .window) (d .map) (d .out)
+    → drawLeaves (d .answer) (d .out′) ≡ byteDrawOf (d .film) (d .width) (d .height) (d .pixels) (d .settings) (d .kept) (d .window) (d .map) (d .out)
 draw-bytes-ends ran = rw (ran .named) (ran .run .allowed .0)
 
 -- its picture and its map buffer hold bytes

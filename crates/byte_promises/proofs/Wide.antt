@@ -10,8 +10,8 @@ use lib.ListN.{length}
 use Rattle.lists.specs.Lists.{all}
 use Rattle.lists.proofs.Maps.{onto-whole}
 use Rattle.refuse.specs.Refuse.{first}
-use Rattle.prepare.specs.Prepare.{ending, Ended, prepareOf, overing, Over, enhanceOf}
-use Rattle.draw.specs.Draw.{showing, Shows, drawOf}
+use Rattle.prepare.specs.Prepare.{prepareLeaves, PrepareOut, prepareOf, enhanceLeaves, EnhanceOut, enhanceOf}
+use Rattle.draw.specs.Draw.{drawLeaves, DrawOut, drawOf}
 use Rattle.narrow.specs.Narrow.{isByte}
 use Rattle.profile.specs.Profile.{profileRows}
 use Rattle.profile.proofs.Profile.{profile}
@@ -61,18 +61,18 @@ pub record PrepareOver (b p : PrepareCall) : Type 0 where
 pub widened-prepare : {b p : PrepareCall} {map″ : List ℕ} → PreparesBytes b → Prepares p → first (profileRows (b .settings)) ≡ 0 → PrepareOver b p → Narrowed (p .map′) map″
     → (b .answer ≡ p .answer) × (b .map′ ≡ map″) × (b .scratch′ ≡ p .scratch′) × (b .list′ ≡ p .list′)
 widened-prepare {b} {p} ran wide inside way back =
-    let x : ending (p .answer) (p .map′) (p .scratch′) (p .list′) ≡ prepareOf (p .film) (p .width) (p .height) (p .pixels) (p .settings) (p .map) (p .scratch) (p .list) = prepare-ends wide in
-    let e : ending (b .answer) (b .map′) (b .scratch′) (b .list′) ≡ ending (p .answer) (p .map′) (p .scratch′) (p .list′) =
+    let x : prepareLeaves (p .answer) (p .map′) (p .scratch′) (p .list′) ≡ prepareOf (p .film) (p .width) (p .height) (p .pixels) (p .settings) (p .map) (p .scratch) (p .list) = prepare-ends wide in
+    let e : prepareLeaves (b .answer) (b .map′) (b .scratch′) (b .list′) ≡ prepareLeaves (p .answer) (p .map′) (p .scratch′) (p .list′) =
     prepare-bytes-ends ran
     ∙ prepare-inside (b .film) (b .width) (b .height) (b .pixels) (b .settings) (b .map) (b .scratch) (b .list) inside
     ∙ sym (x ∙ rw (way .film, way .width, way .height, way .settings, way .scratch, way .list, widened-same (way .pixels), widened-same (way .map)) refl) in
-    (ap (λ (z : Ended). z .answer) e, ap (λ (z : Ended). z .map) e ∙ sym (narrowed-same back), ap (λ (z : Ended). z .scratch) e, ap (λ (z : Ended). z .list) e)
+    (ap (λ (z : PrepareOut). z .answer) e, ap (λ (z : PrepareOut). z .map) e ∙ sym (narrowed-same back), ap (λ (z : PrepareOut). z .scratch) e, ap (λ (z : PrepareOut). z .list) e)
 
 -- and what narrow asks of the map buffer is met, where film and map buffer were bytes
 pub prepare-narrow-met : {b p : PrepareCall} → Prepares p → first (profileRows (b .settings)) ≡ 0 → PrepareOver b p → all isByte (b .pixels) ≡ true → all isByte (b .map) ≡ true
     → all isByte (p .map′) ≡ true
 prepare-narrow-met {b} {p} wide inside way bytes entries =
-    ap (λ (z : Ended). all isByte (z .map)) (prepare-ends wide)
+    ap (λ (z : PrepareOut). all isByte (z .map)) (prepare-ends wide)
     ∙ rw (way .width, way .height, way .settings, way .scratch, widened-same (way .pixels), widened-same (way .map))
     (prepare-leaves-bytes (b .width) (b .height) (b .pixels) (b .settings) (b .map) (b .scratch) (le-of-eq (profile (b .settings) inside .max)) bytes entries (p .film) (p .list))
 
@@ -91,21 +91,21 @@ pub widened-enhance : {b e : EnhanceCall} {pixels″ map″ : List ℕ} → Enha
     → Narrowed (e .pixels′) pixels″ → Narrowed (e .map′) map″
     → (b .answer ≡ e .answer) × (b .pixels′ ≡ pixels″) × (b .map′ ≡ map″) × (b .scratch′ ≡ e .scratch′)
 widened-enhance {b} {e} ran wide inside way picture back =
-    let x : overing (e .answer) (e .pixels′) (e .map′) (e .scratch′) ≡ enhanceOf (e .width) (e .height) (e .pixels) (e .settings) (e .map) (e .scratch) = enhance-ends wide in
-    let k : overing (b .answer) (b .pixels′) (b .map′) (b .scratch′) ≡ overing (e .answer) (e .pixels′) (e .map′) (e .scratch′) =
+    let x : enhanceLeaves (e .answer) (e .pixels′) (e .map′) (e .scratch′) ≡ enhanceOf (e .width) (e .height) (e .pixels) (e .settings) (e .map) (e .scratch) = enhance-ends wide in
+    let k : enhanceLeaves (b .answer) (b .pixels′) (b .map′) (b .scratch′) ≡ enhanceLeaves (e .answer) (e .pixels′) (e .map′) (e .scratch′) =
     enhance-bytes-ends ran
     ∙ enhance-inside (b .width) (b .height) (b .pixels) (b .settings) (b .map) (b .scratch) inside
     ∙ sym (x ∙ rw (way .width, way .height, way .settings, way .scratch, widened-same (way .pixels), widened-same (way .map)) refl) in
-    (ap (λ (z : Over). z .answer) k, ap (λ (z : Over). z .picture) k ∙ sym (narrowed-same picture), ap (λ (z : Over). z .map) k ∙ sym (narrowed-same back), ap (λ (z : Over). z .scratch) k)
+    (ap (λ (z : EnhanceOut). z .answer) k, ap (λ (z : EnhanceOut). z .picture) k ∙ sym (narrowed-same picture), ap (λ (z : EnhanceOut). z .map) k ∙ sym (narrowed-same back), ap (λ (z : EnhanceOut). z .scratch) k)
 
 -- and what narrow asks of picture and map buffer is met
 pub enhance-narrow-met : {b e : EnhanceCall} → Enhances e → first (profileRows (b .settings)) ≡ 0 → EnhanceOver b e → all isByte (b .pixels) ≡ true → all isByte (b .map) ≡ true
     → (all isByte (e .pixels′) ≡ true) × (all isByte (e .map′) ≡ true)
 enhance-narrow-met {b} {e} wide inside way bytes entries =
-    let x : overing (e .answer) (e .pixels′) (e .map′) (e .scratch′) ≡ enhanceOf (b .width) (b .height) (b .pixels) (b .settings) (b .map) (b .scratch) =
+    let x : enhanceLeaves (e .answer) (e .pixels′) (e .map′) (e .scratch′) ≡ enhanceOf (b .width) (b .height) (b .pixels) (b .settings) (b .map) (b .scratch) =
     enhance-ends wide ∙ rw (way .width, way .height, way .settings, way .scratch, widened-same (way .pixels), widened-same (way .map)) refl in
     let left = enhance-leaves-bytes (b .width) (b .height) (b .pixels) (b .settings) (b .map) (b .scratch) (le-of-eq (profile (b .settings) inside .max)) bytes entries in
-    (ap (λ (z : Over). all isByte (z .picture)) x ∙ left .0, ap (λ (z : Over). all isByte (z .map)) x ∙ left .1)
+    (ap (λ (z : EnhanceOut). all isByte (z .picture)) x ∙ left .0, ap (λ (z : EnhanceOut). all isByte (z .map)) x ∙ left .1)
 
 -- ---- draw
 
@@ -124,16 +124,16 @@ pub record DrawOver (b d : DrawCall) : Type 0 where
 pub widened-draw : {b d : DrawCall} {out″ : List ℕ} → DrawsBytes b → Draws d → first (profileRows (b .settings)) ≡ 0 → DrawOver b d → Narrowed (d .out′) out″
     → (b .answer ≡ d .answer) × (b .out′ ≡ out″)
 widened-draw {b} {d} ran wide inside way back =
-    let x : showing (d .answer) (d .out′) ≡ drawOf (d .film) (d .width) (d .height) (d .pixels) (d .settings) (d .kept) (d .window) (d .map) (d .out) = draw-ends wide in
-    let e : showing (b .answer) (b .out′) ≡ showing (d .answer) (d .out′) =
+    let x : drawLeaves (d .answer) (d .out′) ≡ drawOf (d .film) (d .width) (d .height) (d .pixels) (d .settings) (d .kept) (d .window) (d .map) (d .out) = draw-ends wide in
+    let e : drawLeaves (b .answer) (b .out′) ≡ drawLeaves (d .answer) (d .out′) =
     draw-bytes-ends ran
     ∙ draw-inside (b .film) (b .width) (b .height) (b .pixels) (b .settings) (b .kept) (b .window) (b .map) (b .out) inside
     ∙ sym (x ∙ rw (way .film, way .width, way .height, way .settings, way .kept, way .window, widened-same (way .pixels), widened-same (way .map), widened-same (way .out)) refl) in
-    (ap (λ (z : Shows). z .answer) e, ap (λ (z : Shows). z .out) e ∙ sym (narrowed-same back))
+    (ap (λ (z : DrawOut). z .answer) e, ap (λ (z : DrawOut). z .out) e ∙ sym (narrowed-same back))
 
 -- and what narrow asks of the output is met
 pub draw-narrow-met : {b d : DrawCall} → Draws d → first (profileRows (b .settings)) ≡ 0 → DrawOver b d → all isByte (b .out) ≡ true → all isByte (d .out′) ≡ true
 draw-narrow-met {b} {d} wide inside way bytes =
-    ap (λ (z : Shows). all isByte (z .out)) (draw-ends wide)
+    ap (λ (z : DrawOut). all isByte (z .out)) (draw-ends wide)
     ∙ rw (way .film, way .width, way .height, way .settings, way .kept, way .window, widened-same (way .pixels), widened-same (way .map), widened-same (way .out))
     (draw-leaves-bytes (b .film) (b .width) (b .height) (b .pixels) (b .settings) (b .kept) (b .window) (b .map) (b .out) (le-of-eq (profile (b .settings) inside .max)) bytes)

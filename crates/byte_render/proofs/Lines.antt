@@ -19,7 +19,7 @@ use Rattle.scan.proofs.Spans.{within-high}
 use Rattle.grid.specs.Grid.{Fits}
 use Rattle.settings.specs.declared.Settings.{Settings}
 use Rattle.settings.specs.declared.Window.{Window}
-use Rattle.render.specs.Render.{columnPlace, rowPlace, pixelOf, rowOf, Mapped, Shown, RowAsks}
+use Rattle.render.specs.Render.{columnPlace, rowPlace, pixelOf, rowOf, Mapped, Shown, RenderRowAsks}
 use Rattle.render.proofs.Pixels.{pixel-within}
 use Rattle.render.proofs.Rows.{grey-asks}
 use Rattle.render.proofs.Strips.{strip, strip-room, strip-asks, strips-length}
@@ -51,7 +51,7 @@ module _ {w h : ℕ} {s : Settings} {m : List ℕ} {left y : ℕ} {vs : List ℕ
     line-size = sym (ap length front)
 
     -- what rendering it asks
-    pub line-asks : Fits h (s .down) × (y < h) × RowAsks w s m left (rowPlace h s y) (take (length vs) line)
+    pub line-asks : Fits h (s .down) × (y < h) × RenderRowAsks w s m left (rowPlace h s y) (take (length vs) line)
     line-asks = rw front (asks .rows, asks .below, asks .row)
 
     module _ {ys : List ℕ} (e : ys ≡ rowOf w s m left (rowPlace h s y) (take (length vs) line)) where

@@ -14,10 +14,10 @@ use Rattle.settings.specs.declared.Window.{Window}
 use Rattle.settings.specs.Settings.{binsOf, entriesOf}
 use Rattle.render.specs.Render.{renderOf, Mapped}
 use Rattle.render.proofs.Laws.{render-front}
-use Rattle.byte_render.specs.Bytes.{ByteAsks, FromAsks}
+use Rattle.byte_render.specs.Bytes.{ByteAsks, RenderFromAsks}
 
 -- b is the bins as `settings::bins` gives them
-module _ {w h : ℕ} {s : Settings} {m : List ℕ} {win : Window} {vs : List ℕ} {b : ℕ} (asks : FromAsks w h s m win vs) (bins : b ≡ binsOf s) where
+module _ {w h : ℕ} {s : Settings} {m : List ℕ} {win : Window} {vs : List ℕ} {b : ℕ} (asks : RenderFromAsks w h s m win vs) (bins : b ≡ binsOf s) where
   -- the mappings' entries by them
   counted : s .across * s .down * b ≡ entriesOf s
   counted = ap (λ n. s .across * s .down * n) bins

@@ -8,13 +8,13 @@ use Rattle.grid.specs.Grid.{Fits}
 use Rattle.settings.specs.declared.Settings.{Settings}
 use Rattle.settings.specs.declared.Window.{Window}
 use Rattle.settings.specs.Settings.{entriesOf}
-use Rattle.render.specs.Render.{rowPlace, Mapped, Shown, RowAsks}
+use Rattle.render.specs.Render.{rowPlace, Mapped, Shown, RenderRowAsks}
 
 -- what a row of bytes asks: what a row asks, a Max that is a byte ("Min 0, Max 255"), and a line that the row fits
 pub record ByteRowAsks (w h : ℕ) (s : Settings) (m : List ℕ) (left y : ℕ) (vs : List ℕ) (room : ℕ) : Type 0 where
   pub rows : Fits h (s .down)
   pub below : y < h
-  pub row : RowAsks w s m left (rowPlace h s y) vs
+  pub row : RenderRowAsks w s m left (rowPlace h s y) vs
   pub bytes : s .max ≤ 255
   pub fitting : length vs ≤ room
 
@@ -27,7 +27,7 @@ pub record ByteAsks (w h : ℕ) (s : Settings) (m : List ℕ) (win : Window) (vs
 
 -- what a window of bytes asks where the mappings are bytes too: what a window asks, a Max that is a byte, and mappings and rows that fit
 -- the function's own room: "grid 8 by 8 only, bins 64, 128 (or 0) or 256" make 16384 entries at most, and a film is 4096 wide at most
-pub record FromAsks (w h : ℕ) (s : Settings) (m : List ℕ) (win : Window) (vs : List ℕ) : Type 0 where
+pub record RenderFromAsks (w h : ℕ) (s : Settings) (m : List ℕ) (win : Window) (vs : List ℕ) : Type 0 where
   pub mapped : Mapped w h s m
   pub shown : Shown w h s win vs
   pub bytes : s .max ≤ 255

@@ -3,8 +3,8 @@ ghost use mathlib.Core.Path.{_≡_};
 ghost use lib.ListN.{length};
 ghost use Rattle.tally.specs.Tally.{greysOf};
 ghost use Rattle.render.specs.Render.{rowPlace, rowOf, renderOf, rectOf};
-ghost use Rattle.frame.specs.Frame.{CopyAsks};
-ghost use Rattle.byte_render.specs.Bytes.{ByteRowAsks, ByteAsks, FromAsks};
+ghost use Rattle.frame.specs.Frame.{CopyWindowAsks};
+ghost use Rattle.byte_render.specs.Bytes.{ByteRowAsks, ByteAsks, RenderFromAsks};
 use settings::Settings;
 use settings::Window;
 
@@ -65,7 +65,7 @@ fn render(
 
 // Renders a window's bytes in place from a map buffer of bytes: owns the line, the wide mappings and the table, two entries for each of the at most 256 bins of bytes.
 pub fn render_from(pixels: &mut [u8], win: Window, width: u32, height: u32, s: Settings, map: &[u8])
-    requires { ⌜ FromAsks width height s (now map) win (now pixels) ⌝ }
+    requires { ⌜ RenderFromAsks width height s (now map) win (now pixels) ⌝ }
     ensures { λ _. ⌜ now (pixels .exit) ≡ renderOf width height s (now (map .entry)) win (now (pixels .entry)) ⌝ }
 {
     let mut line = [0u16; 4096];
@@ -78,7 +78,7 @@ pub fn render_from(pixels: &mut [u8], win: Window, width: u32, height: u32, s: S
 
 // Copies the window's bytes to the output, row by row.
 pub fn copy_window(picture: &[u8], stride: usize, win: Window, out: &mut [u8])
-    requires { ⌜ CopyAsks (now picture) stride win (now out) ⌝ }
+    requires { ⌜ CopyWindowAsks (now picture) stride win (now out) ⌝ }
     ensures { λ _. ⌜ now (out .exit) ≡ greysOf (now (picture .entry)) stride (rectOf win) ⌝ }
 {
     let wide = win.width as usize;

@@ -17,13 +17,13 @@ use Rattle.limit.specs.declared.Edition.{Edition}
 use Rattle.scan.specs.Scan.{within}
 use Rattle.scan.proofs.Spans.{within-high}
 use Rattle.tally.specs.declared.Rect.{Rect}
-use Rattle.tally.specs.Tally.{greysOf, countsOf, FourAsks, FourAdded, RowsAsks}
+use Rattle.tally.specs.Tally.{greysOf, countsOf, FourAsks, FourAdded, CountRowsAsks}
 use Rattle.tally.proofs.Greys.{inside-part, length-row}
 use Rattle.clip.specs.declared.Spent.{Spent}
-use Rattle.tile.specs.Tile.{clippedBy, countsMapping, spentBy, FromAsks, TileMapped}
+use Rattle.tile.specs.Tile.{clippedBy, countsMapping, spentBy, FromCountsAsks, TileMapped}
 use Rattle.tile.proofs.Tiles.{length-counts-mapping, counts-mapping-within, tile-part, tile-asks, tile-mapped}
 use Rattle.narrow.specs.Narrow.{isByte}
-use Rattle.byte_tile.specs.ByteTile.{ByteTileAsks}
+use Rattle.byte_tile.specs.ByteTile.{ByteMappingAsks}
 
 -- ---- one row
 
@@ -45,7 +45,7 @@ module _ (d row : List ℕ) {line : List ℕ} (e : line ≡ onto d row) where
     line-added {a′} {b′} {c′} {x′} so = subst (λ t. FourAdded t lo hi n a b c x a′ b′ c′ x′) line-row so
 
 -- a row of the rectangle is no longer than the line
-pub row-fits : {pic : List ℕ} {stride : ℕ} {r : Rect} {lo hi n factor : ℕ} {a b c d : List ℕ} {wide : ℕ} → RowsAsks pic stride r lo hi n factor a b c d → r .width ≤ wide
+pub row-fits : {pic : List ℕ} {stride : ℕ} {r : Rect} {lo hi n factor : ℕ} {a b c d : List ℕ} {wide : ℕ} → CountRowsAsks pic stride r lo hi n factor a b c d → r .width ≤ wide
     → (y : ℕ) → y < r .height
     → length (take ((r .top + y) * stride + r .left + r .width - ((r .top + y) * stride + r .left)) (drop ((r .top + y) * stride + r .left) pic)) ≤ wide
 row-fits {pic} {stride} {r} asks h y l = omega (arith, ap length (inside-part pic stride r (asks .asks .inside) y l) ∙ length-row pic stride r y)
@@ -56,14 +56,14 @@ row-fits {pic} {stride} {r} asks h y l = omega (arith, ap length (inside-part pi
 pub within-bytes : (lo hi : ℕ) (vs : List ℕ) → hi ≤ 255 → all (within lo hi) vs ≡ true → all isByte vs ≡ true
 within-bytes lo hi vs h e = all-from isByte vs 0 (λ i l. lt-ltb (getD vs i 0) 256 (omega (arith, within-high lo hi (getD vs i 0) (all-at (within lo hi) vs e i 0 l))))
 
-module _ {pic : List ℕ} {stride : ℕ} {r : Rect} {lo hi b : ℕ} {clip : Clip} {scratch out : ℕ} (asks : ByteTileAsks pic stride r lo hi b clip scratch out)
+module _ {pic : List ℕ} {stride : ℕ} {r : Rect} {lo hi b : ℕ} {clip : Clip} {scratch out : ℕ} (asks : ByteMappingAsks pic stride r lo hi b clip scratch out)
     (d : List ℕ) {s : List ℕ} (e : s ≡ onto d (countsOf lo hi b (greysOf pic stride r))) (l : List ℕ) (k : length l ≡ 256) where
   -- the front of the line has room for the mapping
   pub line-room : b ≡ length (take b l)
   line-room = sym (length-take-le b l (omega (arith, asks .few)))
 
   -- what clipping and mapping the counts into it asks
-  pub byte-asks : FromAsks clip (r .width * r .height) lo hi (take b s) (length (take b l))
+  pub byte-asks : FromCountsAsks clip (r .width * r .height) lo hi (take b s) (length (take b l))
   byte-asks = tile-asks record { counts = asks .tile .counts; holds = asks .tile .holds; room = omega (arith, line-room) } d e
 
   module _ (ed : Edition) {o : List ℕ} (h : o ≡ onto (take b l) (countsMapping lo hi ed clip (r .width * r .height) (take b s))) where

@@ -3,9 +3,9 @@ ghost use mathlib.Core.Path.{_≡_};
 ghost use Prim.Native.Nat.{_≤_};
 ghost use lib.ListN.{length};
 ghost use Rattle.lists.specs.Lists.{onto};
-ghost use Rattle.tally.specs.Tally.{greysOf, countsOf, FourAsks, FourAdded, RowsAsks, CountAsks};
+ghost use Rattle.tally.specs.Tally.{greysOf, countsOf, FourAsks, FourAdded, CountRowsAsks, CountRectAsks};
 ghost use Rattle.tile.specs.Tile.{TileMapped};
-ghost use Rattle.byte_tile.specs.ByteTile.{ByteTileAsks};
+ghost use Rattle.byte_tile.specs.ByteTile.{ByteMappingAsks};
 use clip::Spent;
 use limit::Clip;
 use limit::Edition;
@@ -47,7 +47,7 @@ fn count_rows(
     c: &mut [u32],
     d: &mut [u32],
 )
-    requires { ⌜ RowsAsks (now picture) stride rect min max bins factor (now a) (now b) (now c) (now d) × (rect .width ≤ length (now line)) ⌝ }
+    requires { ⌜ CountRowsAsks (now picture) stride rect min max bins factor (now a) (now b) (now c) (now d) × (rect .width ≤ length (now line)) ⌝ }
     ensures { λ _. ⌜ FourAdded (greysOf (now (picture .entry)) stride rect) min max bins (now (a .entry)) (now (b .entry)) (now (c .entry)) (now (d .entry)) (now (a .exit)) (now (b .exit)) (now (c .exit)) (now (d .exit)) ⌝ }
 {
     let mut y = 0;
@@ -69,7 +69,7 @@ pub fn count(
     bins: u32,
     counts: &mut [u32],
 )
-    requires { ⌜ CountAsks (now picture) stride rect min max bins (length (now counts)) × (bins ≤ 256) × (rect .width ≤ 4096) ⌝ }
+    requires { ⌜ CountRectAsks (now picture) stride rect min max bins (length (now counts)) × (bins ≤ 256) × (rect .width ≤ 4096) ⌝ }
     ensures { λ _. ⌜ now (counts .exit) ≡ onto (now (counts .entry)) (countsOf min max bins (greysOf (now (picture .entry)) stride rect)) ⌝ }
 {
     let factor = binning::bin_factor(min, max, bins);
@@ -108,7 +108,7 @@ pub fn mapping(
     out: &mut [u8],
     edition: Edition,
 ) -> Spent
-    requires { ⌜ ByteTileAsks (now picture) stride rect min max bins clip (length (now scratch)) (length (now out)) ⌝ }
+    requires { ⌜ ByteMappingAsks (now picture) stride rect min max bins clip (length (now scratch)) (length (now out)) ⌝ }
     ensures { λ r. ⌜ TileMapped min max bins edition clip (greysOf (now (picture .entry)) stride rect) (now (scratch .entry)) (now (scratch .exit)) (now (out .entry)) (now (out .exit)) r ⌝ }
 {
     let pixels = (rect.width * rect.height) as u32;

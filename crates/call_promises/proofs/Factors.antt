@@ -16,7 +16,7 @@ use Rattle.settings.specs.Settings.{binsOf, clipBad, clipOne, sameClip}
 use Rattle.settings.proofs.Parts.{bins-alike, setting-alike}
 use Rattle.prepare.specs.Prepare.{preparedSays, enhancedSays, prepareRows, enhanceRows}
 use Rattle.prepare.proofs.Alike.{listed-alike, over-alike, table-alike}
-use Rattle.counting.specs.Counting.{Alike}
+use Rattle.counting.specs.Counting.{AlikeButClip}
 use Rattle.counts.specs.Counts.{mapRows}
 use Rattle.counts.proofs.Tables.{map-alike}
 use Rattle.held.proofs.Laws.{reclipped, reclippedRecord}
@@ -62,7 +62,7 @@ pub record PreparesAlike (p q : PrepareCall) : Type 0 where
   pub width : p .width ≡ q .width
   pub height : p .height ≡ q .height
   pub pixels : p .pixels ≡ q .pixels
-  pub settings : Alike (p .settings) (q .settings)
+  pub settings : AlikeButClip (p .settings) (q .settings)
   pub map : length (p .map) ≡ length (q .map)
   pub scratch : length (p .scratch) ≡ length (q .scratch)
   pub list : length (p .list) ≡ length (q .list)
@@ -101,7 +101,7 @@ pub record EnhancesAlike (e f : EnhanceCall) : Type 0 where
   pub width : e .width ≡ f .width
   pub height : e .height ≡ f .height
   pub pixels : e .pixels ≡ f .pixels
-  pub settings : Alike (e .settings) (f .settings)
+  pub settings : AlikeButClip (e .settings) (f .settings)
   pub map : length (e .map) ≡ length (f .map)
   pub scratch : length (e .scratch) ≡ length (f .scratch)
   pub fair : BothFair (e .settings) (f .settings)
@@ -139,7 +139,7 @@ enhance-bytes-any-factor {e} {f} x y a edition n k = enhance-bytes-says y ∙ sa
 pub record MapsAlike (d e : MapCall) : Type 0 where
   pub width : d .width ≡ e .width
   pub height : d .height ≡ e .height
-  pub settings : Alike (d .settings) (e .settings)
+  pub settings : AlikeButClip (d .settings) (e .settings)
   pub counts : d .counts ≡ e .counts
   pub map : length (d .map) ≡ length (e .map)
   pub scratch : length (d .scratch) ≡ length (e .scratch)

@@ -23,7 +23,7 @@ use Rattle.settings.specs.declared.Settings.{Settings}
 use Rattle.settings.specs.declared.MapRecord.{MapRecord}
 use Rattle.settings.specs.declared.Footer.{Footer}
 use Rattle.settings.specs.Settings.{binsOf, clipBad}
-use Rattle.tiles.specs.Tiles.{pixelsIn, one, FilmAsks}
+use Rattle.tiles.specs.Tiles.{pixelsIn, one, FilmFooterAsks}
 use Rattle.tiles.proofs.Tiles.{tiles-least, tile-pixels-some, tile-pixels-most}
 use Rattle.tiles.proofs.Footers.{film-asks}
 use Rattle.prepare.specs.Prepare.{preparedSays, enhancedSays}
@@ -80,7 +80,7 @@ used-least l b n p holds room =
 -- ---- the footer of a film
 
 -- with a factor above one that 10 lets pass
-film-used : {w h : ℕ} {s : Settings} {foot : Footer} {f : Float} → FilmAsks w h s → FooterShows (s .clip) (pixelsIn w h s 0) (binsOf s) foot → ClippingOn (s .clip) f → NotBelowOne (foot .used)
+film-used : {w h : ℕ} {s : Settings} {foot : Footer} {f : Float} → FilmFooterAsks w h s → FooterShows (s .clip) (pixelsIn w h s 0) (binsOf s) foot → ClippingOn (s .clip) f → NotBelowOne (foot .used)
 film-used {w} {h} {s} {foot} {f} asks shows on =
     let n : ℕ = pixelsIn w h s 0 in
     let tile : 0 < s .across * s .down = omega (arith, tiles-least (asks .tiled)) in

@@ -17,10 +17,10 @@ use Rattle.settings.specs.declared.Settings.{Settings}
 use Rattle.settings.specs.declared.MapRecord.{MapRecord}
 use Rattle.settings.specs.declared.Footer.{Footer}
 use Rattle.settings.specs.Settings.{binsOf, clipOne}
-use Rattle.tiles.specs.Tiles.{tileOf, Work, TilesAsk}
+use Rattle.tiles.specs.Tiles.{tileOf, Work, TilesReady}
 use Rattle.tiles.proofs.Tiles.{length-tile-greys, tile-pixels-some}
 use Rattle.tiles.proofs.Films.{tile-holds, tile-greys}
-use Rattle.prepare.specs.Prepare.{preparedSays, enhancedSays, Ended, Over}
+use Rattle.prepare.specs.Prepare.{preparedSays, enhancedSays, PrepareOut, EnhanceOut}
 use Rattle.promises.specs.Films.{clippedCounts, dividesIn}
 use Rattle.promises.proofs.Accepted.{prepare-work, enhance-work}
 use Rattle.promises.proofs.Demand1.{prepare-accepted, enhance-accepted}
@@ -49,7 +49,7 @@ film-whites {w} {h} {pic} {s} {room} {scratch} work one m own =
     last : binOf (s .min) (s .max) (binsOf s) (s .max) ≡ binsOf s - 1
     last = bin-last (s .min) (s .max) (binsOf s) some (work .ready .tiled .reach)
 
-    asks : TilesAsk w h pic s room scratch
+    asks : TilesReady w h pic s room scratch
     asks = record { work = work; changes = one }
 
     whites : (k : ℕ) → k < s .across * s .down → getD m (k * binsOf s + (binsOf s - 1)) 0 ≡ s .max
@@ -74,13 +74,13 @@ pub prepared-bytes-whites : {p : PrepareCall} {r : MapRecord} {foot : Footer} �
     → WhitesReach (p .settings) (p .map′)
 prepared-bytes-whites {p} ran done one =
     film-whites (prepare-work _ _ _ _ _ (p .map) (p .scratch) (p .list) (prepare-bytes-done ran done)) one (p .map′)
-    (λ k b l q. ap (λ (z : Ended). getD (z .map) (k * binsOf (p .settings) + b) 0) (prepare-bytes-as-wide ran done) ∙ own-mapping _ _ _ _ _ _ _ _ (prepare-bytes-done ran done) one k b l q)
+    (λ k b l q. ap (λ (z : PrepareOut). getD (z .map) (k * binsOf (p .settings) + b) 0) (prepare-bytes-as-wide ran done) ∙ own-mapping _ _ _ _ _ _ _ _ (prepare-bytes-done ran done) one k b l q)
 
 pub enhanced-bytes-whites : {e : EnhanceCall} {foot : Footer} → EnhancesBytes e → enhancedSays (e .answer) ≡ accepted foot → clipOne (e .settings .clip) ≡ false
     → WhitesReach (e .settings) (e .map′)
 enhanced-bytes-whites {e} ran done one =
     film-whites (enhance-work _ _ _ _ (e .map) (e .scratch) (enhance-bytes-done ran done)) one (e .map′)
-    (λ k b l q. ap (λ (z : Over). getD (z .map) (k * binsOf (e .settings) + b) 0) (enhance-bytes-as-wide ran done) ∙ own-mapping-enhance _ _ _ _ _ _ (enhance-bytes-done ran done) one k b l q)
+    (λ k b l q. ap (λ (z : EnhanceOut). getD (z .map) (k * binsOf (e .settings) + b) 0) (enhance-bytes-as-wide ran done) ∙ own-mapping-enhance _ _ _ _ _ _ (enhance-bytes-done ran done) one k b l q)
 
 -- from the counts that counting left
 pub mapped-whites : {pic : List ℕ} {d : MapCall} {r : MapRecord} {foot : Footer} → CountedAs (d .width) (d .height) pic (d .settings) (d .counts) → Maps d

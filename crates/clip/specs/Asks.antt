@@ -59,7 +59,7 @@ pub record Raised (limit : ℕ) (before after : List ℕ) (sum : ℕ) : Type 0 w
   pub gains : sum ≡ total (map (gain limit) before)
 
 -- starts, done: what is still to be done from here on is what was to be done before them
-pub record Stands (limit left : ℕ) (before after : List ℕ) (s : Standing) : Type 0 where
+pub record WalkStands (limit left : ℕ) (before after : List ℕ) (s : Standing) : Type 0 where
   pub same : starts (s .left * length after) limit (s .start) after (s .left) ≡ starts (left * length before) limit 0 before left
   pub looked : s .looks + looksFrom (s .left * length after) limit (s .start) after (s .left) ≡ looksFrom (left * length before) limit 0 before left
   pub asks : WalkAsks limit (s .left) after

@@ -18,11 +18,11 @@ share l cs = excess l cs / length cs
 
 -- "A bin above L becomes L; a bin above U and not above L becomes L ..; any other takes q."
 -- U = L - q, so "above U" is that the count with q is above L.
-abbrev pub shared : ℕ → ℕ → ℕ → ℕ
+abbrev pub shared : (l q c : ℕ) → ℕ
 shared l q c = cond (ltb l c) l (cond (ltb l (c + q)) l (c + q))
 
 -- what a bin takes of the excess: nothing; ".. takes L minus its count"; "any other takes q"
-abbrev pub taken : ℕ → ℕ → ℕ → ℕ
+abbrev pub taken : (l q c : ℕ) → ℕ
 taken l q c = cond (ltb l c) 0 (cond (ltb l (c + q)) (l - c) q)
 
 -- "What is left of E is r."
@@ -40,7 +40,7 @@ behind c w = record { counts = c ∷ w .counts; rest = w .rest }
 
 -- "From the start upward by that step, a bin under L gains one and r loses one. All of it stops the moment r reaches 0."
 -- `gap` bins are passed over before the next one is looked at.
-unfoldable pub walk : ℕ → ℕ → ℕ → List ℕ → ℕ → Spread
+unfoldable pub walk : (l step gap : ℕ) (cs : List ℕ) (r : ℕ) → Spread
 walk l step gap [] r = record { counts = []; rest = r }
 walk l step gap (c ∷ cs) zero = record { counts = c ∷ cs; rest = 0 }
 walk l step (suc gap) (c ∷ cs) (suc r) = behind c (walk l step gap cs (suc r))
@@ -53,7 +53,7 @@ nextStart b s = cond (ltb (s + 1) b) (s + 1) 0
 
 -- "while r > 0 .. At each start with r > 0 the step is floor(B / r), at least 1, fixed for this start."
 -- The first argument counts the starts that may still come.
-unfoldable pub starts : ℕ → ℕ → ℕ → List ℕ → ℕ → List ℕ
+unfoldable pub starts : (most l s : ℕ) (cs : List ℕ) (r : ℕ) → List ℕ
 starts zero l s cs r = cs
 starts (suc k) l s cs zero = cs
 starts (suc k) l s cs (suc r) =

@@ -9,7 +9,7 @@ use Rattle.clip.specs.declared.Spent.{Spent}
 use Rattle.clip.specs.Clip.{excess, share, shared, left, walk, nextStart}
 
 -- the bins that one walk looks at, "a look at a full bin counted too"; `gap` bins are passed over before the next one is looked at, and where nothing is left no bin is
-unfoldable pub looksIn : ℕ → ℕ → ℕ → List ℕ → ℕ → ℕ
+unfoldable pub looksIn : (l step gap : ℕ) (cs : List ℕ) (r : ℕ) → ℕ
 looksIn l step gap [] r = 0
 looksIn l step gap (c ∷ cs) zero = 0
 looksIn l step (suc gap) (c ∷ cs) (suc r) = looksIn l step gap cs (suc r)
@@ -17,7 +17,7 @@ looksIn l step zero (c ∷ cs) (suc r) =
     suc (elim (ltb c l) [ true ↦ looksIn l step (step - 1) cs r | false ↦ looksIn l step (step - 1) cs (suc r) ])
 
 -- those of the walks of all starts, of which as many may come as in `starts`
-unfoldable pub looksFrom : ℕ → ℕ → ℕ → List ℕ → ℕ → ℕ
+unfoldable pub looksFrom : (most l s : ℕ) (cs : List ℕ) (r : ℕ) → ℕ
 looksFrom zero l s cs r = 0
 looksFrom (suc k) l s cs zero = 0
 looksFrom (suc k) l s cs (suc r) =
@@ -54,5 +54,5 @@ onward step zero = 0
 onward step (suc n) = onward step n + apart step (suc n)
 
 -- of the starts behind s, where the next one that finds a bin under the limit is at bin 0 again: b bins, those from e on full, r left
-abbrev pub skippedOf : ℕ → ℕ → ℕ → ℕ → ℕ
+abbrev pub skippedOf : (b e s r : ℕ) → ℕ
 skippedOf b e s r = cond (ltb (s + 1) e) 0 (onward (max 1 (b / r)) (b - (s + 1)))

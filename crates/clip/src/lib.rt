@@ -5,7 +5,7 @@ ghost use lib.ListN.{length};
 ghost use Rattle.lists.specs.Lists.{total};
 ghost use Rattle.clip.specs.Clip.{excess, shared, nextStart, clipped};
 ghost use Rattle.clip.specs.Looks.{spentOf, apart, onward, skippedOf};
-ghost use Rattle.clip.specs.Asks.{ClipAsks, PassAsks, Passed, WalkAsks, Walked, Shut, gain, Raised, Stands};
+ghost use Rattle.clip.specs.Asks.{ClipAsks, PassAsks, Passed, WalkAsks, Walked, Shut, gain, Raised, WalkStands};
 
 // What clipping a tile's counts took: the excess, and how many bins the rule's leftover walk looks at.
 pub struct Spent {
@@ -167,7 +167,7 @@ struct Standing {
 // The starts that find more left than there are bins: their step is 1 and nothing runs out on the way, so the walk of each is one pass.
 fn whole_starts(counts: &mut [u32], limit: u32, left: u64) -> Standing
     requires { ⌜ WalkAsks limit left (now counts) ⌝ }
-    ensures { λ s. ⌜ Stands limit left (now (counts .entry)) (now (counts .exit)) s ⌝ }
+    ensures { λ s. ⌜ WalkStands limit left (now (counts .entry)) (now (counts .exit)) s ⌝ }
 {
     let bins = counts.len();
     let mut r = left;

@@ -11,7 +11,7 @@ use Rattle.settings.specs.declared.MapRecord.{MapRecord}
 use Rattle.settings.specs.declared.Footer.{Footer}
 use Rattle.settings.specs.Settings.{binsOf}
 use Rattle.tiles.specs.Tiles.{pixelsIn}
-use Rattle.prepare.specs.Prepare.{preparedSays, Ended}
+use Rattle.prepare.specs.Prepare.{preparedSays, PrepareOut}
 use Rattle.promises.specs.Films.{ClippingOn, FooterShows, FilmSound}
 use Rattle.promises.specs.Older.{FilmOlder}
 use Rattle.promises.proofs.Demand3.{tiles-sound, tiles-older, footer-shows}
@@ -27,9 +27,9 @@ module _ {pic : List ℕ} {d : MapCall} {r : MapRecord} {foot : Footer} (by : Co
   -- and every tile, with its own limit, in our edition
   pub mapped-tiles-sound : {f : Float} → ClippingOn (d .settings .clip) f → d .settings .edition ≡ Ours → FilmSound (d .width) (d .height) pic (d .settings) f (d .map′)
   mapped-tiles-sound on ours =
-      rw (ap (λ (z : Ended). z .map) (mapped-ends by ran)) (tiles-sound _ _ _ _ _ (d .map) (d .scratch) (d .list) (mapped-says by ran ∙ mapped) on ours)
+      rw (ap (λ (z : PrepareOut). z .map) (mapped-ends by ran)) (tiles-sound _ _ _ _ _ (d .map) (d .scratch) (d .list) (mapped-says by ran ∙ mapped) on ours)
 
   -- and in that of 1986
   pub mapped-tiles-older : {f : Float} → ClippingOn (d .settings .clip) f → d .settings .edition ≡ Of1986 → FilmOlder (d .width) (d .height) pic (d .settings) f (d .map′)
   mapped-tiles-older on other =
-      rw (ap (λ (z : Ended). z .map) (mapped-ends by ran)) (tiles-older _ _ _ _ _ (d .map) (d .scratch) (d .list) (mapped-says by ran ∙ mapped) on other)
+      rw (ap (λ (z : PrepareOut). z .map) (mapped-ends by ran)) (tiles-older _ _ _ _ _ (d .map) (d .scratch) (d .list) (mapped-says by ran ∙ mapped) on other)

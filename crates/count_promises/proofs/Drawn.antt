@@ -13,7 +13,7 @@ use Rattle.settings.specs.declared.Footer.{Footer}
 use Rattle.settings.specs.Settings.{recordOf, entriesOf, clipOne}
 use Rattle.settings.proofs.Records.{record-film}
 use Rattle.tiles.specs.Tiles.{footOf}
-use Rattle.prepare.specs.Prepare.{preparedSays, enhancedSays, Ended}
+use Rattle.prepare.specs.Prepare.{preparedSays, enhancedSays, PrepareOut}
 use Rattle.counts.specs.Counts.{mapRows}
 use Rattle.draw.specs.Draw.{drawnSays}
 use Rattle.rule.specs.Rule.{ruleGrey}
@@ -39,7 +39,7 @@ mapped-made {m = m} from =
       scratch = m .scratch;
       list = m .list;
       accepts = mapped-says (from .counted) (from .maps) ∙ from .mapped;
-      leaves = ap (λ (z : Ended). z .map) (mapped-ends (from .counted) (from .maps));
+      leaves = ap (λ (z : PrepareOut). z .map) (mapped-ends (from .counted) (from .maps));
     }
 
 -- what mapping left, handed to draw with the same film, the record that mapping answered, the settings, the mappings, a window inside the film and an output of its area, is drawn

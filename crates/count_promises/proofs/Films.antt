@@ -19,11 +19,11 @@ use Rattle.settings.specs.declared.Footer.{Footer}
 use Rattle.settings.specs.Settings.{binsOf, clipOne, rangeRows, clipRows, greyRows}
 use Rattle.settings.proofs.Ready.{side-numbers, grid-numbers, range-numbers}
 use Rattle.settings.proofs.Parts.{size-numbers, clip-numbers, grey-parts}
-use Rattle.tiles.specs.Tiles.{pixelsIn, footOf, FilmAsks}
-use Rattle.prepare.specs.Prepare.{preparedSays, Ended}
+use Rattle.tiles.specs.Tiles.{pixelsIn, footOf, FilmFooterAsks}
+use Rattle.prepare.specs.Prepare.{preparedSays, PrepareOut}
 use Rattle.counting.specs.Counting.{countRows, countedSays}
 use Rattle.counting.proofs.Tables.{picture-numbers, count-numbers, count-ready}
-use Rattle.counts.specs.Counts.{mapRows, MapsAsk}
+use Rattle.counts.specs.Counts.{mapRows, MapReady}
 use Rattle.counts.proofs.Tables.{map-numbers, map-ready}
 use Rattle.promises.specs.Films.{clippedCounts, dividesIn, ClippingOn, FooterShows, limitIn, LimitFits, BinsReached}
 use Rattle.promises.proofs.Accepted.{says-accepted, says-refused}
@@ -79,11 +79,11 @@ module _ {d : MapCall} {r : MapRecord} {foot : Footer} (ran : Maps d) (mapped : 
   told : (first (mapRows (d .width) (d .height) (d .settings) (d .counts) (length (d .map)) (length (d .scratch)) (length (d .list))) ≡ 0) × (footOf (d .width) (d .height) (d .settings) ≡ foot)
   told = let e = says-accepted _ _ (sym (map-says ran) ∙ mapped) in (e .0, ap (λ (v : MapRecord × Footer). v .1) (e .1))
 
-  known : MapsAsk (d .width) (d .height) (d .settings) (d .counts) (length (d .map)) (length (d .scratch))
+  known : MapReady (d .width) (d .height) (d .settings) (d .counts) (length (d .map)) (length (d .scratch))
   known = map-ready (d .width) (d .height) (d .settings) (d .counts) (length (d .map)) (length (d .scratch)) (length (d .list)) (told .0) .film
 
   -- sides, grid, range and bins are those of a film, and the factor is not refused
-  pub mapped-asks : FilmAsks (d .width) (d .height) (d .settings)
+  pub mapped-asks : FilmFooterAsks (d .width) (d .height) (d .settings)
   mapped-asks = record { tiled = known .tiled; fair = known .fair }
 
   -- order 3: "every bin has at least one grey"
@@ -107,4 +107,4 @@ pub mapped-by-rule : {pic : List ℕ} {d : MapCall} {r : MapRecord} {foot : Foot
     → getD (d .map′) (k * binsOf (d .settings) + b) 0
     ≡ mappedOf (d .settings .min) (d .settings .max) (dividesIn (d .width) (d .height) pic (d .settings) k) (clippedCounts (d .width) (d .height) pic (d .settings) k) b
 mapped-by-rule {d = d} by ran mapped one k b l q =
-    ap (λ (z : Ended). getD (z .map) (k * binsOf (d .settings) + b) 0) (mapped-ends by ran) ∙ own-mapping _ _ _ _ _ _ _ _ (mapped-says by ran ∙ mapped) one k b l q
+    ap (λ (z : PrepareOut). getD (z .map) (k * binsOf (d .settings) + b) 0) (mapped-ends by ran) ∙ own-mapping _ _ _ _ _ _ _ _ (mapped-says by ran ∙ mapped) one k b l q

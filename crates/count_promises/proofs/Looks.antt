@@ -15,9 +15,9 @@ use Rattle.settings.specs.declared.MapRecord.{MapRecord}
 use Rattle.settings.specs.declared.Footer.{Footer}
 use Rattle.settings.specs.Settings.{clipOne}
 use Rattle.tiles.specs.Tiles.{spentEntries}
-use Rattle.prepare.specs.Prepare.{preparedSays, Ended}
+use Rattle.prepare.specs.Prepare.{preparedSays, PrepareOut}
 use Rattle.counting.specs.Counting.{countsIn}
-use Rattle.counts.specs.Counts.{spentFrom, spentsFrom, mapDoneOf, ListAsks}
+use Rattle.counts.specs.Counts.{spentFrom, spentsFrom, mapDoneOf, MapAllAsks}
 use Rattle.counts.proofs.Tables.{map-ready}
 use Rattle.counts.proofs.Tiles.{length-counts-in}
 use Rattle.counts.proofs.Spents.{counted-excess, counted-looks, counted-behind}
@@ -38,13 +38,13 @@ module _ {d : MapCall} {r : MapRecord} {foot : Footer} (ran : Maps d) (mapped : 
   unfolding mapDoneOf
   left-list =
       let x = map-ends ran in
-      ap (λ (y : Ended). y .list) (x ∙ table-done (map-table _ _ _ _ _ _ _ _) (sym (ap (λ (y : Ended). preparedSays (y .answer)) x) ∙ mapped))
+      ap (λ (y : PrepareOut). y .list) (x ∙ table-done (map-table _ _ _ _ _ _ _ _) (sym (ap (λ (y : PrepareOut). preparedSays (y .answer)) x) ∙ mapped))
 
   -- none of mapping's rows applies
-  ready : ListAsks (d .width) (d .height) (d .settings) (d .counts) (length (d .map)) (length (d .scratch)) (length (d .list))
+  ready : MapAllAsks (d .width) (d .height) (d .settings) (d .counts) (length (d .map)) (length (d .scratch)) (length (d .list))
   ready =
       map-ready (d .width) (d .height) (d .settings) (d .counts) (length (d .map)) (length (d .scratch)) (length (d .list))
-      (table-accepted (map-table (d .film) _ _ _ _ _ _ _) (sym (ap (λ (y : Ended). preparedSays (y .answer)) (map-ends ran)) ∙ mapped) .0)
+      (table-accepted (map-table (d .film) _ _ _ _ _ _ _) (sym (ap (λ (y : PrepareOut). preparedSays (y .answer)) (map-ends ran)) ∙ mapped) .0)
 
   -- where the factor is not 1.0, the entries of tile k are those of its counts
   entries-by : clipOne (d .settings .clip) ≡ false → (k : ℕ) → k < d .settings .across * d .settings .down
@@ -88,9 +88,9 @@ module _ {pic : List ℕ} {d : MapCall} {r : MapRecord} {foot : Footer} (by : Co
   -- the same of the film's own raw counts
   pub mapped-looks : {f : Float} → ClippingOn (d .settings .clip) f → d .settings .edition ≡ Ours → FilmLooks (d .width) (d .height) pic (d .settings) f (d .list′)
   mapped-looks on ours =
-      rw (ap (λ (z : Ended). z .list) (mapped-ends by ran)) (list-looks _ _ _ _ _ (d .map) (d .scratch) (d .list) (mapped-says by ran ∙ mapped) on ours)
+      rw (ap (λ (z : PrepareOut). z .list) (mapped-ends by ran)) (list-looks _ _ _ _ _ (d .map) (d .scratch) (d .list) (mapped-says by ran ∙ mapped) on ours)
 
   -- and in the edition of 1986
   pub mapped-looks-older : {f : Float} → ClippingOn (d .settings .clip) f → d .settings .edition ≡ Of1986 → FilmOlderLooks (d .width) (d .height) pic (d .settings) f (d .list′)
   mapped-looks-older on other =
-      rw (ap (λ (z : Ended). z .list) (mapped-ends by ran)) (list-older-looks _ _ _ _ _ (d .map) (d .scratch) (d .list) (mapped-says by ran ∙ mapped) on other)
+      rw (ap (λ (z : PrepareOut). z .list) (mapped-ends by ran)) (list-older-looks _ _ _ _ _ (d .map) (d .scratch) (d .list) (mapped-says by ran ∙ mapped) on other)

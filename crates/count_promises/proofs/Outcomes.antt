@@ -15,9 +15,9 @@ use Rattle.refuse.specs.Refuse.{first, refused, accepted, says}
 use Rattle.settings.specs.declared.Settings.{Settings}
 use Rattle.settings.specs.Settings.{entriesOf, keptOf, recordOf, clipOne}
 use Rattle.tiles.specs.Tiles.{footOf}
-use Rattle.prepare.specs.Prepare.{preparedNot, preparedSays, Ended, ending}
+use Rattle.prepare.specs.Prepare.{preparedNot, preparedSays, PrepareOut, prepareLeaves}
 use Rattle.counting.specs.declared.Counted.the-variants as Counted
-use Rattle.counting.specs.Counting.{rawCounts, countings, countsIn, countRows, countedSays, Tallied, counted, countOf, Alike}
+use Rattle.counting.specs.Counting.{rawCounts, countings, countsIn, countRows, countedSays, CountOut, countLeaves, countOf, AlikeButClip}
 use Rattle.counts.specs.Counts.{mapRows, mapDoneOf, mapOf}
 use Rattle.counting.proofs.Tables.{count-never-10}
 use Rattle.counting.proofs.Endings.{count-refused, count-well}
@@ -26,14 +26,14 @@ use Rattle.counting.proofs.Tiles.{length-countings, own-counts}
 use Rattle.counting.proofs.Like.{count-alike}
 use Rattle.counts.proofs.Like.{map-kept, map-taken}
 use Rattle.promises.proofs.Accepted.{says-refused, ByTable, table-says, table-done, table-kept}
-use Rattle.count_promises.proofs.Runs.{CountCall, Counts, count-given, count-ends, MapCall, Maps, map-given, map-read, map-ends}
+use Rattle.count_promises.proofs.Runs.{CountCall, Counts, count-arguments, count-ends, MapCall, Maps, map-arguments, map-read, map-ends}
 
 -- ---- by their tables
 
 -- counting: "1 to 9 with 31 after 9, then 33, then 13"
 pub count-table : (w h : ℕ) (pic : List ℕ) (s : Settings) (cs : List ℕ)
-    → ByTable (λ (x : Tallied). countedSays (x .answer)) (first (countRows w h pic s (length cs))) tt (counted Counted.Done (onto cs (countings w h pic s)))
-    (λ k. counted (Counted.Refused k) cs) (countOf w h pic s cs)
+    → ByTable (λ (x : CountOut). countedSays (x .answer)) (first (countRows w h pic s (length cs))) tt (countLeaves Counted.Done (onto cs (countings w h pic s)))
+    (λ k. countLeaves (Counted.Refused k) cs) (countOf w h pic s cs)
 unfolding countedSays
 count-table w h pic s cs =
     record {
@@ -45,8 +45,8 @@ count-table w h pic s cs =
 
 -- mapping: "1, 3 to 12 with 31 after 9, then 33, then 34", and 32 "straight after 12"
 pub map-table : (film w h : ℕ) (s : Settings) (cs m t n : List ℕ)
-    → ByTable (λ (x : Ended). preparedSays (x .answer)) (first (mapRows w h s cs (length m) (length t) (length n))) (recordOf film w h s, footOf w h s)
-    (mapDoneOf film w h s cs m t n) (λ k. ending (preparedNot k) m t n) (mapOf film w h s cs m t n)
+    → ByTable (λ (x : PrepareOut). preparedSays (x .answer)) (first (mapRows w h s cs (length m) (length t) (length n))) (recordOf film w h s, footOf w h s)
+    (mapDoneOf film w h s cs m t n) (λ k. prepareLeaves (preparedNot k) m t n) (mapOf film w h s cs m t n)
 unfolding mapDoneOf preparedSays
 map-table film w h s cs m t n =
     record {
@@ -60,14 +60,14 @@ map-table film w h s cs m t n =
 
 -- counting: done, or the number of the first row that applies
 pub count-says : {c : CountCall} → Counts c → countedSays (c .answer) ≡ says (first (countRows (c .width) (c .height) (c .pixels) (c .settings) (length (c .counts)))) tt
-count-says ran = ap (λ (y : Tallied). countedSays (y .answer)) (count-ends ran) ∙ table-says (count-table _ _ _ _ _)
+count-says ran = ap (λ (y : CountOut). countedSays (y .answer)) (count-ends ran) ∙ table-says (count-table _ _ _ _ _)
 
 -- mapping: prepare's record and footer, or the number
 pub map-says : {d : MapCall} → Maps d
     → preparedSays (d .answer)
     ≡ says (first (mapRows (d .width) (d .height) (d .settings) (d .counts) (length (d .map)) (length (d .scratch)) (length (d .list))))
     (recordOf (d .film) (d .width) (d .height) (d .settings), footOf (d .width) (d .height) (d .settings))
-map-says ran = ap (λ (y : Ended). preparedSays (y .answer)) (map-ends ran) ∙ table-says (map-table _ _ _ _ _ _ _ _)
+map-says ran = ap (λ (y : PrepareOut). preparedSays (y .answer)) (map-ends ran) ∙ table-says (map-table _ _ _ _ _ _ _ _)
 
 -- counting never looks at the clip: a factor that mapping refuses is counted all the same
 pub count-says-no-10 : {c : CountCall} → Counts c → countedSays (c .answer) ≢ refused 10
@@ -78,13 +78,13 @@ count-says-no-10 {c} ran q = count-never-10 (c .width) (c .height) (c .pixels) (
 pub count-refusal-keeps : {c : CountCall} (n : ℕ) → Counts c → countedSays (c .answer) ≡ refused n → c .counts′ ≡ c .counts
 count-refusal-keeps n ran q =
     let x = count-ends ran in
-    ap (λ (y : Tallied). y .counts) (x ∙ table-kept (count-table _ _ _ _ _) (sym (ap (λ (y : Tallied). countedSays (y .answer)) x) ∙ q))
+    ap (λ (y : CountOut). y .counts) (x ∙ table-kept (count-table _ _ _ _ _) (sym (ap (λ (y : CountOut). countedSays (y .answer)) x) ∙ q))
 
 pub map-refusal-keeps : {d : MapCall} (n : ℕ) → Maps d → preparedSays (d .answer) ≡ refused n → (d .map′ ≡ d .map) × (d .scratch′ ≡ d .scratch) × (d .list′ ≡ d .list)
 map-refusal-keeps n ran q =
     let x = map-ends ran in
-    let e = x ∙ table-kept (map-table _ _ _ _ _ _ _ _) (sym (ap (λ (y : Ended). preparedSays (y .answer)) x) ∙ q) in
-    (ap (λ (y : Ended). y .map) e, ap (λ (y : Ended). y .scratch) e, ap (λ (y : Ended). y .list) e)
+    let e = x ∙ table-kept (map-table _ _ _ _ _ _ _ _) (sym (ap (λ (y : PrepareOut). preparedSays (y .answer)) x) ∙ q) in
+    (ap (λ (y : PrepareOut). y .map) e, ap (λ (y : PrepareOut). y .scratch) e, ap (λ (y : PrepareOut). y .list) e)
 
 -- ---- "at factor 1.0 the list keeps its contents", as map buffer and scratch do
 
@@ -93,16 +93,16 @@ one-kept : (film w h : ℕ) (s : Settings) (cs m t n : List ℕ) → clipOne (s 
     → (mapOf film w h s cs m t n .map ≡ m) × (mapOf film w h s cs m t n .scratch ≡ t) × (mapOf film w h s cs m t n .list ≡ n)
 one-kept film w h s cs m t n one zero e =
     let q = sym (map-one film w h s cs m t n refl e refl refl refl one) in
-    (ap (λ (z : Ended). z .map) q, ap (λ (z : Ended). z .scratch) q, ap (λ (z : Ended). z .list) q)
+    (ap (λ (z : PrepareOut). z .map) q, ap (λ (z : PrepareOut). z .scratch) q, ap (λ (z : PrepareOut). z .list) q)
 one-kept film w h s cs m t n one (suc k) e =
     let q = sym (map-refused film w h s cs m t n refl (λ z. omega (arith, e, z))) in
-    (ap (λ (z : Ended). z .map) q, ap (λ (z : Ended). z .scratch) q, ap (λ (z : Ended). z .list) q)
+    (ap (λ (z : PrepareOut). z .map) q, ap (λ (z : PrepareOut). z .scratch) q, ap (λ (z : PrepareOut). z .list) q)
 
 pub map-one-keeps : {d : MapCall} → Maps d → clipOne (d .settings .clip) ≡ true → (d .map′ ≡ d .map) × (d .scratch′ ≡ d .scratch) × (d .list′ ≡ d .list)
 map-one-keeps {d} ran one =
     let x = map-ends ran in
     let (map, scratch, list) = one-kept (d .film) (d .width) (d .height) (d .settings) (d .counts) (d .map) (d .scratch) (d .list) one _ refl in
-    (ap (λ (y : Ended). y .map) x ∙ map, ap (λ (y : Ended). y .scratch) x ∙ scratch, ap (λ (y : Ended). y .list) x ∙ list)
+    (ap (λ (y : PrepareOut). y .map) x ∙ map, ap (λ (y : PrepareOut). y .scratch) x ∙ scratch, ap (λ (y : PrepareOut). y .list) x ∙ list)
 
 -- ---- "fills only the front of a lent buffer with each tile's raw counts in the mappings' order"
 
@@ -111,7 +111,7 @@ module _ {c : CountCall} (ran : Counts c) (done : countedSays (c .answer) ≡ ac
   pub counts-left : c .counts′ ≡ onto (c .counts) (countings (c .width) (c .height) (c .pixels) (c .settings))
   counts-left =
       let x = count-ends ran in
-      ap (λ (y : Tallied). y .counts) (x ∙ table-done (count-table _ _ _ _ _) (sym (ap (λ (y : Tallied). countedSays (y .answer)) x) ∙ done))
+      ap (λ (y : CountOut). y .counts) (x ∙ table-done (count-table _ _ _ _ _) (sym (ap (λ (y : CountOut). countedSays (y .answer)) x) ∙ done))
 
   -- each tile's raw counts, in the tile's place
   pub counts-own : (k : ℕ) → k < c .settings .across * c .settings .down → countsIn (c .settings) (c .counts′) k ≡ rawCounts (c .width) (c .height) (c .pixels) (c .settings) k
@@ -127,25 +127,25 @@ module _ {c : CountCall} (ran : Counts c) (done : countedSays (c .answer) ≡ ac
 
 -- ---- one outcome only
 
-pub count-determined : {c d : CountCall} → Counts c → Counts d → count-given c ≡ count-given d → (c .answer ≡ d .answer) × (c .counts′ ≡ d .counts′)
+pub count-determined : {c d : CountCall} → Counts c → Counts d → count-arguments c ≡ count-arguments d → (c .answer ≡ d .answer) × (c .counts′ ≡ d .counts′)
 count-determined x y same =
     let e = count-ends x ∙ ap (λ g. countOf (g .0) (g .1) (g .2) (g .3) (g .4)) same ∙ sym (count-ends y) in
-    (ap (λ (z : Tallied). z .answer) e, ap (λ (z : Tallied). z .counts) e)
+    (ap (λ (z : CountOut). z .answer) e, ap (λ (z : CountOut). z .counts) e)
 
 -- "Changing only the factor": settings that differ in the clip alone, or in bins 0 and 128, count alike
-pub count-any-clip : {c d : CountCall} → Counts c → Counts d → c .width ≡ d .width → c .height ≡ d .height → c .pixels ≡ d .pixels → Alike (c .settings) (d .settings)
+pub count-any-clip : {c d : CountCall} → Counts c → Counts d → c .width ≡ d .width → c .height ≡ d .height → c .pixels ≡ d .pixels → AlikeButClip (c .settings) (d .settings)
     → c .counts ≡ d .counts → (c .answer ≡ d .answer) × (c .counts′ ≡ d .counts′)
 count-any-clip {c} {d} x y width height pixels like counts =
-    let e : counted (c .answer) (c .counts′) ≡ counted (d .answer) (d .counts′) =
+    let e : countLeaves (c .answer) (c .counts′) ≡ countLeaves (d .answer) (d .counts′) =
     count-ends x ∙ rw (width, height, pixels, counts) (count-alike (d .width) (d .height) (d .pixels) like (d .counts)) ∙ sym (count-ends y) in
-    (ap (λ (z : Tallied). z .answer) e, ap (λ (z : Tallied). z .counts) e)
+    (ap (λ (z : CountOut). z .answer) e, ap (λ (z : CountOut). z .counts) e)
 
 -- mapping reads no more of the counts than an entry for each bin of each tile: what lies behind the front decides nothing
 pub map-alike : {d e : MapCall} → Maps d → Maps e → map-read d ≡ map-read e
     → (d .answer ≡ e .answer) × (d .map′ ≡ e .map′) × (d .scratch′ ≡ e .scratch′) × (d .list′ ≡ e .list′)
 map-alike {d} {e} x y same =
     let k = map-ends x ∙ sym (seen d) ∙ ap (λ g. mapOf (g .0) (g .1) (g .2) (g .3) (g .4) (g .5) (g .6) (g .7)) same ∙ seen e ∙ sym (map-ends y) in
-    (ap (λ (z : Ended). z .answer) k, ap (λ (z : Ended). z .map) k, ap (λ (z : Ended). z .scratch) k, ap (λ (z : Ended). z .list) k)
+    (ap (λ (z : PrepareOut). z .answer) k, ap (λ (z : PrepareOut). z .map) k, ap (λ (z : PrepareOut). z .scratch) k, ap (λ (z : PrepareOut). z .list) k)
   where
     seen : (d : MapCall)
         → mapOf (d .film) (d .width) (d .height) (keptOf (d .settings)) (take (entriesOf (d .settings)) (d .counts)) (d .map) (d .scratch) (d .list)
@@ -154,6 +154,6 @@ map-alike {d} {e} x y same =
         map-kept (d .film) (d .width) (d .height) (d .settings) _ (d .map) (d .scratch) (d .list)
         ∙ map-taken (d .film) (d .width) (d .height) (d .settings) (d .counts) (d .map) (d .scratch) (d .list)
 
-pub map-determined : {d e : MapCall} → Maps d → Maps e → map-given d ≡ map-given e
+pub map-determined : {d e : MapCall} → Maps d → Maps e → map-arguments d ≡ map-arguments e
     → (d .answer ≡ e .answer) × (d .map′ ≡ e .map′) × (d .scratch′ ≡ e .scratch′) × (d .list′ ≡ e .list′)
 map-determined x y same = map-alike x y (ap (λ g. (g .0, g .1, g .2, keptOf (g .3), take (entriesOf (g .3)) (g .4), g .5, g .6, g .7)) same)

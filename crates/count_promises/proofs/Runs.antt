@@ -10,9 +10,9 @@ use Rattle.refuse.specs.Run.{Run, Ran}
 use Rattle.settings.specs.declared.Settings.{Settings}
 use Rattle.settings.specs.Settings.{entriesOf, keptOf}
 use Rattle.prepare.specs.declared.Prepared.{Prepared}
-use Rattle.prepare.specs.Prepare.{ending}
+use Rattle.prepare.specs.Prepare.{prepareLeaves}
 use Rattle.counting.specs.declared.Counted.{Counted}
-use Rattle.counting.specs.Counting.{counted, countOf}
+use Rattle.counting.specs.Counting.{countLeaves, countOf}
 use Rattle.counts.specs.Counts.{mapOf}
 use Rattle.counting.proofs.count_tiles.Kinds as count
 use Rattle.counting.proofs.count_tiles.Reads as count-reads
@@ -37,14 +37,14 @@ count-values run =
     record { width = width; height = height; pixels = now pixels; settings = settings; counts = now counts; answer = run .answer; counts′ = now counts′ }
 
 -- what it is handed
-abbrev pub count-given : CountCall → ℕ × ℕ × List ℕ × Settings × List ℕ
-count-given c = (c .width, c .height, c .pixels, c .settings, c .counts)
+abbrev pub count-arguments : CountCall → ℕ × ℕ × List ℕ × Settings × List ℕ
+count-arguments c = (c .width, c .height, c .pixels, c .settings, c .counts)
 
 -- counting ran with these values
 abbrev pub Counts : CountCall → Type 0
 Counts = Ran count-values
 
-pub count-ends : {c : CountCall} → Counts c → counted (c .answer) (c .counts′) ≡ countOf (c .width) (c .height) (c .pixels) (c .settings) (c .counts)
+pub count-ends : {c : CountCall} → Counts c → countLeaves (c .answer) (c .counts′) ≡ countOf (c .width) (c .height) (c .pixels) (c .settings) (c .counts)
 count-ends ran = rw (ran .named) (ran .run .allowed)
 
 -- ---- mapping: the counts are lent to be read, so that there are none at the end
@@ -83,8 +83,8 @@ map-values run =
     }
 
 -- what it is handed
-abbrev pub map-given : MapCall → ℕ × ℕ × ℕ × Settings × List ℕ × List ℕ × List ℕ × List ℕ
-map-given d = (d .film, d .width, d .height, d .settings, d .counts, d .map, d .scratch, d .list)
+abbrev pub map-arguments : MapCall → ℕ × ℕ × ℕ × Settings × List ℕ × List ℕ × List ℕ × List ℕ
+map-arguments d = (d .film, d .width, d .height, d .settings, d .counts, d .map, d .scratch, d .list)
 
 -- what it reads of that: the settings "with bins 0 kept as 128", and of the counts as many as "tiles times bins"
 abbrev pub map-read : MapCall → ℕ × ℕ × ℕ × Settings × List ℕ × List ℕ × List ℕ × List ℕ
@@ -95,5 +95,5 @@ abbrev pub Maps : MapCall → Type 0
 Maps = Ran map-values
 
 pub map-ends : {d : MapCall} → Maps d
-    → ending (d .answer) (d .map′) (d .scratch′) (d .list′) ≡ mapOf (d .film) (d .width) (d .height) (d .settings) (d .counts) (d .map) (d .scratch) (d .list)
+    → prepareLeaves (d .answer) (d .map′) (d .scratch′) (d .list′) ≡ mapOf (d .film) (d .width) (d .height) (d .settings) (d .counts) (d .map) (d .scratch) (d .list)
 map-ends ran = rw (ran .named) (ran .run .allowed)

@@ -13,14 +13,14 @@ use Rattle.settings.specs.declared.Settings.{Settings}
 use Rattle.settings.specs.declared.MapRecord.{MapRecord}
 use Rattle.settings.specs.declared.Footer.{Footer}
 use Rattle.settings.specs.Settings.{entriesOf}
-use Rattle.prepare.specs.Prepare.{preparedSays, Ended, ending, prepareOf}
-use Rattle.counting.specs.Counting.{countings, countRows, countedSays, Alike, withClipping}
+use Rattle.prepare.specs.Prepare.{preparedSays, PrepareOut, prepareLeaves, prepareOf}
+use Rattle.counting.specs.Counting.{countings, countRows, countedSays, AlikeButClip, withClipping}
 use Rattle.counts.specs.Counts.{mapOf}
 use Rattle.counts.proofs.Mapped.{mapped-as-prepared, prepared-counts}
 use Rattle.counting.proofs.Like.{rows-alike, countings-alike, clipping-alike}
 use Rattle.promises.proofs.Accepted.{says-accepted, prepare-accepts}
-use Rattle.promises.proofs.Runs.{PrepareCall, Prepares, prepare-given, prepare-ends}
-use Rattle.count_promises.proofs.Runs.{CountCall, Counts, MapCall, Maps, map-given, map-ends}
+use Rattle.promises.proofs.Runs.{PrepareCall, Prepares, prepare-arguments, prepare-ends}
+use Rattle.count_promises.proofs.Runs.{CountCall, Counts, MapCall, Maps, map-arguments, map-ends}
 use Rattle.count_promises.proofs.Outcomes.{count-says, counts-left}
 
 -- ---- one mapping
@@ -33,7 +33,7 @@ pub record CountedAs (w h : ℕ) (pic : List ℕ) (s : Settings) (cs : List ℕ)
   pub width : call .width ≡ w
   pub height : call .height ≡ h
   pub pixels : call .pixels ≡ pic
-  pub like : Alike (call .settings) s
+  pub like : AlikeButClip (call .settings) s
   pub left : cs ≡ call .counts′
 
 -- mapping these counts is prepare, for every film number, clip setting, edition, map buffer, scratch and list, refusals too
@@ -53,12 +53,12 @@ counted-maps {w} {h} {pic} {s} {cs} by film m t n =
 -- so each run of mapping over them
 module _ {pic : List ℕ} {d : MapCall} (by : CountedAs (d .width) (d .height) pic (d .settings) (d .counts)) (ran : Maps d) where
   -- ends as prepare does of the film that was counted
-  pub mapped-ends : ending (d .answer) (d .map′) (d .scratch′) (d .list′) ≡ prepareOf (d .film) (d .width) (d .height) pic (d .settings) (d .map) (d .scratch) (d .list)
+  pub mapped-ends : prepareLeaves (d .answer) (d .map′) (d .scratch′) (d .list′) ≡ prepareOf (d .film) (d .width) (d .height) pic (d .settings) (d .map) (d .scratch) (d .list)
   mapped-ends = map-ends ran ∙ counted-maps by (d .film) (d .map) (d .scratch) (d .list)
 
   -- and says what prepare says of it
   pub mapped-says : preparedSays (prepareOf (d .film) (d .width) (d .height) pic (d .settings) (d .map) (d .scratch) (d .list) .answer) ≡ preparedSays (d .answer)
-  mapped-says = sym (ap (λ (z : Ended). preparedSays (z .answer)) mapped-ends)
+  mapped-says = sym (ap (λ (z : PrepareOut). preparedSays (z .answer)) mapped-ends)
 
 -- mapping was handed these counts, and all else as prepare was
 pub record MappedAs (p : PrepareCall) (cs : List ℕ) (d : MapCall) : Type 0 where
@@ -76,11 +76,11 @@ pub record MappedAs (p : PrepareCall) (cs : List ℕ) (d : MapCall) : Type 0 whe
 pub mapped-as-prepare : {p : PrepareCall} {cs : List ℕ} {d : MapCall} → Prepares p → CountedAs (p .width) (p .height) (p .pixels) (p .settings) cs → MappedAs p cs d
     → (d .answer ≡ p .answer) × (d .map′ ≡ p .map′) × (d .scratch′ ≡ p .scratch′) × (d .list′ ≡ p .list′)
 mapped-as-prepare {p} {cs} {d} prepares by same =
-    let e : ending (d .answer) (d .map′) (d .scratch′) (d .list′) ≡ ending (p .answer) (p .map′) (p .scratch′) (p .list′) =
+    let e : prepareLeaves (d .answer) (d .map′) (d .scratch′) (d .list′) ≡ prepareLeaves (p .answer) (p .map′) (p .scratch′) (p .list′) =
     map-ends (same .maps)
     ∙ rw (same .film, same .width, same .height, same .settings, same .counts, same .map, same .scratch, same .list) (counted-maps by (p .film) (p .map) (p .scratch) (p .list))
     ∙ sym (prepare-ends prepares) in
-    (ap (λ (z : Ended). z .answer) e, ap (λ (z : Ended). z .map) e, ap (λ (z : Ended). z .scratch) e, ap (λ (z : Ended). z .list) e)
+    (ap (λ (z : PrepareOut). z .answer) e, ap (λ (z : PrepareOut). z .map) e, ap (λ (z : PrepareOut). z .scratch) e, ap (λ (z : PrepareOut). z .list) e)
 
 -- ---- wherever prepare accepts the film and 33 is not met
 
@@ -90,7 +90,7 @@ pub record CountsFilm (p : PrepareCall) (c : CountCall) : Type 0 where
   pub width : c .width ≡ p .width
   pub height : c .height ≡ p .height
   pub pixels : c .pixels ≡ p .pixels
-  pub like : Alike (c .settings) (p .settings)
+  pub like : AlikeButClip (c .settings) (p .settings)
   pub long : entriesOf (p .settings) ≤ length (c .counts)
 
 module _ {p : PrepareCall} {r : MapRecord} {foot : Footer} (prepares : Prepares p) (prepared : preparedSays (p .answer) ≡ accepted (r, foot)) {c : CountCall} (of : CountsFilm p c) where
@@ -104,7 +104,7 @@ module _ {p : PrepareCall} {r : MapRecord} {foot : Footer} (prepares : Prepares 
       free =
           prepared-counts (p .width) (p .height) (p .pixels) (p .settings) (length (p .map)) (length (p .scratch)) (length (p .list)) (length (c .counts))
           (prepare-accepts (p .film) (p .width) (p .height) (p .pixels) (p .settings) (p .map) (p .scratch) (p .list)
-          (sym (ap (λ (z : Ended). preparedSays (z .answer)) (prepare-ends prepares)) ∙ prepared))
+          (sym (ap (λ (z : PrepareOut). preparedSays (z .answer)) (prepare-ends prepares)) ∙ prepared))
           (of .long)
 
   counted-as : CountedAs (p .width) (p .height) (p .pixels) (p .settings) (c .counts′)
@@ -127,27 +127,27 @@ abbrev pub clippedWith : Settings → Clipping → Settings
 clippedWith s f = withClipping s (f .edition) (f .clip)
 
 -- mapping the counts cs with f ended with e
-pub record MapsWith (film w h : ℕ) (s : Settings) (cs : List ℕ) (f : Clipping) (m t n : List ℕ) (e : Ended) : Type 0 where
+pub record MapsWith (film w h : ℕ) (s : Settings) (cs : List ℕ) (f : Clipping) (m t n : List ℕ) (e : PrepareOut) : Type 0 where
   pub call : MapCall
   pub maps : Maps call
-  pub given : map-given call ≡ (film, w, h, clippedWith s f, cs, m, t, n)
-  pub ended : e ≡ ending (call .answer) (call .map′) (call .scratch′) (call .list′)
+  pub given : map-arguments call ≡ (film, w, h, clippedWith s f, cs, m, t, n)
+  pub ended : e ≡ prepareLeaves (call .answer) (call .map′) (call .scratch′) (call .list′)
 
 -- prepare with f ended with e
-pub record PreparesWith (film w h : ℕ) (pic : List ℕ) (s : Settings) (f : Clipping) (m t n : List ℕ) (e : Ended) : Type 0 where
+pub record PreparesWith (film w h : ℕ) (pic : List ℕ) (s : Settings) (f : Clipping) (m t n : List ℕ) (e : PrepareOut) : Type 0 where
   pub call : PrepareCall
   pub prepares : Prepares call
-  pub given : prepare-given call ≡ (film, w, h, pic, clippedWith s f, m, t, n)
-  pub ended : e ≡ ending (call .answer) (call .map′) (call .scratch′) (call .list′)
+  pub given : prepare-arguments call ≡ (film, w, h, pic, clippedWith s f, m, t, n)
+  pub ended : e ≡ prepareLeaves (call .answer) (call .map′) (call .scratch′) (call .list′)
 
 -- a call for each f, from the map buffer m, the scratch t and the list n on, each handed what the one before left; es is what each ended with
-abbrev pub InTurn : (Clipping → List ℕ → List ℕ → List ℕ → Ended → Type 0) → List Clipping → List ℕ → List ℕ → List ℕ → List Ended → Type 0
+abbrev pub InTurn : (Clipping → List ℕ → List ℕ → List ℕ → PrepareOut → Type 0) → List Clipping → List ℕ → List ℕ → List ℕ → List PrepareOut → Type 0
 InTurn Call [] m t n es = es ≡ []
 InTurn Call (f ∷ fs) m t n [] = ⊥
 InTurn Call (f ∷ fs) m t n (e ∷ es) = Call f m t n e × InTurn Call fs (e .map) (e .scratch) (e .list) es
 
 -- mapping in turn over the same counts ends, each time, as prepare in turn does
-pub in-turn : {w h : ℕ} {pic : List ℕ} {s : Settings} {cs : List ℕ} → CountedAs w h pic s cs → (film : ℕ) (fs : List Clipping) (m t n : List ℕ) (es es′ : List Ended)
+pub in-turn : {w h : ℕ} {pic : List ℕ} {s : Settings} {cs : List ℕ} → CountedAs w h pic s cs → (film : ℕ) (fs : List Clipping) (m t n : List ℕ) (es es′ : List PrepareOut)
     → InTurn (MapsWith film w h s cs) fs m t n es → InTurn (PreparesWith film w h pic s) fs m t n es′ → es ≡ es′
 in-turn by film [] m t n es es′ x y = x ∙ sym y
 in-turn by film (f ∷ fs) m t n [] es′ x y = absurd x

@@ -9,27 +9,27 @@ use Rattle.refuse.specs.Refuse.{first, unless}
 use Rattle.refuse.proofs.Walk.{unless-refused}
 use Rattle.settings.specs.declared.Settings.{Settings}
 use Rattle.counting.specs.declared.Counted.the-variants as Counted
-use Rattle.counting.specs.Counting.{countings, countRows, counted, countDoneOf, countOf, CountsAsk}
+use Rattle.counting.specs.Counting.{countings, countRows, countLeaves, countDoneOf, countOf, CountReady}
 use Rattle.counting.proofs.Tables.{count-ready}
 
 -- what the work asks, once none of the rows applies
-pub asks-count : (w h : ℕ) (pic : List ℕ) (s : Settings) (size : ℕ) {r : ℕ} → r ≡ first (countRows w h pic s size) → r ≡ 0 → CountsAsk w h pic s size
+pub asks-count : (w h : ℕ) (pic : List ℕ) (s : Settings) (size : ℕ) {r : ℕ} → r ≡ first (countRows w h pic s size) → r ≡ 0 → CountReady w h pic s size
 asks-count w h pic s size e z = count-ready w h pic s size (sym e ∙ z)
 
 module _ (w h : ℕ) (pic : List ℕ) (s : Settings) (cs : List ℕ) where
   -- a refusal, as it was worked out
-  pub count-refused : {r : ℕ} → r ≡ first (countRows w h pic s (length cs)) → (r ≡ 0 → ⊥) → counted (Counted.Refused r) cs ≡ countOf w h pic s cs
+  pub count-refused : {r : ℕ} → r ≡ first (countRows w h pic s (length cs)) → (r ≡ 0 → ⊥) → countLeaves (Counted.Refused r) cs ≡ countOf w h pic s cs
   unfolding countOf
   count-refused {r} e z =
-      unless-refused r (λ n. counted (Counted.Refused n) cs) (countDoneOf w h pic s cs) z
-      ∙ ap (λ k. unless k (λ n. counted (Counted.Refused n) cs) (countDoneOf w h pic s cs)) e
+      unless-refused r (λ n. countLeaves (Counted.Refused n) cs) (countDoneOf w h pic s cs) z
+      ∙ ap (λ k. unless k (λ n. countLeaves (Counted.Refused n) cs) (countDoneOf w h pic s cs)) e
 
   -- no refusal
   pub count-done : {r : ℕ} → r ≡ first (countRows w h pic s (length cs)) → r ≡ 0 → countDoneOf w h pic s cs ≡ countOf w h pic s cs
   unfolding countOf
-  count-done e z = ap (λ k. unless k (λ n. counted (Counted.Refused n) cs) (countDoneOf w h pic s cs)) (sym z ∙ e)
+  count-done e z = ap (λ k. unless k (λ n. countLeaves (Counted.Refused n) cs) (countDoneOf w h pic s cs)) (sym z ∙ e)
 
   -- the counts are laid down
-  pub count-well : {r : ℕ} {c : List ℕ} → r ≡ first (countRows w h pic s (length cs)) → r ≡ 0 → c ≡ onto cs (countings w h pic s) → counted Counted.Done c ≡ countOf w h pic s cs
+  pub count-well : {r : ℕ} {c : List ℕ} → r ≡ first (countRows w h pic s (length cs)) → r ≡ 0 → c ≡ onto cs (countings w h pic s) → countLeaves Counted.Done c ≡ countOf w h pic s cs
   unfolding countDoneOf
-  count-well e z q = ap (counted Counted.Done) q ∙ count-done e z
+  count-well e z q = ap (countLeaves Counted.Done) q ∙ count-done e z

@@ -13,11 +13,11 @@ use Rattle.settings.specs.declared.Settings.{Settings}
 use Rattle.settings.specs.Settings.{binsOf, entriesOf, keptOf}
 use Rattle.settings.proofs.Like.{bins-kept}
 use Rattle.settings.proofs.Parts.{bins-alike, grid-alike, range-alike}
-use Rattle.counting.specs.Counting.{rawCounts, countings, countsRows, outsideRows, pictureRows, countRows, countDoneOf, countOf, Alike, withClipping}
+use Rattle.counting.specs.Counting.{rawCounts, countings, countsRows, outsideRows, pictureRows, countRows, countDoneOf, countOf, AlikeButClip, withClipping}
 
 -- ---- counting does not look at the clip setting
 
-module _ (w h : ℕ) (pic : List ℕ) {s s′ : Settings} (like : Alike s s′) where
+module _ (w h : ℕ) (pic : List ℕ) {s s′ : Settings} (like : AlikeButClip s s′) where
   -- its rows are the same
   pub rows-alike : (size : ℕ) → countRows w h pic s size ≡ countRows w h pic s′ size
   unfolding countRows pictureRows countsRows outsideRows
@@ -37,11 +37,11 @@ module _ (w h : ℕ) (pic : List ℕ) {s s′ : Settings} (like : Alike s s′) 
   count-alike cs = rw (rows-alike (length cs), countings-alike) refl
 
 -- settings that differ in the factor and the edition alone
-pub clipping-alike : (s : Settings) (e : Edition) (f : Clip) → Alike s (withClipping s e f)
+pub clipping-alike : (s : Settings) (e : Edition) (f : Clip) → AlikeButClip s (withClipping s e f)
 clipping-alike s e f = record { across = refl; down = refl; bins = bins-alike s (withClipping s e f) refl; min = refl; max = refl }
 
 -- and in bins 0 and 128: "Bins B: 2 to 4096. 0 means 128."
-pub kept-alike : (s : Settings) → Alike (keptOf s) s
+pub kept-alike : (s : Settings) → AlikeButClip (keptOf s) s
 kept-alike s = record { across = refl; down = refl; bins = bins-kept s; min = refl; max = refl }
 
 -- ---- 33

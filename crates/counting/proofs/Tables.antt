@@ -19,7 +19,7 @@ use Rattle.settings.specs.Settings.{binsOf, entriesOf, sizeRows, gridRows, rang
 use Rattle.settings.proofs.Ready.{grid-numbers, range-numbers, size-numbered, grid-numbered, range-numbered, tiled, whole-length, room-fits, fits-room}
 use Rattle.settings.proofs.Parts.{size-numbers, size-both}
 use Rattle.settings.proofs.Reach.{range-31, Early, range-early}
-use Rattle.counting.specs.Counting.{countsRows, outsideRows, pictureRows, countRows, LentAsks, CountsAsk}
+use Rattle.counting.specs.Counting.{countsRows, outsideRows, pictureRows, countRows, LentAsks, CountReady}
 
 -- ---- the numbers, in the order that order 5 gives them
 
@@ -125,7 +125,7 @@ parts-count w h pic s size a b c l g =
     (behind (countsRows s size) (outsideRows pic s) (counts-numbered s size) (sym (fits-counts s size l)) refl (outside-row pic s true (sym g))))
 
 -- what is known then
-pub count-ready : (w h : ℕ) (pic : List ℕ) (s : Settings) (size : ℕ) → first (countRows w h pic s size) ≡ 0 → CountsAsk w h pic s size
+pub count-ready : (w h : ℕ) (pic : List ℕ) (s : Settings) (size : ℕ) → first (countRows w h pic s size) ≡ 0 → CountReady w h pic s size
 unfolding countRows outsideRows all numbersOf
 count-ready w h pic s size e =
     let a = first-both (pictureRows w h (length pic) s) _ (picture-numbered w h (length pic) s) e in

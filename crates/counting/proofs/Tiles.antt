@@ -15,8 +15,7 @@ use Rattle.lists.proofs.Maps.{over-part}
 use Rattle.lists.proofs.Windows.{block, length-block, block-joined}
 use Rattle.scan.specs.Scan.{within}
 use Rattle.tally.specs.declared.Rect.{Rect}
-use Rattle.tally.specs.Tally.{greysOf, countsOf}
-use Rattle.tally.specs.Tally as tally
+use Rattle.tally.specs.Tally.{greysOf, countsOf, CountRectAsks, Scale}
 use Rattle.tally.proofs.Greys.{greys-all}
 use Rattle.tally.proofs.Counts.{length-counts, total-counts}
 use Rattle.settings.specs.declared.Settings.{Settings}
@@ -24,7 +23,7 @@ use Rattle.settings.specs.Settings.{binsOf, entriesOf, Tiled}
 use Rattle.settings.proofs.Ready.{entries-small}
 use Rattle.tiles.specs.Tiles.{tileOf, pixelsIn}
 use Rattle.tiles.proofs.Tiles.{length-tile-greys, tile-inside}
-use Rattle.counting.specs.Counting.{rawCounts, countings, countsIn, CountAsks}
+use Rattle.counting.specs.Counting.{rawCounts, countings, countsIn, CountTileAsks}
 
 -- ---- where block k lies
 
@@ -39,7 +38,7 @@ block-small {s = s} tiled l q = block-room s (entries-small (s .across) (s .down
 -- ---- counting
 
 -- Min, Max and the bins of a film's tiles are as counting asks them, field by field
-scaled : {w h : ℕ} {s : Settings} → Tiled w h s → tally.Scale (s .min) (s .max) (binsOf s)
+scaled : {w h : ℕ} {s : Settings} → Tiled w h s → Scale (s .min) (s .max) (binsOf s)
 scaled known = search needs
 
 -- there is a count for each bin
@@ -47,19 +46,19 @@ pub length-raw : (w h : ℕ) (pic : List ℕ) (s : Settings) (k : ℕ) → lengt
 length-raw w h pic s k = length-counts (s .min) (s .max) (binsOf s) (greysOf pic w (tileOf w h s k))
 
 -- a tile's greys lie in Min to Max
-pub tile-greys : {w h : ℕ} {pic : List ℕ} {s : Settings} {k size : ℕ} → CountAsks w h pic s k size → all (within (s .min) (s .max)) (greysOf pic w (tileOf w h s k)) ≡ true
+pub tile-greys : {w h : ℕ} {pic : List ℕ} {s : Settings} {k size : ℕ} → CountTileAsks w h pic s k size → all (within (s .min) (s .max)) (greysOf pic w (tileOf w h s k)) ≡ true
 tile-greys {w} {h} {pic} {s} {k} asks =
     let inside = tile-inside (asks .film .tiled) (asks .tile) (asks .film .whole) in
     greys-all (within (s .min) (s .max)) pic w (tileOf w h s k) (inside .across) (inside .down) (asks .film .greys)
 
 -- so its counts add up to its pixels
-pub raw-sum : {w h : ℕ} {pic : List ℕ} {s : Settings} {k size : ℕ} → CountAsks w h pic s k size → total (rawCounts w h pic s k) ≡ pixelsIn w h s k
+pub raw-sum : {w h : ℕ} {pic : List ℕ} {s : Settings} {k size : ℕ} → CountTileAsks w h pic s k size → total (rawCounts w h pic s k) ≡ pixelsIn w h s k
 raw-sum {w} {h} {pic} {s} {k} asks =
     total-counts (s .min) (s .max) (binsOf s) (greysOf pic w (tileOf w h s k)) (tile-greys asks) (omega (arith, asks .film .tiled .bins)) ∙ length-tile-greys w h pic s k
 
-module _ {w h : ℕ} {pic : List ℕ} {s : Settings} {k : ℕ} (cs : List ℕ) (asks : CountAsks w h pic s k (length cs)) {r : Rect} {b : ℕ} (p : r ≡ tileOf w h s k) (q : b ≡ binsOf s) where
+module _ {w h : ℕ} {pic : List ℕ} {s : Settings} {k : ℕ} (cs : List ℕ) (asks : CountTileAsks w h pic s k (length cs)) {r : Rect} {b : ℕ} (p : r ≡ tileOf w h s k) (q : b ≡ binsOf s) where
   -- what counting tile k asks, its rectangle and the bins as they were worked out
-  pub count-asks : tally.CountAsks pic w r (s .min) (s .max) b (length (block cs k b))
+  pub count-asks : CountRectAsks pic w r (s .min) (s .max) b (length (block cs k b))
   count-asks =
       let tiled : Tiled w h s = asks .film .tiled in
       rw (p, length-block cs k b (block-room s (asks .film .fitting) (asks .tile) q), q)

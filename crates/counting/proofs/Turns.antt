@@ -11,7 +11,7 @@ use Rattle.lists.proofs.Blocks.{blocks-over, blocks-end, blocks-onto, length-bl
 use Rattle.lists.proofs.Fills.{blocks-none}
 use Rattle.settings.specs.declared.Settings.{Settings}
 use Rattle.settings.specs.Settings.{binsOf}
-use Rattle.counting.specs.Counting.{rawCounts, countings, CountsAsk, CountAsks}
+use Rattle.counting.specs.Counting.{rawCounts, countings, CountReady, CountTileAsks}
 use Rattle.counting.proofs.Tiles.{length-raw}
 
 -- before tile k: the counts of the tiles before it are laid down
@@ -22,7 +22,7 @@ pub record Counting (w h : ℕ) (pic : List ℕ) (s : Settings) (c₀ c : List �
 pub counting-first : {w h : ℕ} {pic : List ℕ} {s : Settings} {c₀ : List ℕ} → Counting w h pic s c₀ c₀ 0
 counting-first {w} {h} {pic} {s} {c₀} = record { laid = blocks-none (binsOf s) (rawCounts w h pic s) c₀ }
 
-module _ {w h : ℕ} {pic : List ℕ} {s : Settings} {c₀ : List ℕ} (asks : CountsAsk w h pic s (length c₀)) where
+module _ {w h : ℕ} {pic : List ℕ} {s : Settings} {c₀ : List ℕ} (asks : CountReady w h pic s (length c₀)) where
   -- the length stays
   pub counting-length : {c : List ℕ} {k : ℕ} → Counting w h pic s c₀ c k → k ≤ s .across * s .down → length c ≡ length c₀
   counting-length {c} {k} turn l =
@@ -30,7 +30,7 @@ module _ {w h : ℕ} {pic : List ℕ} {s : Settings} {c₀ : List ℕ} (asks : C
       ∙ length-blocks (binsOf s) (rawCounts w h pic s) c₀ k (λ i q. length-raw w h pic s i) (omega (arith, mul-le-mul-right (binsOf s) l, asks .fitting))
 
   -- what tile k asks
-  pub counting-asks : {c : List ℕ} {k : ℕ} → Counting w h pic s c₀ c k → k < s .across * s .down → CountAsks w h pic s k (length c)
+  pub counting-asks : {c : List ℕ} {k : ℕ} → Counting w h pic s c₀ c k → k < s .across * s .down → CountTileAsks w h pic s k (length c)
   counting-asks turn l = rw (counting-length turn (omega arith)) record { film = asks; tile = l }
 
   -- one tile more

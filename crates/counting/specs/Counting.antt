@@ -22,7 +22,7 @@ use Rattle.counting.specs.declared.Counted.the-variants as Counted
 -- ---- counts
 
 -- "each tile's raw counts": how many of tile k's pixels are in each bin
-abbrev pub rawCounts : ℕ → ℕ → List ℕ → Settings → ℕ → List ℕ
+abbrev pub rawCounts : (w h : ℕ) (pic : List ℕ) (s : Settings) (k : ℕ) → List ℕ
 rawCounts w h pic s k = countsOf (s .min) (s .max) (binsOf s) (greysOf pic w (tileOf w h s k))
 
 -- those of all tiles, "in the mappings' order"
@@ -48,7 +48,7 @@ unfoldable pub pictureRows : ℕ → ℕ → ℕ → Settings → List Row
 pictureRows w h size s = sizeRows w h size ++ (gridRows w h s ++ rangeRows s)
 
 -- "Counting gives 1 to 9 with 31 after 9, then 33, then 13"
-unfoldable pub countRows : ℕ → ℕ → List ℕ → Settings → ℕ → List Row
+unfoldable pub countRows : (w h : ℕ) (pic : List ℕ) (s : Settings) (size : ℕ) → List Row
 countRows w h pic s size = pictureRows w h (length pic) s ++ (countsRows s size ++ outsideRows pic s)
 
 -- ---- counting
@@ -59,26 +59,26 @@ countedSays Counted.Done = accepted tt
 countedSays (Counted.Refused n) = refused n
 
 -- what counting leaves: its answer and the counts
-pub record Tallied : Type 0 where
+pub record CountOut : Type 0 where
   pub answer : Counted
   pub counts : List ℕ
 
 -- the answer and the counts at the end, as counting leaves them
-abbrev pub counted : Counted → List ℕ → Tallied
-counted r cs = record { answer = r; counts = cs }
+abbrev pub countLeaves : Counted → List ℕ → CountOut
+countLeaves r cs = record { answer = r; counts = cs }
 
 -- "counting, which fills only the front of a lent buffer with each tile's raw counts"
-unfoldable pub countDoneOf : ℕ → ℕ → List ℕ → Settings → List ℕ → Tallied
-countDoneOf w h pic s cs = counted Counted.Done (onto cs (countings w h pic s))
+unfoldable pub countDoneOf : (w h : ℕ) (pic : List ℕ) (s : Settings) (cs : List ℕ) → CountOut
+countDoneOf w h pic s cs = countLeaves Counted.Done (onto cs (countings w h pic s))
 
 -- a refusal leaves the counts as they were; where none applies, counting does its work
-unfoldable pub countOf : ℕ → ℕ → List ℕ → Settings → List ℕ → Tallied
-countOf w h pic s cs = unless (first (countRows w h pic s (length cs))) (λ n. counted (Counted.Refused n) cs) (countDoneOf w h pic s cs)
+unfoldable pub countOf : (w h : ℕ) (pic : List ℕ) (s : Settings) (cs : List ℕ) → CountOut
+countOf w h pic s cs = unless (first (countRows w h pic s (length cs))) (λ n. countLeaves (Counted.Refused n) cs) (countDoneOf w h pic s cs)
 
 -- ---- one counting for each factor
 
 -- settings that "for each f in turn over the same counts" agree in all but the factor (and its edition, order 8), with bins 0 read as 128
-pub record Alike (s s′ : Settings) : Type 0 where
+pub record AlikeButClip (s s′ : Settings) : Type 0 where
   pub across : s .across ≡ s′ .across
   pub down : s .down ≡ s′ .down
   pub bins : binsOf s ≡ binsOf s′
@@ -98,13 +98,13 @@ pub record LentAsks (s : Settings) : Type 0 where
   pub bins : binsOf s ≤ 4096
 
 -- what counting knows once none of its rows applies
-pub record CountsAsk (w h : ℕ) (pic : List ℕ) (s : Settings) (size : ℕ) : Type 0 where
+pub record CountReady (w h : ℕ) (pic : List ℕ) (s : Settings) (size : ℕ) : Type 0 where
   pub tiled : Tiled w h s
   pub whole : length pic ≡ w * h
   pub fitting : entriesOf s ≤ size
   pub greys : all (within (s .min) (s .max)) pic ≡ true
 
 -- the same of one of the tiles
-pub record CountAsks (w h : ℕ) (pic : List ℕ) (s : Settings) (k size : ℕ) : Type 0 where
-  pub film : CountsAsk w h pic s size
+pub record CountTileAsks (w h : ℕ) (pic : List ℕ) (s : Settings) (k size : ℕ) : Type 0 where
+  pub film : CountReady w h pic s size
   pub tile : k < s .across * s .down

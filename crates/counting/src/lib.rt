@@ -5,7 +5,7 @@ ghost use lib.ListN.{length};
 ghost use Rattle.lists.specs.Lists.{onto, over};
 ghost use Rattle.refuse.specs.Refuse.{first};
 ghost use Rattle.settings.specs.Settings.{binsOf};
-ghost use Rattle.counting.specs.Counting.{rawCounts, countings, countsRows, pictureRows, countRows, counted, countOf, LentAsks, CountsAsk, CountAsks};
+ghost use Rattle.counting.specs.Counting.{rawCounts, countings, countsRows, pictureRows, countRows, countLeaves, countOf, LentAsks, CountReady, CountTileAsks};
 use settings::Settings;
 
 // What counting answers: done, or the refusal's number alone.
@@ -60,7 +60,7 @@ fn count_refusal(width: u32, height: u32, picture: &[u16], s: Settings, size: us
 
 // Counts tile k, in its place among the counts.
 fn count_tile(picture: &[u16], width: u32, height: u32, s: Settings, k: usize, counts: &mut [u32])
-    requires { ⌜ CountAsks width height (now picture) s k (length (now counts)) ⌝ }
+    requires { ⌜ CountTileAsks width height (now picture) s k (length (now counts)) ⌝ }
     ensures { λ _. ⌜ now (counts .exit) ≡ over (now (counts .entry)) (k * binsOf s) (rawCounts width height (now (picture .entry)) s k) ⌝ }
 {
     let rect = tiles::tile_rect(width, height, s.across, s.down, k);
@@ -81,7 +81,7 @@ fn count_tile(picture: &[u16], width: u32, height: u32, s: Settings, k: usize, c
 
 // Counts all tiles; entries behind the last keep their contents.
 fn count_all(picture: &[u16], width: u32, height: u32, s: Settings, counts: &mut [u32])
-    requires { ⌜ CountsAsk width height (now picture) s (length (now counts)) ⌝ }
+    requires { ⌜ CountReady width height (now picture) s (length (now counts)) ⌝ }
     ensures { λ _. ⌜ now (counts .exit) ≡ onto (now (counts .entry)) (countings width height (now (picture .entry)) s) ⌝ }
 {
     let tiles = (s.across * s.down) as usize;
@@ -100,7 +100,7 @@ pub fn count_tiles(
     s: Settings,
     counts: &mut [u32],
 ) -> Counted
-    ensures { λ r. ⌜ counted r (now (counts .exit)) ≡ countOf width height (now (picture .entry)) s (now (counts .entry)) ⌝ }
+    ensures { λ r. ⌜ countLeaves r (now (counts .exit)) ≡ countOf width height (now (picture .entry)) s (now (counts .entry)) ⌝ }
 {
     let refused = count_refusal(width, height, picture, s, counts.len());
     if refused != 0 {

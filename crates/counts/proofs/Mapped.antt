@@ -25,7 +25,7 @@ use Rattle.tiles.proofs.Spents.{spents-from}
 use Rattle.prepare.specs.Prepare.{listedRows, prepareRows, preparedOf, prepareOf}
 use Rattle.prepare.proofs.Table.{table-parts, table-both, work, listed-scratch, listed-short, listed-greys}
 use Rattle.prepare.proofs.Endings.{ends-refused, ends-done, prepared-as}
-use Rattle.counting.specs.Counting.{countings, countRows, CountsAsk}
+use Rattle.counting.specs.Counting.{countings, countRows, CountReady}
 use Rattle.counting.proofs.Tables.{fits-counts, count-ready, count-parts, parts-count}
 use Rattle.counting.proofs.Tiles.{raw-sum, length-countings, own-counts}
 use Rattle.counts.specs.Counts.{addsUp, mappingsFrom, spentsFrom, tilingRows, lentRows, sumRows, mapRows, mapDoneOf, mapOf}
@@ -47,7 +47,7 @@ own-spents w h pic s cs =
     joined-cong (s .across * s .down) (λ k l. ap (λ x. spentPair (spentBy (s .edition) (s .clip) (pixelsIn w h s k) x)) (own-counts w h pic s cs l)) ∙ sym (spents-from w h pic s)
 
 -- and each tile's add up
-pub own-sums : (w h : ℕ) (pic : List ℕ) (s : Settings) (cs : List ℕ) {size : ℕ} → CountsAsk w h pic s size → addsUp w h s (onto cs (countings w h pic s)) ≡ true
+pub own-sums : (w h : ℕ) (pic : List ℕ) (s : Settings) (cs : List ℕ) {size : ℕ} → CountReady w h pic s size → addsUp w h s (onto cs (countings w h pic s)) ≡ true
 unfolding addsUp
 own-sums w h pic s cs asks =
     every-all (s .across * s .down) _ (λ k l. eq-eqb _ _ (ap total (own-counts w h pic s cs l) ∙ raw-sum record { film = asks; tile = l }))
@@ -80,7 +80,7 @@ or-none zero = refl
 or-none (suc a) = refl
 
 module _ (w h : ℕ) (pic : List ℕ) (s : Settings) (cs : List ℕ) (free : first (countRows w h pic s (length cs)) ≡ 0) where
-  asks : CountsAsk w h pic s (length cs)
+  asks : CountReady w h pic s (length cs)
   asks = count-ready w h pic s (length cs) free
 
   -- none of 1 to 9 and 31 applies

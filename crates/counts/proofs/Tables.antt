@@ -21,7 +21,7 @@ use Rattle.tiles.specs.Tiles.{spentEntries}
 use Rattle.counting.specs.Counting.{countsRows}
 use Rattle.counting.proofs.Tables.{counts-numbers, counts-numbered, counts-fits}
 use Rattle.counting.proofs.Like.{counts-alike}
-use Rattle.counts.specs.Counts.{addsUp, tilingRows, lentRows, sumRows, mapRows, ListAsks}
+use Rattle.counts.specs.Counts.{addsUp, tilingRows, lentRows, sumRows, mapRows, MapAllAsks}
 
 -- ---- the numbers, in the order that the orders give them
 
@@ -108,7 +108,7 @@ lent-fits s room scratch list size e =
     )
 
 -- none of mapping's
-pub map-ready : (w h : ℕ) (s : Settings) (cs : List ℕ) (room scratch list : ℕ) → first (mapRows w h s cs room scratch list) ≡ 0 → ListAsks w h s cs room scratch list
+pub map-ready : (w h : ℕ) (s : Settings) (cs : List ℕ) (room scratch list : ℕ) → first (mapRows w h s cs room scratch list) ≡ 0 → MapAllAsks w h s cs room scratch list
 unfolding mapRows sumRows all numbersOf
 map-ready w h s cs room scratch list e =
     let a = first-both (tilingRows w h s) _ (tiling-numbered w h s) e in

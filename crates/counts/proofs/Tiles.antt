@@ -16,16 +16,16 @@ use Rattle.lists.proofs.Fills.{take-onto, drop-onto, length-onto}
 use Rattle.lists.proofs.Maps.{over-part}
 use Rattle.lists.proofs.Windows.{block, length-block, block-cut}
 use Rattle.clip.specs.declared.Spent.{Spent}
-use Rattle.tile.specs.Tile.{clippedBy, countsMapping, spentBy, Holds, FromAsks}
+use Rattle.tile.specs.Tile.{clippedBy, countsMapping, spentBy, Holds, FromCountsAsks}
 use Rattle.tile.proofs.Tiles.{length-clipped-by, length-counts-mapping}
 use Rattle.settings.specs.declared.Settings.{Settings}
 use Rattle.settings.specs.Settings.{binsOf, Tiled}
 use Rattle.tiles.specs.Tiles.{pixelsIn}
 use Rattle.tiles.proofs.Tiles.{tile-pixels-some, tile-pixels-most}
-use Rattle.tiles.proofs.Films.{holds}
+use Rattle.tiles.proofs.Films.{clip-holds}
 use Rattle.counting.specs.Counting.{countsIn}
 use Rattle.counting.proofs.Tiles.{block-room, block-small}
-use Rattle.counts.specs.Counts.{addsUp, mappingFrom, SumAsks, MapsAsk, MapAsks, CopyAsks, OneMapped}
+use Rattle.counts.specs.Counts.{addsUp, mappingFrom, TileSumAsks, MapReady, MapOneAsks, CopyTileAsks, OneMapped}
 
 -- a tile's counts, as the code cuts them out
 pub counts-cut : (s : Settings) (cs : List ℕ) (k : ℕ) {b : ℕ} → b ≡ binsOf s → block cs k b ≡ countsIn s cs k
@@ -33,7 +33,7 @@ counts-cut s cs k {b} q = block-cut cs k b ∙ ap (λ n. take n (drop (k * n) cs
 
 -- ---- adding up
 
-module _ {w h : ℕ} {s : Settings} {k : ℕ} (cs : List ℕ) (asks : SumAsks w h s k (length cs)) {b : ℕ} (q : b ≡ binsOf s) where
+module _ {w h : ℕ} {s : Settings} {k : ℕ} (cs : List ℕ) (asks : TileSumAsks w h s k (length cs)) {b : ℕ} (q : b ≡ binsOf s) where
   -- a tile has at most 4096 counts
   pub sum-asks : length (block cs k b) ≤ 4096
   sum-asks = omega (arith, length-block cs k b (block-room s (asks .film .fitting) (asks .tile) q), asks .film .tiled .binsmost)
@@ -46,21 +46,21 @@ sum-found w h s cs k q p e = e ∙ ap₂ (λ x y. eqb (total x) y) (counts-cut s
 -- ---- mapping
 
 -- a tile's counts, where there are some for each
-pub length-counts-in : {w h : ℕ} {s : Settings} {cs : List ℕ} {k room scratch : ℕ} → MapAsks w h s cs k room scratch → length (countsIn s cs k) ≡ binsOf s
+pub length-counts-in : {w h : ℕ} {s : Settings} {cs : List ℕ} {k room scratch : ℕ} → MapOneAsks w h s cs k room scratch → length (countsIn s cs k) ≡ binsOf s
 length-counts-in {s = s} {cs} {k} asks = ap length (sym (counts-cut s cs k refl)) ∙ length-block cs k (binsOf s) (block-room s (asks .film .long) (asks .tile) refl)
 
 -- they add up to its pixels
-pub tile-sum : {w h : ℕ} {s : Settings} {cs : List ℕ} {k room scratch : ℕ} → MapAsks w h s cs k room scratch → total (countsIn s cs k) ≡ pixelsIn w h s k
+pub tile-sum : {w h : ℕ} {s : Settings} {cs : List ℕ} {k room scratch : ℕ} → MapOneAsks w h s cs k room scratch → total (countsIn s cs k) ≡ pixelsIn w h s k
 unfolding addsUp
 tile-sum {w} {h} {s} {cs} {k} asks = eqb-true (total (countsIn s cs k)) (pixelsIn w h s k) (every-at (s .across * s .down) _ (asks .film .sums) k (asks .tile))
 
 -- and the mapping has a value for each bin
-pub length-mapping-from : {w h : ℕ} {s : Settings} {cs : List ℕ} {k room scratch : ℕ} → MapAsks w h s cs k room scratch → length (mappingFrom w h s cs k) ≡ binsOf s
+pub length-mapping-from : {w h : ℕ} {s : Settings} {cs : List ℕ} {k room scratch : ℕ} → MapOneAsks w h s cs k room scratch → length (mappingFrom w h s cs k) ≡ binsOf s
 length-mapping-from {w} {h} {s} {cs} {k} asks = length-counts-mapping (s .min) (s .max) (s .edition) (s .clip) (pixelsIn w h s k) (countsIn s cs k) ∙ length-counts-in asks
 
-module _ {w h : ℕ} {s : Settings} {cs : List ℕ} {k : ℕ} (m t : List ℕ) (asks : MapAsks w h s cs k (length m) (length t)) {b : ℕ} (q : b ≡ binsOf s) where
+module _ {w h : ℕ} {s : Settings} {cs : List ℕ} {k : ℕ} (m t : List ℕ) (asks : MapOneAsks w h s cs k (length m) (length t)) {b : ℕ} (q : b ≡ binsOf s) where
   -- the copy of the counts fits into the scratch
-  pub copy-asks : CopyAsks b k (length cs) (length t)
+  pub copy-asks : CopyTileAsks b k (length cs) (length t)
   copy-asks =
       record {
         inside = block-room s (asks .film .long) (asks .tile) q;
@@ -87,13 +87,13 @@ module _ {w h : ℕ} {s : Settings} {cs : List ℕ} {k : ℕ} (m t : List ℕ) (
 
     module _ {n : ℕ} (p : n ≡ pixelsIn w h s k) where
       -- what clipping and mapping them asks
-      pub from-asks : FromAsks (s .clip) n (s .min) (s .max) (take b u) (length (block m k b))
+      pub from-asks : FromCountsAsks (s .clip) n (s .min) (s .max) (take b u) (length (block m k b))
       from-asks =
-          let film : MapsAsk w h s cs (length m) (length t) = asks .film in
+          let film : MapReady w h s cs (length m) (length t) = asks .film in
           let tiled : Tiled w h s = film .tiled in
           record {
             counted = record {
-              holds = subst (λ j. Holds (s .clip) n j) (sym size) (holds (s .clip) n (binsOf s) (film .fair) (omega (arith, tiled .bins)));
+              holds = subst (λ j. Holds (s .clip) n j) (sym size) (clip-holds (s .clip) n (binsOf s) (film .fair) (omega (arith, tiled .bins)));
               all-pixels = ap total copied ∙ tile-sum asks ∙ sym p;
               few-pixels = omega (arith, tile-pixels-most tiled (asks .tile));
               some = omega (arith, size, tiled .bins);

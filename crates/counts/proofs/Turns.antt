@@ -19,7 +19,7 @@ use Rattle.clip.specs.declared.Spent.{Spent}
 use Rattle.tiles.specs.Tiles.{pixelsIn}
 use Rattle.tiles.proofs.Turns.{Listed, listed-end}
 use Rattle.counting.specs.Counting.{countsIn}
-use Rattle.counts.specs.Counts.{addsUp, mappingFrom, mappingsFrom, spentFrom, spentsFrom, MapsAsk, MapAsks, OneMapped, AllMapped}
+use Rattle.counts.specs.Counts.{addsUp, mappingFrom, mappingsFrom, spentFrom, spentsFrom, MapReady, MapOneAsks, OneMapped, AllMapped}
 use Rattle.counts.proofs.Tiles.{length-mapping-from}
 
 -- ---- adding up
@@ -63,10 +63,10 @@ pub mapping-first : {w h : ℕ} {s : Settings} {cs m₀ t₀ : List ℕ} → Map
 mapping-first {w} {h} {s} {cs} {m₀} = record { map = blocks-none (binsOf s) (mappingFrom w h s cs) m₀; behind = refl; size = refl }
 
 -- a mapped value for each bin of each tile
-sized : {w h : ℕ} {s : Settings} {cs : List ℕ} {room scratch : ℕ} → MapsAsk w h s cs room scratch → (i : ℕ) → i < s .across * s .down → length (mappingFrom w h s cs i) ≡ binsOf s
+sized : {w h : ℕ} {s : Settings} {cs : List ℕ} {room scratch : ℕ} → MapReady w h s cs room scratch → (i : ℕ) → i < s .across * s .down → length (mappingFrom w h s cs i) ≡ binsOf s
 sized asks i l = length-mapping-from record { film = asks; tile = l }
 
-module _ {w h : ℕ} {s : Settings} {cs m₀ t₀ : List ℕ} (asks : MapsAsk w h s cs (length m₀) (length t₀)) where
+module _ {w h : ℕ} {s : Settings} {cs m₀ t₀ : List ℕ} (asks : MapReady w h s cs (length m₀) (length t₀)) where
   -- the map buffer's length stays
   pub mapping-length : {m t : List ℕ} {k : ℕ} → Mapping w h s cs m₀ m t₀ t k → k ≤ s .across * s .down → length m ≡ length m₀
   mapping-length {m} {t} {k} turn l =
@@ -74,7 +74,7 @@ module _ {w h : ℕ} {s : Settings} {cs m₀ t₀ : List ℕ} (asks : MapsAsk w 
       ∙ length-blocks (binsOf s) (mappingFrom w h s cs) m₀ k (λ i q. sized asks i (omega arith)) (omega (arith, mul-le-mul-right (binsOf s) l, asks .fitting))
 
   -- what tile k asks
-  pub mapping-asks : {m t : List ℕ} {k : ℕ} → Mapping w h s cs m₀ m t₀ t k → k < s .across * s .down → MapAsks w h s cs k (length m) (length t)
+  pub mapping-asks : {m t : List ℕ} {k : ℕ} → Mapping w h s cs m₀ m t₀ t k → k < s .across * s .down → MapOneAsks w h s cs k (length m) (length t)
   mapping-asks turn l = rw (mapping-length turn (omega arith), turn .size) record { film = asks; tile = l }
 
   -- one tile more

@@ -14,7 +14,7 @@ use Rattle.tile.specs.Tile.{countsMapping, spentBy}
 use Rattle.settings.specs.declared.Settings.{Settings}
 use Rattle.settings.specs.Settings.{binsOf, entriesOf, recordOf, clipBad, sideRows, gridRows, greyRows, roomRows, Tiled}
 use Rattle.tiles.specs.Tiles.{pixelsIn, footOf, spentPair, spentEntries, listRow, Placed, AllPlaced}
-use Rattle.prepare.specs.Prepare.{frontLeft, scratchLeft, preparedWith, preparedNot, Ended, ending}
+use Rattle.prepare.specs.Prepare.{frontLeft, scratchLeft, preparedWith, preparedNot, PrepareOut, prepareLeaves}
 use Rattle.counting.specs.Counting.{countsIn, countsRows}
 
 -- ---- mappings from counts
@@ -24,7 +24,7 @@ unfoldable pub addsUp : ℕ → ℕ → Settings → List ℕ → Bool
 addsUp w h s cs = every (s .across * s .down) (λ k. eqb (total (countsIn s cs k)) (pixelsIn w h s k))
 
 -- the mapping of tile k "from those counts"
-abbrev pub mappingFrom : ℕ → ℕ → Settings → List ℕ → ℕ → List ℕ
+abbrev pub mappingFrom : (w h : ℕ) (s : Settings) (cs : List ℕ) (k : ℕ) → List ℕ
 mappingFrom w h s cs k = countsMapping (s .min) (s .max) (s .edition) (s .clip) (pixelsIn w h s k) (countsIn s cs k)
 
 -- "mapping, which makes the mappings .. from those counts"
@@ -32,7 +32,7 @@ unfoldable pub mappingsFrom : ℕ → ℕ → Settings → List ℕ → List ℕ
 mappingsFrom w h s cs = joined (s .across * s .down) (mappingFrom w h s cs)
 
 -- order 7, "E, and the number of looks" of tile k from those counts
-abbrev pub spentFrom : ℕ → ℕ → Settings → List ℕ → ℕ → Spent
+abbrev pub spentFrom : (w h : ℕ) (s : Settings) (cs : List ℕ) (k : ℕ) → Spent
 spentFrom w h s cs k = spentBy (s .edition) (s .clip) (pixelsIn w h s k) (countsIn s cs k)
 
 -- the list "in which each tile in row order has two entries"
@@ -46,7 +46,7 @@ unfoldable pub tilingRows : ℕ → ℕ → Settings → List Row
 tilingRows w h s = sideRows w h ++ (gridRows w h s ++ greyRows s)
 
 -- 11, 12, 32 and 33: what is lent is too short; 32 "straight after 12"
-unfoldable pub lentRows : Settings → ℕ → ℕ → ℕ → ℕ → List Row
+unfoldable pub lentRows : (s : Settings) (room scratch list size : ℕ) → List Row
 lentRows s room scratch list size = roomRows s room ++ (scratchRow scratch (binsOf s) ∷ listRow s list ∷ countsRows s size)
 
 -- 34: "a tile's counts don't add up to its pixels"
@@ -54,13 +54,13 @@ unfoldable pub sumRows : ℕ → ℕ → Settings → List ℕ → List Row
 sumRows w h s cs = row 34 (not (addsUp w h s cs)) ∷ []
 
 -- "mapping gives 1, 3 to 12 with 31 after 9, then 33, then 34", 32 behind 12
-unfoldable pub mapRows : ℕ → ℕ → Settings → List ℕ → ℕ → ℕ → ℕ → List Row
+unfoldable pub mapRows : (w h : ℕ) (s : Settings) (cs : List ℕ) (room scratch list : ℕ) → List Row
 mapRows w h s cs room scratch list = tilingRows w h s ++ (lentRows s room scratch list (length cs) ++ sumRows w h s cs)
 
 -- ---- mapping
 
 -- "mapping, which makes the mappings and footer from those counts": "Mapping leaves map buffer and scratch as prepare does, at factor 1.0 too"
-unfoldable pub mapDoneOf : ℕ → ℕ → ℕ → Settings → List ℕ → List ℕ → List ℕ → List ℕ → Ended
+unfoldable pub mapDoneOf : (film w h : ℕ) (s : Settings) (cs m t n : List ℕ) → PrepareOut
 mapDoneOf film w h s cs m t n =
     record {
       answer = preparedWith (recordOf film w h s) (footOf w h s);
@@ -70,24 +70,24 @@ mapDoneOf film w h s cs m t n =
     }
 
 -- a refusal leaves all memory as it was; where none applies, mapping does its work
-unfoldable pub mapOf : ℕ → ℕ → ℕ → Settings → List ℕ → List ℕ → List ℕ → List ℕ → Ended
+unfoldable pub mapOf : (film w h : ℕ) (s : Settings) (cs m t n : List ℕ) → PrepareOut
 mapOf film w h s cs m t n =
-    unless (first (mapRows w h s cs (length m) (length t) (length n))) (λ k. ending (preparedNot k) m t n) (mapDoneOf film w h s cs m t n)
+    unless (first (mapRows w h s cs (length m) (length t) (length n))) (λ k. prepareLeaves (preparedNot k) m t n) (mapDoneOf film w h s cs m t n)
 
 -- ---- what the functions below ask
 
 -- what a look at the sums asks: a film's tiles, and counts for each
-pub record SumsAsk (w h : ℕ) (s : Settings) (size : ℕ) : Type 0 where
+pub record AllSumsAsks (w h : ℕ) (s : Settings) (size : ℕ) : Type 0 where
   pub tiled : Tiled w h s
   pub fitting : entriesOf s ≤ size
 
 -- the same of one of the tiles
-pub record SumAsks (w h : ℕ) (s : Settings) (k size : ℕ) : Type 0 where
-  pub film : SumsAsk w h s size
+pub record TileSumAsks (w h : ℕ) (s : Settings) (k size : ℕ) : Type 0 where
+  pub film : AllSumsAsks w h s size
   pub tile : k < s .across * s .down
 
 -- what mapping a tile knows once none of the rows applies
-pub record MapsAsk (w h : ℕ) (s : Settings) (cs : List ℕ) (room scratch : ℕ) : Type 0 where
+pub record MapReady (w h : ℕ) (s : Settings) (cs : List ℕ) (room scratch : ℕ) : Type 0 where
   pub tiled : Tiled w h s
   pub fair : clipBad (s .clip) ≡ false
   pub fitting : entriesOf s ≤ room
@@ -96,17 +96,17 @@ pub record MapsAsk (w h : ℕ) (s : Settings) (cs : List ℕ) (room scratch : �
   pub sums : addsUp w h s cs ≡ true
 
 -- what `map_all` asks: that, and a list with two entries for each tile
-pub record ListAsks (w h : ℕ) (s : Settings) (cs : List ℕ) (room scratch list : ℕ) : Type 0 where
-  pub film : MapsAsk w h s cs room scratch
+pub record MapAllAsks (w h : ℕ) (s : Settings) (cs : List ℕ) (room scratch list : ℕ) : Type 0 where
+  pub film : MapReady w h s cs room scratch
   pub pairs : spentEntries s ≤ list
 
 -- the same of one of the tiles
-pub record MapAsks (w h : ℕ) (s : Settings) (cs : List ℕ) (k room scratch : ℕ) : Type 0 where
-  pub film : MapsAsk w h s cs room scratch
+pub record MapOneAsks (w h : ℕ) (s : Settings) (cs : List ℕ) (k room scratch : ℕ) : Type 0 where
+  pub film : MapReady w h s cs room scratch
   pub tile : k < s .across * s .down
 
 -- what copying a tile's counts asks: block k of b entries, and room for it
-pub record CopyAsks (b k size scratch : ℕ) : Type 0 where
+pub record CopyTileAsks (b k size scratch : ℕ) : Type 0 where
   pub inside : k * b + b ≤ size
   pub small : k * b + b ≤ 1048576
   pub room : b ≤ scratch
@@ -117,5 +117,5 @@ pub record OneMapped (w h : ℕ) (s : Settings) (cs : List ℕ) (k : ℕ) (m₀ 
   pub spent : took ≡ spentFrom w h s cs k
 
 -- what `map_all` leaves
-abbrev pub AllMapped : ℕ → ℕ → Settings → List ℕ → List ℕ → List ℕ → List ℕ → List ℕ → List ℕ → List ℕ → Type 0
+abbrev pub AllMapped : (w h : ℕ) (s : Settings) (cs : List ℕ) → List ℕ → List ℕ → List ℕ → List ℕ → List ℕ → List ℕ → Type 0
 AllMapped w h s cs = AllPlaced s (mappingsFrom w h s cs) (spentsFrom w h s cs)

@@ -6,9 +6,9 @@ ghost use lib.ListN.{length, take, drop};
 ghost use Rattle.lists.specs.Lists.{total, onto};
 ghost use Rattle.refuse.specs.Refuse.{first};
 ghost use Rattle.tiles.specs.Tiles.{pixelsIn};
-ghost use Rattle.prepare.specs.Prepare.{ending};
+ghost use Rattle.prepare.specs.Prepare.{prepareLeaves};
 ghost use Rattle.counting.specs.Counting.{countsIn, LentAsks};
-ghost use Rattle.counts.specs.Counts.{addsUp, tilingRows, lentRows, mapRows, mapOf, SumsAsk, SumAsks, ListAsks, MapAsks, CopyAsks, OneMapped, AllMapped};
+ghost use Rattle.counts.specs.Counts.{addsUp, tilingRows, lentRows, mapRows, mapOf, AllSumsAsks, TileSumAsks, MapAllAsks, MapOneAsks, CopyTileAsks, OneMapped, AllMapped};
 use clip::Spent;
 use prepare::Made;
 use prepare::Prepared;
@@ -30,7 +30,7 @@ fn adds_up(counts: &[u32], pixels: u32) -> bool
 
 // Whether the counts of tile k add up to its own pixels.
 fn tile_adds_up(width: u32, height: u32, s: Settings, k: usize, counts: &[u32]) -> bool
-    requires { ⌜ SumAsks width height s k (length (now counts)) ⌝ }
+    requires { ⌜ TileSumAsks width height s k (length (now counts)) ⌝ }
     ensures { λ r. ⌜ r ≡ eqb (total (countsIn s (now (counts .entry)) k)) (pixelsIn width height s k) ⌝ }
 {
     let own = tiles::tile_pixels(width, height, s, k);
@@ -42,7 +42,7 @@ fn tile_adds_up(width: u32, height: u32, s: Settings, k: usize, counts: &[u32]) 
 
 // Whether each tile's counts add up to its pixels.
 fn all_add_up(width: u32, height: u32, s: Settings, counts: &[u32]) -> bool
-    requires { ⌜ SumsAsk width height s (length (now counts)) ⌝ }
+    requires { ⌜ AllSumsAsks width height s (length (now counts)) ⌝ }
     ensures { λ r. ⌜ r ≡ addsUp width height s (now (counts .entry)) ⌝ }
 {
     let tiles = (s.across * s.down) as usize;
@@ -117,7 +117,7 @@ fn map_refusal(
 
 // Copies the counts of tile k into the front of the scratch: clipping works in place, and the counts stay for the next factor.
 fn copy_tile(counts: &[u32], each: usize, k: usize, scratch: &mut [u32])
-    requires { ⌜ CopyAsks each k (length (now counts)) (length (now scratch)) ⌝ }
+    requires { ⌜ CopyTileAsks each k (length (now counts)) (length (now scratch)) ⌝ }
     ensures { λ _. ⌜ now (scratch .exit) ≡ onto (now (scratch .entry)) (take each (drop (k * each) (now (counts .entry)))) ⌝ }
 {
     let start = k * each;
@@ -135,7 +135,7 @@ fn map_one(
     map: &mut [u16],
     scratch: &mut [u32],
 ) -> Spent
-    requires { ⌜ MapAsks width height s (now counts) k (length (now map)) (length (now scratch)) ⌝ }
+    requires { ⌜ MapOneAsks width height s (now counts) k (length (now map)) (length (now scratch)) ⌝ }
     ensures { λ r. ⌜ OneMapped width height s (now (counts .entry)) k (now (map .entry)) (now (map .exit)) (now (scratch .entry)) (now (scratch .exit)) r ⌝ }
 {
     let pixels = tiles::tile_pixels(width, height, s, k);
@@ -166,7 +166,7 @@ fn map_all(
     scratch: &mut [u32],
     list: &mut [u64],
 )
-    requires { ⌜ ListAsks width height s (now counts) (length (now map)) (length (now scratch)) (length (now list)) ⌝ }
+    requires { ⌜ MapAllAsks width height s (now counts) (length (now map)) (length (now scratch)) (length (now list)) ⌝ }
     ensures { λ _. ⌜ AllMapped width height s (now (counts .entry)) (now (map .entry)) (now (map .exit)) (now (scratch .entry)) (now (scratch .exit)) (now (list .entry)) (now (list .exit)) ⌝ }
 {
     let tiles = (s.across * s.down) as usize;
@@ -191,7 +191,7 @@ pub fn map_counts(
     scratch: &mut [u32],
     list: &mut [u64],
 ) -> Prepared
-    ensures { λ r. ⌜ ending r (now (map .exit)) (now (scratch .exit)) (now (list .exit)) ≡ mapOf film width height s (now (counts .entry)) (now (map .entry)) (now (scratch .entry)) (now (list .entry)) ⌝ }
+    ensures { λ r. ⌜ prepareLeaves r (now (map .exit)) (now (scratch .exit)) (now (list .exit)) ≡ mapOf film width height s (now (counts .entry)) (now (map .entry)) (now (scratch .entry)) (now (list .entry)) ⌝ }
 {
     let refused = map_refusal(
         width,

@@ -18,13 +18,12 @@ use Rattle.refuse.proofs.Walk.{unless-refused}
 use Rattle.settings.specs.declared.Settings.{Settings}
 use Rattle.settings.specs.declared.Footer.{Footer}
 use Rattle.settings.specs.Settings.{binsOf, entriesOf, clipOne}
-use Rattle.tiles.specs.Tiles.{footOf, Work}
-use Rattle.tiles.specs.Tiles as tiles
+use Rattle.tiles.specs.Tiles.{footOf, Work, FilmFooterAsks}
 use Rattle.tiles.proofs.Footers.{film-asks}
 use Rattle.prepare.specs.declared.Enhanced.the-variants as Enhanced
 use Rattle.rule.proofs.Rule.{shown-one, shown-rule}
-use Rattle.prepare.specs.Prepare.{painting}
-use Rattle.direct.specs.Direct.{directRows, shownFilm, ruleRow, directedOf, directOf, FilmAsks}
+use Rattle.prepare.specs.Prepare.{paintLeaves}
+use Rattle.direct.specs.Direct.{directRows, shownFilm, ruleRow, directedOf, directOf, DirectPaintAsks}
 use Rattle.direct.proofs.Table.{known}
 
 -- ---- the film, row by row
@@ -66,7 +65,7 @@ module _ (w h : ℕ) (pic : List ℕ) (s : Settings) (scratch target : ℕ) {r :
   asks-work = known w h pic s scratch target (sym e ∙ z)
 
   -- the footer
-  pub asks-foot : tiles.FilmAsks w h s
+  pub asks-foot : FilmFooterAsks w h s
   asks-foot = film-asks (asks-work .0 .ready)
 
   -- the copy
@@ -74,28 +73,28 @@ module _ (w h : ℕ) (pic : List ℕ) (s : Settings) (scratch target : ℕ) {r :
   asks-copy = omega (arith, asks-work .0 .ready .whole, asks-work .1)
 
   -- the painting
-  pub asks-paint : {c : Bool} → c ≡ clipOne (s .clip) → c ≡ false → FilmAsks w h pic s target scratch
+  pub asks-paint : {c : Bool} → c ≡ clipOne (s .clip) → c ≡ false → DirectPaintAsks w h pic s target scratch
   asks-paint q f = record { film = record { work = asks-work .0; changes = sym q ∙ f }; room = asks-work .1 }
 
 -- ---- the endings
 
 module _ (w h : ℕ) (pic : List ℕ) (s : Settings) (o t : List ℕ) where
   -- a refusal, as it was worked out
-  pub direct-refused : {r : ℕ} → r ≡ first (directRows w h pic s (length t) (length o)) → (r ≡ 0 → ⊥) → painting (Enhanced.Refused r) o t ≡ directOf w h pic s o t
+  pub direct-refused : {r : ℕ} → r ≡ first (directRows w h pic s (length t) (length o)) → (r ≡ 0 → ⊥) → paintLeaves (Enhanced.Refused r) o t ≡ directOf w h pic s o t
   unfolding directOf
   direct-refused {r} e z =
-      unless-refused r (λ n. painting (Enhanced.Refused n) o t) (directedOf w h pic s t) z
-      ∙ ap (λ k. unless k (λ n. painting (Enhanced.Refused n) o t) (directedOf w h pic s t)) e
+      unless-refused r (λ n. paintLeaves (Enhanced.Refused n) o t) (directedOf w h pic s t) z
+      ∙ ap (λ k. unless k (λ n. paintLeaves (Enhanced.Refused n) o t) (directedOf w h pic s t)) e
 
   -- no refusal
   pub direct-done : {r : ℕ} → r ≡ first (directRows w h pic s (length t) (length o)) → r ≡ 0 → directedOf w h pic s t ≡ directOf w h pic s o t
   unfolding directOf
-  direct-done {r} e z = ap (λ k. unless k (λ n. painting (Enhanced.Refused n) o t) (directedOf w h pic s t)) (sym z ∙ e)
+  direct-done {r} e z = ap (λ k. unless k (λ n. paintLeaves (Enhanced.Refused n) o t) (directedOf w h pic s t)) (sym z ∙ e)
 
   -- at the factor 1.0 the film is copied, and the scratch stays
   pub direct-one : {r : ℕ} {foot : Footer} {c : Bool} {o′ : List ℕ} → r ≡ first (directRows w h pic s (length t) (length o)) → r ≡ 0
       → foot ≡ footOf w h s → c ≡ clipOne (s .clip) → c ≡ true → o′ ≡ onto o pic
-      → painting (Enhanced.Done foot) o′ t ≡ directOf w h pic s o t
+      → paintLeaves (Enhanced.Done foot) o′ t ≡ directOf w h pic s o t
   unfolding directedOf
   direct-one {r} {foot} {c} {o′} e z f q y g =
       let one : clipOne (s .clip) ≡ true = sym q ∙ y in
@@ -106,7 +105,7 @@ module _ (w h : ℕ) (pic : List ℕ) (s : Settings) (o t : List ℕ) where
   -- else it is painted
   pub direct-well : {r : ℕ} {foot : Footer} {c : Bool} {o′ t′ : List ℕ} → r ≡ first (directRows w h pic s (length t) (length o)) → r ≡ 0
       → foot ≡ footOf w h s → c ≡ clipOne (s .clip) → c ≡ false → o′ ≡ joined h (ruleRow w h pic s) → t′ ≡ filled (λ k. 0) t (binsOf s)
-      → painting (Enhanced.Done foot) o′ t′ ≡ directOf w h pic s o t
+      → paintLeaves (Enhanced.Done foot) o′ t′ ≡ directOf w h pic s o t
   unfolding directedOf
   direct-well {r} {foot} {c} {o′} {t′} e z f q y g u =
       let one : clipOne (s .clip) ≡ false = sym q ∙ y in

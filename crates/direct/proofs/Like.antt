@@ -11,7 +11,7 @@ use Rattle.settings.specs.Settings.{keptOf}
 use Rattle.settings.proofs.Like.{bins-kept, setting-kept}
 use Rattle.tiles.proofs.Like.{foot-kept}
 use Rattle.rule.proofs.Rule.{shown-kept}
-use Rattle.direct.specs.Direct.{workRows, directRows, shownFilm, directedOf, directOf}
+use Rattle.direct.specs.Direct.{directWorkRows, directRows, shownFilm, directedOf, directOf}
 
 -- the film that is shown
 pub shown-film-kept : (w h : ℕ) (pic : List ℕ) (s : Settings) → shownFilm w h pic (keptOf s) ≡ shownFilm w h pic s
@@ -19,8 +19,8 @@ unfolding shownFilm
 shown-film-kept w h pic s = joined-cong h (λ y l. tab-cong w (λ x k. shown-kept w h pic s x y))
 
 -- the rows 12, 17 and 13
-pub work-kept : (w h : ℕ) (pic : List ℕ) (s : Settings) (scratch target : ℕ) → workRows w h pic (keptOf s) scratch target ≡ workRows w h pic s scratch target
-unfolding workRows
+pub work-kept : (w h : ℕ) (pic : List ℕ) (s : Settings) (scratch target : ℕ) → directWorkRows w h pic (keptOf s) scratch target ≡ directWorkRows w h pic s scratch target
+unfolding directWorkRows
 work-kept w h pic s scratch target = rw (bins-kept s) refl
 
 -- and all of them

@@ -26,28 +26,28 @@ use Rattle.render.specs.Render.{columnPlace, rowPlace}
 use Rattle.tiles.specs.Tiles.{tileOf}
 use Rattle.rule.specs.Rule.{tileValue}
 use Rattle.rule.proofs.Rule.{value-at, rule-corners}
-use Rattle.direct.specs.Direct.{cornerValue, CornerAsks, PaintAsks, BinAsks, PixelAsks, Behind, Greyed}
+use Rattle.direct.specs.Direct.{cornerValue, TileValueAsks, DirectReady, DirectBinAsks, DirectPixelAsks, BehindBins, RuleGreyed}
 use Rattle.direct.proofs.Values.{paint-scale, corner-most}
 
 -- ---- the scratch
 
-pub behind-first : {s : Settings} {t : List ℕ} → Behind s t t
+pub behind-first : {s : Settings} {t : List ℕ} → BehindBins s t t
 behind-first = record { behind = refl; size = refl }
 
-pub behind-next : {s : Settings} {t₀ t u : List ℕ} → Behind s t₀ t → Behind s t u → Behind s t₀ u
+pub behind-next : {s : Settings} {t₀ t u : List ℕ} → BehindBins s t₀ t → BehindBins s t u → BehindBins s t₀ u
 behind-next a b = record { behind = b .behind ∙ a .behind; size = b .size ∙ a .size }
 
 -- cleared at the end, it is as if it had been cleared at once
-pub behind-clear : {s : Settings} {t₀ t u : List ℕ} {b : ℕ} → Behind s t₀ t → b ≡ binsOf s → u ≡ filled (λ k. 0) t b → u ≡ filled (λ k. 0) t₀ (binsOf s)
+pub behind-clear : {s : Settings} {t₀ t u : List ℕ} {b : ℕ} → BehindBins s t₀ t → b ≡ binsOf s → u ≡ filled (λ k. 0) t b → u ≡ filled (λ k. 0) t₀ (binsOf s)
 behind-clear {s} {t₀} {t} {u} {b} kept e q = q ∙ ap (filled (λ k. 0) t) e ∙ filled-behind (λ k. 0) t t₀ (binsOf s) (kept .behind)
 
 -- what is asked goes on
-pub paint-again : {w h : ℕ} {pic : List ℕ} {s : Settings} {n m : ℕ} → PaintAsks w h pic s n → m ≡ n → PaintAsks w h pic s m
-paint-again {w} {h} {pic} {s} asks e = subst (λ k. PaintAsks w h pic s k) (sym e) asks
+pub paint-again : {w h : ℕ} {pic : List ℕ} {s : Settings} {n m : ℕ} → DirectReady w h pic s n → m ≡ n → DirectReady w h pic s m
+paint-again {w} {h} {pic} {s} asks e = subst (λ k. DirectReady w h pic s k) (sym e) asks
 
 -- ---- the bin of a grey
 
-module _ {pic : List ℕ} {s : Settings} {at : ℕ} (asks : BinAsks pic s at) where
+module _ {pic : List ℕ} {s : Settings} {at : ℕ} (asks : DirectBinAsks pic s at) where
   grey-in : within (s .min) (s .max) (getD pic at 0) ≡ true
   grey-in = all-at (within (s .min) (s .max)) pic (asks .greys) at 0 (asks .inside)
 
@@ -68,14 +68,14 @@ module _ {pic : List ℕ} {s : Settings} {at : ℕ} (asks : BinAsks pic s at) wh
 
 -- ---- a pixel
 
-module _ {w h : ℕ} {pic : List ℕ} {s : Settings} {x y scratch : ℕ} (asks : PixelAsks w h pic s x y scratch) where
+module _ {w h : ℕ} {pic : List ℕ} {s : Settings} {x y scratch : ℕ} (asks : DirectPixelAsks w h pic s x y scratch) where
   tiled : Tiled w h s
   tiled = asks .film .work .ready .tiled
 
   pub index-small : y * w + x < 16777216
   index-small = omega (arith, digits-lt {q = y} {m = 4096} {r = x} {c = w} (omega (arith, asks .row, tiled .highest)) (asks .column), mul-comm w 4096, tiled .widest)
 
-  pub bin-asks : BinAsks pic s (y * w + x)
+  pub bin-asks : DirectBinAsks pic s (y * w + x)
   bin-asks =
       record {
         scale = paint-scale (asks .film);
@@ -92,22 +92,22 @@ module _ {w h : ℕ} {pic : List ℕ} {s : Settings} {x y scratch : ℕ} (asks :
   module _ {column row : Place} {k : ℕ} (p : column ≡ columnPlace w s x) (q : row ≡ rowPlace h s y) (e : k ≡ binOf (s .min) (s .max) (binsOf s) (getD pic (y * w + x) 0)) where
     -- what each of the four asks
     module _ {n : ℕ} (l : n ≡ scratch) where
-      film-again : PaintAsks w h pic s n
+      film-again : DirectReady w h pic s n
       film-again = paint-again (asks .film) l
 
       k-below : k < binsOf s
       k-below = bin-small bin-asks e
 
-      pub upper-left : CornerAsks w h pic s (row .lower) (column .lower) k n
+      pub upper-left : TileValueAsks w h pic s (row .lower) (column .lower) k n
       upper-left = record { film = film-again; row = rw q (row-sound .lower); column = rw p (column-sound .lower); bin = k-below }
 
-      pub upper-right : CornerAsks w h pic s (row .lower) (column .upper) k n
+      pub upper-right : TileValueAsks w h pic s (row .lower) (column .upper) k n
       upper-right = record { film = film-again; row = rw q (row-sound .lower); column = rw p (column-sound .upper); bin = k-below }
 
-      pub lower-left : CornerAsks w h pic s (row .upper) (column .lower) k n
+      pub lower-left : TileValueAsks w h pic s (row .upper) (column .lower) k n
       lower-left = record { film = film-again; row = rw q (row-sound .upper); column = rw p (column-sound .lower); bin = k-below }
 
-      pub lower-right : CornerAsks w h pic s (row .upper) (column .upper) k n
+      pub lower-right : TileValueAsks w h pic s (row .upper) (column .upper) k n
       lower-right = record { film = film-again; row = rw q (row-sound .upper); column = rw p (column-sound .upper); bin = k-below }
 
     module _ {a b c d : ℕ} (ea : a ≡ cornerValue w h pic s (row .lower) (column .lower) k) (eb : b ≡ cornerValue w h pic s (row .lower) (column .upper) k)
@@ -129,7 +129,7 @@ module _ {w h : ℕ} {pic : List ℕ} {s : Settings} {x y scratch : ℕ} (asks :
       corner-rule j i g = g ∙ value-at w pic s (tileOf w h s (j * s .across + i)) (getD pic (y * w + x) 0) e
 
       -- and what it is
-      pub pixel-is : {r : ℕ} → r ≡ greyOf column row a b c d → Greyed w h pic s x y r
+      pub pixel-is : {r : ℕ} → r ≡ greyOf column row a b c d → RuleGreyed w h pic s x y r
       pixel-is g =
           record {
             grey = g ∙ rule-corners w h pic s x y p q (corner-rule (row .lower) (column .lower) ea) (corner-rule (row .lower) (column .upper) eb) (corner-rule (row .upper) (column .lower) ec) (corner-rule (row .upper) (column .upper) ed);

@@ -13,7 +13,7 @@ use Rattle.lists.proofs.Blocks.{block-fits, blocks-step, blocks-end, length-blo
 use Rattle.lists.proofs.Windows.{length-block, blocks-whole}
 use Rattle.settings.specs.declared.Settings.{Settings}
 use Rattle.settings.specs.Settings.{Tiled}
-use Rattle.direct.specs.Direct.{ruleRow, PaintRowAsks, FilmAsks}
+use Rattle.direct.specs.Direct.{ruleRow, DirectRowAsks, DirectPaintAsks}
 use Rattle.direct.proofs.Pixels.{paint-again}
 
 -- a grey for each column
@@ -21,7 +21,7 @@ pub length-rule-row : (w h : ℕ) (pic : List ℕ) (s : Settings) (y : ℕ) → 
 unfolding ruleRow
 length-rule-row w h pic s y = length-tab w _
 
-module _ {w h : ℕ} {pic : List ℕ} {s : Settings} {target scratch : ℕ} (asks : FilmAsks w h pic s target scratch) where
+module _ {w h : ℕ} {pic : List ℕ} {s : Settings} {target scratch : ℕ} (asks : DirectPaintAsks w h pic s target scratch) where
   tiled : Tiled w h s
   tiled = asks .film .work .ready .tiled
 
@@ -34,7 +34,7 @@ module _ {w h : ℕ} {pic : List ℕ} {s : Settings} {target scratch : ℕ} (ask
   row-room y l = block-fits w h l (omega (arith, asks .room, mul-comm w h))
 
   -- what the row asks
-  pub row-asks : (px : List ℕ) (y : ℕ) {n : ℕ} → y < h → length px ≡ target → n ≡ scratch → PaintRowAsks w h pic s y (length (take (y * w + w - y * w) (drop (y * w) px))) n
+  pub row-asks : (px : List ℕ) (y : ℕ) {n : ℕ} → y < h → length px ≡ target → n ≡ scratch → DirectRowAsks w h pic s y (length (take (y * w + w - y * w) (drop (y * w) px))) n
   row-asks px y l e q = record { film = paint-again (asks .film) q; row = l; room = length-block px y w (omega (arith, row-room y l)) }
 
   module _ (o px : List ℕ) (y : ℕ) (e : px ≡ blocks w (ruleRow w h pic s) o y) where

@@ -8,9 +8,9 @@ use lib.ListN.{length, take, drop}
 use Rattle.lists.specs.Lists.{onto, total}
 use Rattle.lists.proofs.Fills.{drop-onto, length-onto}
 use Rattle.tally.specs.declared.Rect.{Rect}
-use Rattle.tally.specs.Tally.{greysOf, countsOf, CountAsks, Scale}
+use Rattle.tally.specs.Tally.{greysOf, countsOf, CountRectAsks, Scale}
 use Rattle.tally.proofs.Greys.{length-greys}
-use Rattle.tile.specs.Tile.{tileCounts, tileDivides, Holds, TileAsks}
+use Rattle.tile.specs.Tile.{tileCounts, tileDivides, Holds, MappingAsks}
 use Rattle.tile.proofs.Mapped.{mapped-high}
 use Rattle.tile.proofs.Tiles.{length-tile-counts, total-tile-counts, tile-part}
 use Rattle.value.specs.Value.{ValueAsks, ValueGiven}
@@ -18,18 +18,18 @@ use Rattle.value.proofs.Tiles.{tile-value-asks, tile-value, tile-leaves}
 use Rattle.settings.specs.declared.Settings.{Settings}
 use Rattle.settings.specs.Settings.{binsOf, Tiled}
 use Rattle.render.proofs.Pixels.{tile-index}
-use Rattle.tiles.specs.Tiles.{tileOf, RectAsks}
+use Rattle.tiles.specs.Tiles.{tileOf, TileRectAsks}
 use Rattle.tiles.proofs.Tiles.{tile-area, tile-inside, tile-pixels-most, tiles-most, rect-asks}
 use Rattle.tiles.proofs.Films.{tile-greys, rect-holds}
-use Rattle.direct.specs.Direct.{cornerValue, CornerAsks, PaintAsks, Behind}
+use Rattle.direct.specs.Direct.{cornerValue, TileValueAsks, DirectReady, BehindBins}
 
 -- the range and the bins of a film that is painted
-pub paint-scale : {w h : ℕ} {pic : List ℕ} {s : Settings} {scratch : ℕ} → PaintAsks w h pic s scratch → Scale (s .min) (s .max) (binsOf s)
+pub paint-scale : {w h : ℕ} {pic : List ℕ} {s : Settings} {scratch : ℕ} → DirectReady w h pic s scratch → Scale (s .min) (s .max) (binsOf s)
 paint-scale {w} {h} {pic} {s} asks =
     let tiled : Tiled w h s = asks .work .ready .tiled in
     record { order = omega (arith, tiled .min); most = tiled .max; some = tiled .bins; few = tiled .binsmost; reach = tiled .reach }
 
-module _ {w h : ℕ} {pic : List ℕ} {s : Settings} {j i k scratch : ℕ} (asks : CornerAsks w h pic s j i k scratch) where
+module _ {w h : ℕ} {pic : List ℕ} {s : Settings} {j i k scratch : ℕ} (asks : TileValueAsks w h pic s j i k scratch) where
   tiled : Tiled w h s
   tiled = asks .film .work .ready .tiled
 
@@ -42,7 +42,7 @@ module _ {w h : ℕ} {pic : List ℕ} {s : Settings} {j i k scratch : ℕ} (asks
   corner-small = omega (arith, corner-below, tiles-most tiled)
 
   -- what its rectangle asks
-  pub corner-rect : RectAsks w h (s .across) (s .down) (j * s .across + i)
+  pub corner-rect : TileRectAsks w h (s .across) (s .down) (j * s .across + i)
   corner-rect = rect-asks tiled corner-below
 
   module _ {r : Rect} (p : r ≡ tileOf w h s (j * s .across + i)) where
@@ -52,7 +52,7 @@ module _ {w h : ℕ} {pic : List ℕ} {s : Settings} {j i k scratch : ℕ} (asks
 
     module _ {b : ℕ} (q : b ≡ binsOf s) where
       -- what its mapping would ask, with room for it
-      tile-asked : TileAsks pic w r (s .min) (s .max) b (s .clip) scratch b
+      tile-asked : MappingAsks pic w r (s .min) (s .max) b (s .clip) scratch b
       tile-asked =
           rw (p, q)
           record {
@@ -67,7 +67,7 @@ module _ {w h : ℕ} {pic : List ℕ} {s : Settings} {j i k scratch : ℕ} (asks
           }
 
       -- what counting it asks
-      pub corner-count : CountAsks pic w r (s .min) (s .max) b scratch
+      pub corner-count : CountRectAsks pic w r (s .min) (s .max) b scratch
       corner-count = tile-asked .counts
 
       module _ (d : List ℕ) {t : List ℕ} (e : t ≡ onto d (countsOf (s .min) (s .max) b (greysOf pic w r))) where
@@ -86,7 +86,7 @@ module _ {w h : ℕ} {pic : List ℕ} {s : Settings} {j i k scratch : ℕ} (asks
           corner-is = tile-value tile-asked d e (s .edition) g ∙ rw (p, q) refl
 
           -- and what it leaves in the scratch
-          pub corner-leaves : length d ≡ scratch → Behind s d (c ++ drop b t)
+          pub corner-leaves : length d ≡ scratch → BehindBins s d (c ++ drop b t)
           corner-leaves l =
               record {
                 behind = ap (drop (binsOf s)) (tile-leaves tile-asked d e (s .edition) g) ∙ drop-onto d own (binsOf s) counts;

@@ -7,10 +7,10 @@ ghost use lib.ListN.{length, getD};
 ghost use Rattle.lists.specs.Lists.{joined, onto, filled};
 ghost use Rattle.refuse.specs.Refuse.{first};
 ghost use Rattle.binning.specs.Binning.{binOf};
-ghost use Rattle.tally.specs.Tally.{greysOf, countsOf, addedOf, RowAsks, AddAsks, CountAsks};
+ghost use Rattle.tally.specs.Tally.{greysOf, countsOf, addedOf, CountRowAsks, AddAsks, CountRectAsks};
 ghost use Rattle.settings.specs.Settings.{binsOf};
-ghost use Rattle.prepare.specs.Prepare.{painting};
-ghost use Rattle.direct.specs.Direct.{workRows, directRows, ruleRow, directOf, cornerValue, CornerAsks, BinAsks, PixelAsks, PaintRowAsks, FilmAsks, Behind, Greyed};
+ghost use Rattle.prepare.specs.Prepare.{paintLeaves};
+ghost use Rattle.direct.specs.Direct.{directWorkRows, directRows, ruleRow, directOf, cornerValue, TileValueAsks, DirectBinAsks, DirectPixelAsks, DirectRowAsks, DirectPaintAsks, BehindBins, RuleGreyed};
 use prepare::Enhanced;
 use settings::Settings;
 use tally::Rect;
@@ -25,7 +25,7 @@ fn work_refusal(
     target: usize,
 ) -> u32
     requires { ⌜ (width ≤ 4096) × (height ≤ 4096) ⌝ }
-    ensures { λ r. ⌜ r ≡ first (workRows width height (now (picture .entry)) s scratch target) ⌝ }
+    ensures { λ r. ⌜ r ≡ first (directWorkRows width height (now (picture .entry)) s scratch target) ⌝ }
 {
     if scratch < (settings::bins(s) as usize) {
         return 12;
@@ -59,7 +59,7 @@ fn refusal(
 
 // Adds one grey to the counts; the factor is that of the range and the bins.
 fn add_grey(grey: u32, min: u32, max: u32, bins: u32, factor: u32, counts: &mut [u32])
-    requires { ⌜ RowAsks (grey ∷ []) min max bins factor (now counts) ⌝ }
+    requires { ⌜ CountRowAsks (grey ∷ []) min max bins factor (now counts) ⌝ }
     ensures { λ _. ⌜ now (counts .exit) ≡ addedOf min max bins (now (counts .entry)) (grey ∷ []) ⌝ }
 {
     let k = binning::bin_by(grey, min, factor) as usize;
@@ -68,7 +68,7 @@ fn add_grey(grey: u32, min: u32, max: u32, bins: u32, factor: u32, counts: &mut 
 
 // Adds the greys of one row of a tile to the counts, a grey at a time.
 fn add_row(row: &[u16], min: u32, max: u32, bins: u32, factor: u32, counts: &mut [u32])
-    requires { ⌜ RowAsks (now row) min max bins factor (now counts) ⌝ }
+    requires { ⌜ CountRowAsks (now row) min max bins factor (now counts) ⌝ }
     ensures { λ _. ⌜ now (counts .exit) ≡ addedOf min max bins (now (counts .entry)) (now (row .entry)) ⌝ }
 {
     let mut x = 0;
@@ -111,7 +111,7 @@ fn count_tile(
     bins: u32,
     counts: &mut [u32],
 )
-    requires { ⌜ CountAsks (now picture) stride rect min max bins (length (now counts)) ⌝ }
+    requires { ⌜ CountRectAsks (now picture) stride rect min max bins (length (now counts)) ⌝ }
     ensures { λ _. ⌜ now (counts .exit) ≡ onto (now (counts .entry)) (countsOf min max bins (greysOf (now (picture .entry)) stride rect)) ⌝ }
 {
     lists::clear(counts, bins as usize);
@@ -130,8 +130,8 @@ fn tile_value(
     k: usize,
     scratch: &mut [u32],
 ) -> u32
-    requires { ⌜ CornerAsks width height (now picture) s j i k (length (now scratch)) ⌝ }
-    ensures { λ r. ⌜ Behind s (now (scratch .entry)) (now (scratch .exit)) × (r ≡ cornerValue width height (now (picture .entry)) s j i k) ⌝ }
+    requires { ⌜ TileValueAsks width height (now picture) s j i k (length (now scratch)) ⌝ }
+    ensures { λ r. ⌜ BehindBins s (now (scratch .entry)) (now (scratch .exit)) × (r ≡ cornerValue width height (now (picture .entry)) s j i k) ⌝ }
 {
     let at = (j * s.across + i) as usize;
     let rect = tiles::tile_rect(width, height, s.across, s.down, at);
@@ -146,7 +146,7 @@ fn tile_value(
 
 // The bin of the grey at `at`.
 fn bin_at(picture: &[u16], s: Settings, at: usize) -> usize
-    requires { ⌜ BinAsks (now picture) s at ⌝ }
+    requires { ⌜ DirectBinAsks (now picture) s at ⌝ }
     ensures { λ r. ⌜ r ≡ binOf (s .min) (s .max) (binsOf s) (getD (now (picture .entry)) at 0) ⌝ }
 {
     let factor = binning::bin_factor(s.min, s.max, settings::bins(s));
@@ -163,8 +163,8 @@ fn pixel(
     y: u32,
     scratch: &mut [u32],
 ) -> u32
-    requires { ⌜ PixelAsks width height (now picture) s x y (length (now scratch)) ⌝ }
-    ensures { λ r. ⌜ Behind s (now (scratch .entry)) (now (scratch .exit)) × Greyed width height (now (picture .entry)) s x y r ⌝ }
+    requires { ⌜ DirectPixelAsks width height (now picture) s x y (length (now scratch)) ⌝ }
+    ensures { λ r. ⌜ BehindBins s (now (scratch .entry)) (now (scratch .exit)) × RuleGreyed width height (now (picture .entry)) s x y r ⌝ }
 {
     let column = blend::locate(width, s.across, x);
     let row = blend::locate(height, s.down, y);
@@ -223,8 +223,8 @@ fn paint_row(
     out: &mut [u16],
     scratch: &mut [u32],
 )
-    requires { ⌜ PaintRowAsks width height (now picture) s y (length (now out)) (length (now scratch)) ⌝ }
-    ensures { λ _. ⌜ Behind s (now (scratch .entry)) (now (scratch .exit)) × (now (out .exit) ≡ ruleRow width height (now (picture .entry)) s y) ⌝ }
+    requires { ⌜ DirectRowAsks width height (now picture) s y (length (now out)) (length (now scratch)) ⌝ }
+    ensures { λ _. ⌜ BehindBins s (now (scratch .entry)) (now (scratch .exit)) × (now (out .exit) ≡ ruleRow width height (now (picture .entry)) s y) ⌝ }
 {
     let mut x = 0;
     while x < width {
@@ -244,7 +244,7 @@ fn paint(
     target: &mut [u16],
     scratch: &mut [u32],
 )
-    requires { ⌜ FilmAsks width height (now picture) s (length (now target)) (length (now scratch)) ⌝ }
+    requires { ⌜ DirectPaintAsks width height (now picture) s (length (now target)) (length (now scratch)) ⌝ }
     ensures { λ _. ⌜ (now (target .exit) ≡ joined height (ruleRow width height (now (picture .entry)) s)) × (now (scratch .exit) ≡ filled (λ k. 0) (now (scratch .entry)) (binsOf s)) ⌝ }
 {
     let wide = width as usize;
@@ -268,7 +268,7 @@ pub fn direct(
     target: &mut [u16],
     scratch: &mut [u32],
 ) -> Enhanced
-    ensures { λ r. ⌜ painting r (now (target .exit)) (now (scratch .exit)) ≡ directOf width height (now (picture .entry)) s (now (target .entry)) (now (scratch .entry)) ⌝ }
+    ensures { λ r. ⌜ paintLeaves r (now (target .exit)) (now (scratch .exit)) ≡ directOf width height (now (picture .entry)) s (now (target .entry)) (now (scratch .entry)) ⌝ }
 {
     let refused = refusal(width, height, picture, s, scratch.len(), target.len());
     if refused != 0 {

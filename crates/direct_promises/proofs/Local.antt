@@ -7,7 +7,7 @@ use lib.ListN.{length}
 use Rattle.refuse.specs.Refuse.{first, accepted}
 use Rattle.settings.specs.declared.Footer.{Footer}
 use Rattle.settings.specs.Settings.{Tiled}
-use Rattle.prepare.specs.Prepare.{enhancedSays, Painted}
+use Rattle.prepare.specs.Prepare.{enhancedSays, PaintOut}
 use Rattle.rule.specs.Reach.{DifferIn, BeyondTile}
 use Rattle.rule.proofs.Stays.{beyond-tile}
 use Rattle.direct.specs.Direct.{directRows}
@@ -26,7 +26,7 @@ pub direct-seen : {d : DirectCall} {foot : Footer} → Directs d → enhancedSay
 direct-seen {d} ran done {i} {j} l k = record { tiled = fits; column = l; row = k; shows = direct-shows ran done i j l k }
   where
     none : first (directRows (d .width) (d .height) (d .pixels) (d .settings) (length (d .scratch)) (length (d .target))) ≡ 0
-    none = table-accepted (direct-table _ _ _ _ _ _) (sym (ap (λ (y : Painted). enhancedSays (y .answer)) (direct-ends ran)) ∙ done) .0
+    none = table-accepted (direct-table _ _ _ _ _ _) (sym (ap (λ (y : PaintOut). enhancedSays (y .answer)) (direct-ends ran)) ∙ done) .0
 
     fits : Tiled (d .width) (d .height) (d .settings)
     fits = known (d .width) (d .height) (d .pixels) (d .settings) (length (d .scratch)) (length (d .target)) none .0 .ready .tiled

@@ -16,10 +16,10 @@ use Rattle.refuse.specs.Refuse.{first, accepted, refused, says}
 use Rattle.settings.specs.declared.Footer.{Footer}
 use Rattle.settings.specs.Settings.{entriesOf, keptOf}
 use Rattle.tiles.specs.Tiles.{footOf}
-use Rattle.prepare.specs.Prepare.{enhanceRows, enhancedSays, Over, overing, enhanceOf, Painted}
+use Rattle.prepare.specs.Prepare.{enhanceRows, enhancedSays, EnhanceOut, enhanceLeaves, enhanceOf, PaintOut}
 use Rattle.rule.specs.Rule.{shownGrey}
 use Rattle.direct.specs.Direct.{directRows, shownFilm, directedOf, directOf}
-use Rattle.direct.proofs.Table.{table-never-11, table-never-32}
+use Rattle.direct.proofs.Table.{direct-table-never-11, direct-table-never-32}
 use Rattle.direct.proofs.Endings.{rows-whole}
 use Rattle.direct.proofs.Like.{direct-like}
 use Rattle.promises.proofs.Runs.{EnhanceCall, Enhances, enhance-ends}
@@ -28,7 +28,7 @@ use Rattle.byte_promises.proofs.Runs.{EnhancesBytes}
 use Rattle.byte_promises.proofs.Calls.{enhance-bytes-as-wide}
 use Rattle.reach_promises.proofs.Rendered.{Film, enhancedGrey, by-enhance, by-enhance-bytes}
 use Rattle.reach_promises.proofs.Shown.{rendered-seen}
-use Rattle.direct_promises.proofs.Runs.{DirectCall, Directs, direct-ends, direct-given}
+use Rattle.direct_promises.proofs.Runs.{DirectCall, Directs, direct-ends, direct-arguments}
 use Rattle.direct_promises.proofs.Rows.{fits-same, fits-not-11, otherRows, rows-other, same-answer, same-scratch, same-target, direct-table, picture-length}
 
 -- the film that direct was handed
@@ -44,34 +44,34 @@ directedGrey d i j = getD (d .target′) (j * d .width + i) 0
 -- it says the number of the first row that applies, and where none does the footer
 pub direct-says : {d : DirectCall} → Directs d
     → enhancedSays (d .answer) ≡ says (first (directRows (d .width) (d .height) (d .pixels) (d .settings) (length (d .scratch)) (length (d .target)))) (footOf (d .width) (d .height) (d .settings))
-direct-says ran = ap (λ (y : Painted). enhancedSays (y .answer)) (direct-ends ran) ∙ table-says (direct-table _ _ _ _ _ _)
+direct-says ran = ap (λ (y : PaintOut). enhancedSays (y .answer)) (direct-ends ran) ∙ table-says (direct-table _ _ _ _ _ _)
 
 -- "11, which it never gives"
 pub direct-never-11 : {d : DirectCall} → Directs d → enhancedSays (d .answer) ≢ refused 11
 direct-never-11 {d} ran e =
-    table-never-11 (d .width) (d .height) (d .pixels) (d .settings) (length (d .scratch)) (length (d .target))
-    (table-refused (direct-table _ _ _ _ _ _) (sym (ap (λ (y : Painted). enhancedSays (y .answer)) (direct-ends ran)) ∙ e))
+    direct-table-never-11 (d .width) (d .height) (d .pixels) (d .settings) (length (d .scratch)) (length (d .target))
+    (table-refused (direct-table _ _ _ _ _ _) (sym (ap (λ (y : PaintOut). enhancedSays (y .answer)) (direct-ends ran)) ∙ e))
 
 -- nor order 7's 32, since it is lent no list
 pub direct-never-32 : {d : DirectCall} → Directs d → enhancedSays (d .answer) ≢ refused 32
 direct-never-32 {d} ran e =
-    table-never-32 (d .width) (d .height) (d .pixels) (d .settings) (length (d .scratch)) (length (d .target))
-    (table-refused (direct-table _ _ _ _ _ _) (sym (ap (λ (y : Painted). enhancedSays (y .answer)) (direct-ends ran)) ∙ e))
+    direct-table-never-32 (d .width) (d .height) (d .pixels) (d .settings) (length (d .scratch)) (length (d .target))
+    (table-refused (direct-table _ _ _ _ _ _) (sym (ap (λ (y : PaintOut). enhancedSays (y .answer)) (direct-ends ran)) ∙ e))
 
 -- a refusal leaves the target and the scratch as they were
 pub direct-refusal-keeps : {d : DirectCall} (n : ℕ) → Directs d → enhancedSays (d .answer) ≡ refused n → (d .target′ ≡ d .target) × (d .scratch′ ≡ d .scratch)
 direct-refusal-keeps n ran q =
     let x = direct-ends ran in
-    let k = x ∙ table-kept (direct-table _ _ _ _ _ _) (sym (ap (λ (y : Painted). enhancedSays (y .answer)) x) ∙ q) in
-    (ap (λ (y : Painted). y .target) k, ap (λ (y : Painted). y .scratch) k)
+    let k = x ∙ table-kept (direct-table _ _ _ _ _ _) (sym (ap (λ (y : PaintOut). enhancedSays (y .answer)) x) ∙ q) in
+    (ap (λ (y : PaintOut). y .target) k, ap (λ (y : PaintOut). y .scratch) k)
 
 -- what is shown of each pixel of an accepted film: by the rule, and the film's own at the factor 1.0
 pub direct-shows : {d : DirectCall} {foot : Footer} → Directs d → enhancedSays (d .answer) ≡ accepted foot → (i j : ℕ) → i < d .width → j < d .height
     → directedGrey d i j ≡ shownGrey (d .width) (d .height) (d .pixels) (d .settings) i j
 unfolding directedOf shownFilm
 direct-shows {d} ran done i j l k =
-    ap (λ (y : Painted). getD (y .target) (j * d .width + i) 0)
-    (direct-ends ran ∙ table-done (direct-table _ _ _ _ _ _) (sym (ap (λ (y : Painted). enhancedSays (y .answer)) (direct-ends ran)) ∙ done))
+    ap (λ (y : PaintOut). getD (y .target) (j * d .width + i) 0)
+    (direct-ends ran ∙ table-done (direct-table _ _ _ _ _ _) (sym (ap (λ (y : PaintOut). enhancedSays (y .answer)) (direct-ends ran)) ∙ done))
     ∙ getD-joined (d .width) (d .height) (λ y. tab (d .width) (λ x. shownGrey (d .width) (d .height) (d .pixels) (d .settings) x y)) (λ y q. length-tab (d .width) _) j i 0 k l
     ∙ getD-tab (d .width) (λ x. shownGrey (d .width) (d .height) (d .pixels) (d .settings) x j) i 0 l
 
@@ -87,10 +87,10 @@ direct-seventeen {d} ran other =
     says-some (suc n) z = refl
 
 -- the same arguments, the same answer and memory
-pub direct-determined : {d f : DirectCall} → Directs d → Directs f → direct-given d ≡ direct-given f → (d .answer ≡ f .answer) × (d .target′ ≡ f .target′) × (d .scratch′ ≡ f .scratch′)
+pub direct-determined : {d f : DirectCall} → Directs d → Directs f → direct-arguments d ≡ direct-arguments f → (d .answer ≡ f .answer) × (d .target′ ≡ f .target′) × (d .scratch′ ≡ f .scratch′)
 direct-determined {d} {f} ran ran′ same =
     let k = direct-ends ran ∙ ap (λ (g : ℕ × ℕ × List ℕ × _ × List ℕ × List ℕ). directOf (g .0) (g .1) (g .2) (g .3) (g .4) (g .5)) same ∙ sym (direct-ends ran′) in
-    (ap (λ (y : Painted). y .answer) k, ap (λ (y : Painted). y .target) k, ap (λ (y : Painted). y .scratch) k)
+    (ap (λ (y : PaintOut). y .answer) k, ap (λ (y : PaintOut). y .target) k, ap (λ (y : PaintOut). y .scratch) k)
 
 -- ---- beside enhance
 
@@ -115,15 +115,15 @@ rowsOf e = first (enhanceRows (e .width) (e .height) (e .pixels) (e .settings) (
 
 -- a call that ended as enhance does
 abbrev EndedAs : EnhanceCall → Type 0
-EndedAs e = overing (e .answer) (e .pixels′) (e .map′) (e .scratch′) ≡ enhanceOf (e .width) (e .height) (e .pixels) (e .settings) (e .map) (e .scratch)
+EndedAs e = enhanceLeaves (e .answer) (e .pixels′) (e .map′) (e .scratch′) ≡ enhanceOf (e .width) (e .height) (e .pixels) (e .settings) (e .map) (e .scratch)
 
 -- it says the number of enhance's first row that applies, and where none does the footer
 ended-says : (e : EnhanceCall) → EndedAs e → enhancedSays (e .answer) ≡ says (rowsOf e) (footOf (e .width) (e .height) (e .settings))
-ended-says e over = ap (λ (y : Over). enhancedSays (y .answer)) over ∙ table-says (enhance-table _ _ _ _ _ _)
+ended-says e over = ap (λ (y : EnhanceOut). enhancedSays (y .answer)) over ∙ table-says (enhance-table _ _ _ _ _ _)
 
 module _ {d : DirectCall} {e : EnhanceCall} (ran : Directs d) (over : EndedAs e) (same : SameFilm d e) where
   -- what direct left, with enhance's film
-  left : _≡_ {A = Painted} record { answer = d .answer; target = d .target′; scratch = d .scratch′ } (directOf (e .width) (e .height) (e .pixels) (e .settings) (d .target) (d .scratch))
+  left : _≡_ {A = PaintOut} record { answer = d .answer; target = d .target′; scratch = d .scratch′ } (directOf (e .width) (e .height) (e .pixels) (e .settings) (d .target) (d .scratch))
   left =
       direct-ends ran
       ∙ direct-like (d .width) (d .height) (d .pixels) (d .settings) (e .settings) (d .target) (d .scratch) (same .like)
@@ -135,22 +135,22 @@ module _ {d : DirectCall} {e : EnhanceCall} (ran : Directs d) (over : EndedAs e)
   -- "its refusals and footer equal too, but for 11"
   answers-by : rowsOf e ≢ 11 → d .answer ≡ e .answer
   answers-by not =
-      ap (λ (y : Painted). y .answer) left
+      ap (λ (y : PaintOut). y .answer) left
       ∙ same-answer (e .width) (e .height) (e .pixels) (e .settings) (d .target) (e .map) (d .scratch) (e .scratch) size (same .scratch) not
-      ∙ sym (ap (λ (y : Over). y .answer) over)
+      ∙ sym (ap (λ (y : EnhanceOut). y .answer) over)
 
   -- "lent scratch .. left as enhance leaves it"
   scratch-by : rowsOf e ≢ 11 → d .scratch ≡ e .scratch → d .scratch′ ≡ e .scratch′
   scratch-by not q =
-      ap (λ (y : Painted). y .scratch) left
+      ap (λ (y : PaintOut). y .scratch) left
       ∙ same-scratch (e .width) (e .height) (e .pixels) (e .settings) (d .target) (e .map) (d .scratch) (e .scratch) size (same .scratch) not q
-      ∙ sym (ap (λ (y : Over). y .scratch) over)
+      ∙ sym (ap (λ (y : EnhanceOut). y .scratch) over)
 
   -- "its picture equal to enhance's on every accepted film"
   picture-by : {foot : Footer} → enhancedSays (e .answer) ≡ accepted foot → ((i j : ℕ) → i < e .width → j < e .height → enhancedGrey e i j ≡ shownGrey (e .width) (e .height) (e .pixels) (e .settings) i j) → d .target′ ≡ e .pixels′
   unfolding shownFilm
   picture-by {foot} done shows =
-      ap (λ (y : Painted). y .target) left
+      ap (λ (y : PaintOut). y .target) left
       ∙ same-target (e .width) (e .height) (e .pixels) (e .settings) (d .target) (e .map) (d .scratch) (e .scratch) size (same .scratch) (λ q. omega (arith, none)) none
       ∙ joined-cong (e .height) (λ y l. tab-cong (e .width) (λ x k. sym (shows x y k l)))
       ∙ rows-whole (e .width) (e .height) (e .pixels′) long
@@ -160,8 +160,8 @@ module _ {d : DirectCall} {e : EnhanceCall} (ran : Directs d) (over : EndedAs e)
 
       long : length (e .pixels′) ≡ e .width * e .height
       long =
-          ap (λ (y : Over). length (y .picture)) over
-          ∙ picture-length (e .width) (e .height) (e .pixels) (e .settings) (e .map) (e .scratch) (sym (ap (λ (y : Over). enhancedSays (y .answer)) over) ∙ done)
+          ap (λ (y : EnhanceOut). length (y .picture)) over
+          ∙ picture-length (e .width) (e .height) (e .pixels) (e .settings) (e .map) (e .scratch) (sym (ap (λ (y : EnhanceOut). enhancedSays (y .answer)) over) ∙ done)
 
 -- order 12, where enhance does not say 11
 pub direct-is-enhance : {d : DirectCall} {e : EnhanceCall} → Directs d → Enhances e → SameFilm d e → enhancedSays (e .answer) ≢ refused 11 → IsEnhance d e

@@ -21,10 +21,10 @@ use Rattle.render.specs.Render.{renderOf, whole}
 use Rattle.render.proofs.Laws.{length-render}
 use Rattle.tiles.specs.Tiles.{mappings, footOf}
 use Rattle.prepare.specs.declared.Enhanced.the-variants as Enhanced
-use Rattle.prepare.specs.Prepare.{workRows, enhanceRows, enhancedSays, Over, overing, enhancedOf, enhanceOf, Painted, painting}
+use Rattle.prepare.specs.Prepare.{workRows, enhanceRows, enhancedSays, EnhanceOut, enhanceLeaves, enhancedOf, enhanceOf, PaintOut, paintLeaves}
 use Rattle.prepare.proofs.Table.{over-parts}
 use Rattle.direct.specs.Direct.{directRows, shownFilm, directedOf, directOf}
-use Rattle.direct.proofs.Table as directed
+use Rattle.direct.proofs.Table.{direct-table-never-11, direct-table-setting, direct-table-work, direct-work-other, direct-work-over}
 use Rattle.direct.proofs.Endings.{direct-refused, direct-done}
 use Rattle.promises.proofs.Accepted.{ByTable, table-done, enhance-table, enhance-work}
 
@@ -45,7 +45,7 @@ module _ (w h : ℕ) (pic : List ℕ) (s : Settings) (room scratch target : ℕ)
   settings-same : (a : ℕ) → a ≡ first (settingRows w h (length pic) s) → (a ≡ 0 → ⊥) → first (enhanceRows w h pic s room scratch) ≡ first (directRows w h pic s scratch target)
   settings-same a q z =
       let shared : a ≡ first (sharedRows w h (length pic) s room) = rw (shared-parts w h (length pic) s room) (front (settingRows w h (length pic) s) (roomRows s room) q z) in
-      sym (over-shared shared z) ∙ directed.table-setting w h pic s scratch target q z
+      sym (over-shared shared z) ∙ direct-table-setting w h pic s scratch target q z
 
   -- where none of them does, 11 would be enhance's
   eleven : 0 ≡ first (settingRows w h (length pic) s) → room < entriesOf s → first (enhanceRows w h pic s room scratch) ≡ 11
@@ -58,7 +58,7 @@ module _ (w h : ℕ) (pic : List ℕ) (s : Settings) (room scratch target : ℕ)
   rest-same q l =
       let shared : 0 ≡ first (sharedRows w h (length pic) s room) = rw (shared-parts w h (length pic) s room) (behind (settingRows w h (length pic) s) (roomRows s room) (setting-numbered w h (length pic) s) q refl (sym (fits-room s room l))) in
       sym (over-works shared refl)
-      ∙ directed.table-work w h pic s scratch target q refl (directed.work-over w h pic s scratch target e)
+      ∙ direct-table-work w h pic s scratch target q refl (direct-work-over w h pic s scratch target e)
 
   -- so the first that applies is the same
   pub rows-same : first (enhanceRows w h pic s room scratch) ≢ 11 → first (enhanceRows w h pic s room scratch) ≡ first (directRows w h pic s scratch target)
@@ -82,7 +82,7 @@ module _ (w h : ℕ) (pic : List ℕ) (s : Settings) (room scratch target : ℕ)
 
   -- where enhance does not say 11
   pub fits-not-11 : entriesOf s ≤ room → first (enhanceRows w h pic s room scratch) ≢ 11
-  fits-not-11 l q = directed.table-never-11 w h pic s scratch target (sym (fits-same l) ∙ q)
+  fits-not-11 l q = direct-table-never-11 w h pic s scratch target (sym (fits-same l) ∙ q)
 
 -- ---- a target of another length
 
@@ -105,20 +105,20 @@ module _ (w h : ℕ) (pic : List ℕ) (s : Settings) (scratch target : ℕ) (oth
       go : (a : ℕ) → first (settingRows w h (length pic) s) ≡ a → (first (directRows w h pic s scratch target) ≡ first (otherRows w h pic s scratch)) × (first (otherRows w h pic s scratch) ≢ 0)
       go zero q =
           let both = behind (settingRows w h (length pic) s) (row 12 (ltb scratch (binsOf s)) ∷ row 17 true ∷ []) (setting-numbered w h (length pic) s) (sym q) refl refl in
-          (sym (directed.table-work w h pic s scratch target (sym q) refl (sym (directed.work-other w h pic s scratch target other))) ∙ both, λ z. some-other (both ∙ z))
+          (sym (direct-table-work w h pic s scratch target (sym q) refl (sym (direct-work-other w h pic s scratch target other))) ∙ both, λ z. some-other (both ∙ z))
       go (suc a) q =
           let both = front (settingRows w h (length pic) s) (row 12 (ltb scratch (binsOf s)) ∷ row 17 true ∷ []) (sym q) (λ z. omega arith) in
-          (sym (directed.table-setting w h pic s scratch target (sym q) (λ z. omega arith)) ∙ both, λ z. omega (arith, both ∙ z))
+          (sym (direct-table-setting w h pic s scratch target (sym q) (λ z. omega arith)) ∙ both, λ z. omega (arith, both ∙ z))
 
 -- ---- what the two leave
 
 module _ (w h : ℕ) (pic : List ℕ) (s : Settings) (o m t u : List ℕ) where
-  answer-at : (n : ℕ) → unless n (λ k. painting (Enhanced.Refused k) o t) (directedOf w h pic s t) .answer ≡ unless n (λ k. overing (Enhanced.Refused k) pic m u) (enhancedOf w h pic s m u) .answer
+  answer-at : (n : ℕ) → unless n (λ k. paintLeaves (Enhanced.Refused k) o t) (directedOf w h pic s t) .answer ≡ unless n (λ k. enhanceLeaves (Enhanced.Refused k) pic m u) (enhancedOf w h pic s m u) .answer
   unfolding directedOf enhancedOf
   answer-at zero = refl
   answer-at (suc n) = refl
 
-  scratch-at : (n : ℕ) → unless n (λ k. painting (Enhanced.Refused k) o u) (directedOf w h pic s u) .scratch ≡ unless n (λ k. overing (Enhanced.Refused k) pic m u) (enhancedOf w h pic s m u) .scratch
+  scratch-at : (n : ℕ) → unless n (λ k. paintLeaves (Enhanced.Refused k) o u) (directedOf w h pic s u) .scratch ≡ unless n (λ k. enhanceLeaves (Enhanced.Refused k) pic m u) (enhancedOf w h pic s m u) .scratch
   unfolding directedOf enhancedOf
   scratch-at zero = refl
   scratch-at (suc n) = refl
@@ -131,24 +131,24 @@ module _ (w h : ℕ) (pic : List ℕ) (s : Settings) (o m t u : List ℕ) where
     pub same-answer : directOf w h pic s o t .answer ≡ enhanceOf w h pic s m u .answer
     unfolding directOf enhanceOf
     same-answer =
-        ap (λ n. unless n (λ k. painting (Enhanced.Refused k) o t) (directedOf w h pic s t) .answer) same-rows ∙ answer-at (first (enhanceRows w h pic s (length m) (length u)))
+        ap (λ n. unless n (λ k. paintLeaves (Enhanced.Refused k) o t) (directedOf w h pic s t) .answer) same-rows ∙ answer-at (first (enhanceRows w h pic s (length m) (length u)))
 
     -- the scratch
     pub same-scratch : t ≡ u → directOf w h pic s o t .scratch ≡ enhanceOf w h pic s m u .scratch
     unfolding directOf enhanceOf
     same-scratch q =
-        ap (λ n. unless n (λ k. painting (Enhanced.Refused k) o t) (directedOf w h pic s t) .scratch) same-rows
-        ∙ ap (λ x. unless (first (enhanceRows w h pic s (length m) (length u))) (λ k. painting (Enhanced.Refused k) o x) (directedOf w h pic s x) .scratch) q
+        ap (λ n. unless n (λ k. paintLeaves (Enhanced.Refused k) o t) (directedOf w h pic s t) .scratch) same-rows
+        ∙ ap (λ x. unless (first (enhanceRows w h pic s (length m) (length u))) (λ k. paintLeaves (Enhanced.Refused k) o x) (directedOf w h pic s x) .scratch) q
         ∙ scratch-at (first (enhanceRows w h pic s (length m) (length u)))
 
     -- and, where enhance is done, the film as it is shown
     pub same-target : first (enhanceRows w h pic s (length m) (length u)) ≡ 0 → directOf w h pic s o t .target ≡ shownFilm w h pic s
     unfolding directedOf
-    same-target z = sym (ap (λ (x : Painted). x .target) (direct-done w h pic s o t refl (same-rows ∙ z)))
+    same-target z = sym (ap (λ (x : PaintOut). x .target) (direct-done w h pic s o t refl (same-rows ∙ z)))
 
 -- direct goes by its rows
 pub direct-table : (w h : ℕ) (pic : List ℕ) (s : Settings) (o t : List ℕ)
-    → ByTable (λ (x : Painted). enhancedSays (x .answer)) (first (directRows w h pic s (length t) (length o))) (footOf w h s) (directedOf w h pic s t) (λ k. painting (Enhanced.Refused k) o t) (directOf w h pic s o t)
+    → ByTable (λ (x : PaintOut). enhancedSays (x .answer)) (first (directRows w h pic s (length t) (length o))) (footOf w h s) (directedOf w h pic s t) (λ k. paintLeaves (Enhanced.Refused k) o t) (directOf w h pic s o t)
 unfolding directedOf enhancedSays
 direct-table w h pic s o t =
     record {
@@ -161,7 +161,7 @@ direct-table w h pic s o t =
 -- enhance's picture is as long as the film
 pub picture-length : (w h : ℕ) (pic : List ℕ) (s : Settings) (m u : List ℕ) {foot : Footer} → enhancedSays (enhanceOf w h pic s m u .answer) ≡ accepted foot → length (enhanceOf w h pic s m u .picture) ≡ w * h
 unfolding enhancedOf
-picture-length w h pic s m u done = ap (λ (x : Over). length (x .picture)) (table-done (enhance-table w h pic s m u) done) ∙ go (clipOne (s .clip))
+picture-length w h pic s m u done = ap (λ (x : EnhanceOut). length (x .picture)) (table-done (enhance-table w h pic s m u) done) ∙ go (clipOne (s .clip))
   where
     go : (b : Bool) → length (cond b pic (renderOf w h s (mappings w h pic s) (whole w h) pic)) ≡ w * h
     go true = enhance-work w h pic s m u done .ready .whole

@@ -26,9 +26,9 @@ use Rattle.render.proofs.Laws.{render-front, render-kept}
 use Rattle.held.specs.Held.{recordRows, windowRows}
 use Rattle.held.proofs.Laws.{record-kept, record-kept-record, reclipped, reclippedRecord, record-alike}
 use Rattle.draw.specs.declared.Drawn.the-variants.{Done, Refused}
-use Rattle.draw.specs.Draw.{pixelRows, drawRows, showing, drawnPixels, drawOf, DrawReady}
+use Rattle.draw.specs.Draw.{pixelRows, drawRows, drawLeaves, drawnPixels, drawOf, DrawReady}
 use Rattle.draw.proofs.Tables.{draw-ready}
-use Rattle.draw.proofs.Works.{render-asks, ends-refused, ends-well}
+use Rattle.draw.proofs.Works.{render-asks, draw-ends-refused, draw-ends-well}
 
 -- what an accepted draw leaves, by the factor: the window's pixels as they are, or rendered
 pub drawn-pixels : (w h : ℕ) (pic : List ℕ) (s : Settings) (win : Window) (m : List ℕ)
@@ -60,7 +60,7 @@ pub draw-kept : (film w h : ℕ) (pic : List ℕ) (s : Settings) (r : MapRecord)
     → drawOf film w h pic (keptOf s) r win m out ≡ drawOf film w h pic s r win m out
 unfolding drawOf
 draw-kept film w h pic s r win m out =
-    ap₂ (λ rows ys. unless (first rows) (λ n. showing (Refused n) out) (showing Done ys)) (rows-kept film w h pic s r win m (length out)) (pixels-kept w h pic s win m)
+    ap₂ (λ rows ys. unless (first rows) (λ n. drawLeaves (Refused n) out) (drawLeaves Done ys)) (rows-kept film w h pic s r win m (length out)) (pixels-kept w h pic s win m)
 
 -- which reads the record's bins so too: "bins 0 read as 128 on both sides"
 pub draw-kept-record : (film w h : ℕ) (pic : List ℕ) (s : Settings) (r : MapRecord) (win : Window) (m out : List ℕ)
@@ -106,10 +106,10 @@ module _ (film w h : ℕ) (pic : List ℕ) (s : Settings) (r : MapRecord) (win :
 
       go : (n : ℕ) → first (drawRows film w h pic s r win m (length out)) ≡ n → drawOf film w h pic s r win m out ≡ drawOf film w h pic s r win m′ out
       go zero e =
-          sym (ends-well film w h pic s r win m out (sym e) refl refl)
-          ∙ ends-well film w h pic s r win m′ out (sym e ∙ ap first rows-map) refl (pixels (draw-ready film w h pic s r win m (length out) e))
+          sym (draw-ends-well film w h pic s r win m out (sym e) refl refl)
+          ∙ draw-ends-well film w h pic s r win m′ out (sym e ∙ ap first rows-map) refl (pixels (draw-ready film w h pic s r win m (length out) e))
       go (suc n) e =
-          sym (ends-refused film w h pic s r win m out (sym e) (λ z. omega arith)) ∙ ends-refused film w h pic s r win m′ out (sym e ∙ ap first rows-map) (λ z. omega arith)
+          sym (draw-ends-refused film w h pic s r win m out (sym e) (λ z. omega arith)) ∙ draw-ends-refused film w h pic s r win m′ out (sym e ∙ ap first rows-map) (λ z. omega arith)
 
 -- a buffer's first n entries are shorter than n where the buffer is
 pub front-room : (n : ℕ) (m : List ℕ) → ltb (length (take n m)) n ≡ ltb (length m) n

@@ -19,12 +19,12 @@ use Rattle.render.specs.Render.{rectOf, Mapped, Shown}
 use Rattle.tally.proofs.Greys.{length-greys}
 use Rattle.render.proofs.Laws.{ready-mapped}
 use Rattle.draw.specs.declared.Drawn.the-variants.{Done, Refused}
-use Rattle.frame.specs.Frame.{CopyAsks}
+use Rattle.frame.specs.Frame.{CopyWindowAsks}
 use Rattle.frame.proofs.Frames.{framed}
-use Rattle.draw.specs.Draw.{drawRows, drawnPixels, drawOf, showing, WindowReady}
+use Rattle.draw.specs.Draw.{drawRows, drawnPixels, drawOf, drawLeaves, WindowReady}
 
 -- what the copying asks
-pub copy-asks : {w h : ℕ} {pic : List ℕ} {s : Settings} {win : Window} {m : List ℕ} (out : List ℕ) → WindowReady w h pic s win m (length out) → CopyAsks pic w win out
+pub copy-asks : {w h : ℕ} {pic : List ℕ} {s : Settings} {win : Window} {m : List ℕ} (out : List ℕ) → WindowReady w h pic s win m (length out) → CopyWindowAsks pic w win out
 copy-asks out ready =
     record { framed = framed (ready .wide) (ready .across) (ready .down) (ready .ready .whole); size = ready .area }
 
@@ -44,13 +44,13 @@ render-asks {w} {h} {pic} {s} {win} {m} {out} ready e one = (
 -- ---- the returns of draw
 
 module _ (film w h : ℕ) (pic : List ℕ) (s : Settings) (r : MapRecord) (win : Window) (m out : List ℕ) where
-  pub ends-refused : {x : ℕ} → x ≡ first (drawRows film w h pic s r win m (length out)) → (x ≡ 0 → ⊥) → showing (Refused x) out ≡ drawOf film w h pic s r win m out
+  pub draw-ends-refused : {x : ℕ} → x ≡ first (drawRows film w h pic s r win m (length out)) → (x ≡ 0 → ⊥) → drawLeaves (Refused x) out ≡ drawOf film w h pic s r win m out
   unfolding drawOf
-  ends-refused {x} e z =
-      unless-refused x (λ n. showing (Refused n) out) (showing Done (drawnPixels w h pic s win m)) z
-      ∙ ap (λ k. unless k (λ n. showing (Refused n) out) (showing Done (drawnPixels w h pic s win m))) e
+  draw-ends-refused {x} e z =
+      unless-refused x (λ n. drawLeaves (Refused n) out) (drawLeaves Done (drawnPixels w h pic s win m)) z
+      ∙ ap (λ k. unless k (λ n. drawLeaves (Refused n) out) (drawLeaves Done (drawnPixels w h pic s win m))) e
 
-  pub ends-well : {x : ℕ} {end : List ℕ} → x ≡ first (drawRows film w h pic s r win m (length out)) → x ≡ 0 → end ≡ drawnPixels w h pic s win m
-      → showing Done end ≡ drawOf film w h pic s r win m out
+  pub draw-ends-well : {x : ℕ} {end : List ℕ} → x ≡ first (drawRows film w h pic s r win m (length out)) → x ≡ 0 → end ≡ drawnPixels w h pic s win m
+      → drawLeaves Done end ≡ drawOf film w h pic s r win m out
   unfolding drawOf
-  ends-well e z q = ap (showing Done) q ∙ ap (λ k. unless k (λ n. showing (Refused n) out) (showing Done (drawnPixels w h pic s win m))) (sym z ∙ e)
+  draw-ends-well e z q = ap (drawLeaves Done) q ∙ ap (λ k. unless k (λ n. drawLeaves (Refused n) out) (drawLeaves Done (drawnPixels w h pic s win m))) (sym z ∙ e)

@@ -28,7 +28,7 @@ pixelRows w pic s win m =
     ∷ []
 
 -- "Draw: 1 to 11, 15, 16, 17, then 13 over the window, then 18 (not at factor 1.0)"; 31 stands behind 9
-unfoldable pub drawRows : ℕ → ℕ → ℕ → List ℕ → Settings → MapRecord → Window → List ℕ → ℕ → List Row
+unfoldable pub drawRows : (film w h : ℕ) (pic : List ℕ) (s : Settings) (r : MapRecord) (win : Window) (m : List ℕ) (room : ℕ) → List Row
 drawRows film w h pic s r win m room =
     sharedRows w h (length pic) s (length m) ++ (recordRows film w h s r ++ (windowRows w h win room ++ pixelRows w pic s win m))
 
@@ -38,23 +38,23 @@ drawnSays Done = accepted tt
 drawnSays (Refused n) = refused n
 
 -- what draw leaves: its answer and the output
-pub record Shows : Type 0 where
+pub record DrawOut : Type 0 where
   pub answer : Drawn
   pub out : List ℕ
 
 -- the answer and the output at the end, as draw leaves them
-abbrev pub showing : Drawn → List ℕ → Shows
-showing answer out = record { answer = answer; out = out }
+abbrev pub drawLeaves : Drawn → List ℕ → DrawOut
+drawLeaves answer out = record { answer = answer; out = out }
 
 -- "the window's pixels row by row in the output, each by the rule above from the map entries as lent, whoever wrote them. At factor 1.0 it copies them"
-unfoldable pub drawnPixels : ℕ → ℕ → List ℕ → Settings → Window → List ℕ → List ℕ
+unfoldable pub drawnPixels : (w h : ℕ) (pic : List ℕ) (s : Settings) (win : Window) (m : List ℕ) → List ℕ
 drawnPixels w h pic s win m = cond (clipOne (s .clip)) (greysOf pic w (rectOf win)) (renderOf w h s m win (greysOf pic w (rectOf win)))
 
 -- where no row applies draw leaves them in the output; a refusal leaves the output as it was
-unfoldable pub drawOf : ℕ → ℕ → ℕ → List ℕ → Settings → MapRecord → Window → List ℕ → List ℕ → Shows
+unfoldable pub drawOf : (film w h : ℕ) (pic : List ℕ) (s : Settings) (r : MapRecord) (win : Window) (m out : List ℕ) → DrawOut
 drawOf film w h pic s r win m out =
-    unless (first (drawRows film w h pic s r win m (length out))) (λ n. showing (Refused n) out)
-    (showing Done (drawnPixels w h pic s win m))
+    unless (first (drawRows film w h pic s r win m (length out))) (λ n. drawLeaves (Refused n) out)
+    (drawLeaves Done (drawnPixels w h pic s win m))
 
 -- ---- what the functions ask
 

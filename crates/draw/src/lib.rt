@@ -2,7 +2,7 @@
 ghost use mathlib.Core.Path.{_≡_};
 ghost use lib.ListN.{length};
 ghost use Rattle.refuse.specs.Refuse.{first};
-ghost use Rattle.draw.specs.Draw.{pixelRows, drawRows, drawnPixels, drawOf, showing, LookAsks, WindowReady};
+ghost use Rattle.draw.specs.Draw.{pixelRows, drawRows, drawnPixels, drawOf, drawLeaves, LookAsks, WindowReady};
 use settings::MapRecord;
 use settings::Settings;
 use settings::Window;
@@ -94,7 +94,7 @@ pub fn draw(
     map: &[u16],
     out: &mut [u16],
 ) -> Drawn
-    ensures { λ r. ⌜ showing r (now (out .exit)) ≡ drawOf film width height (now (picture .entry)) s «record» win (now (map .entry)) (now (out .entry)) ⌝ }
+    ensures { λ r. ⌜ drawLeaves r (now (out .exit)) ≡ drawOf film width height (now (picture .entry)) s «record» win (now (map .entry)) (now (out .entry)) ⌝ }
 {
     let refused = refusal(film, width, height, picture, s, record, win, map, out.len());
     if refused != 0 {

@@ -16,15 +16,15 @@ use Rattle.settings.specs.declared.Footer.{Footer}
 use Rattle.settings.specs.Settings.{binsOf}
 use Rattle.prepare.specs.declared.Prepared.{Prepared}
 use Rattle.prepare.specs.declared.Made.the-variants as Made
-use Rattle.prepare.specs.Prepare.{prepareRows, preparedNot, Ended, ending, preparedOf, prepareOf}
+use Rattle.prepare.specs.Prepare.{prepareRows, preparedNot, PrepareOut, prepareLeaves, preparedOf, prepareOf}
 use Rattle.prepare.proofs.Table.{work}
-use Rattle.tiles.specs.Tiles.{mappings, spents, footOf, TilesAsk}
+use Rattle.tiles.specs.Tiles.{mappings, spents, footOf, TilesReady}
 use Rattle.tiles.proofs.Footers.{foot-limit}
 use Rattle.tiles.proofs.Films.{length-mappings}
 use Rattle.tiles.proofs.Spents.{length-spents}
 use Rattle.lines.specs.Lines.{refusedText}
 use Rattle.lines.specs.Asks.{Told}
-use Rattle.film_lines.specs.FilmText.{two, settingsOf, limitFor, filmText}
+use Rattle.film_lines.specs.FilmText.{two, listingSettings, limitFor, filmText}
 use Rattle.film_lines.specs.Asks.{keptText, LinesAsk}
 use Rattle.film_lines.proofs.Tiles.{limit-short, excess-short, looks-short, text-kept}
 use Rattle.film_lines.proofs.Refusals.{prepare-below}
@@ -44,15 +44,15 @@ told-none e t = rw e t
 module _ (w h m : ℕ) (pic : List ℕ) where
   -- the number of the rows 1 to 13, 31 and 32, with the listing's buffers
   abbrev pub number : ℕ
-  number = first (prepareRows w h pic (settingsOf m) 16 4 8)
+  number = first (prepareRows w h pic (listingSettings m) 16 4 8)
 
   -- a film that is not refused
   pub record Accepted (limit : ℕ) (map list : List ℕ) : Type 0 where
     pub none : number ≡ 0
-    pub film : TilesAsk w h pic (settingsOf m) 16 4
+    pub film : TilesReady w h pic (listingSettings m) 16 4
     pub bound : limit ≡ limitFor w h m
-    pub mapped : map ≡ mappings w h pic (settingsOf m)
-    pub listed : list ≡ spents w h pic (settingsOf m)
+    pub mapped : map ≡ mappings w h pic (listingSettings m)
+    pub listed : list ≡ spents w h pic (listingSettings m)
 
   -- what its lines ask
   pub lines-asks : {limit : ℕ} {map list : List ℕ} → Accepted limit map list → w * h ≤ 8192 → (room : ℕ) → 512 ≤ room → LinesAsk w h m limit map list room
@@ -63,8 +63,8 @@ module _ (w h m : ℕ) (pic : List ℕ) where
         height = omega (arith, made .film .work .ready .tiled .highest);
         maxval = omega (arith, made .film .work .ready .tiled .max);
         limit = omega (arith, made .bound, limit-short w h m (made .film .work .ready .tiled) few);
-        entries = ap length (made .mapped) ∙ length-mappings w h pic (settingsOf m);
-        pairs = ap length (made .listed) ∙ length-spents w h pic (settingsOf m);
+        entries = ap length (made .mapped) ∙ length-mappings w h pic (listingSettings m);
+        pairs = ap length (made .listed) ∙ length-spents w h pic (listingSettings m);
         excess = λ k l. excess-short (made .film) few l (made .listed);
         looks = λ k l. looks-short (made .film) few l (made .listed);
         fitting = q;
@@ -76,31 +76,31 @@ module _ (w h m : ℕ) (pic : List ℕ) where
   accepted-told made t = told-none (made .none) (told-as t (text-kept w h m pic (made .bound) (made .mapped) (made .listed)))
 
   -- what the tiles ask, since the factor 2 is above one
-  tiles-asks : number ≡ 0 → TilesAsk w h pic (settingsOf m) 16 4
-  tiles-asks z = record { work = work w h pic (settingsOf m) 16 4 8 z; changes = above-not-one two (refl, lit< tt) }
+  tiles-asks : number ≡ 0 → TilesReady w h pic (listingSettings m) 16 4
+  tiles-asks z = record { work = work w h pic (listingSettings m) 16 4 8 z; changes = above-not-one two (refl, lit< tt) }
 
   module _ (map₀ scratch₀ list₀ : List ℕ) {map scratch list : List ℕ} (n : length map₀ ≡ 16) (k : length scratch₀ ≡ 4) (j : length list₀ ≡ 8) where
     accepted : {p : Prepared} {foot : Footer} → p .answer ≡ Made.Done foot → number ≡ 0
-        → ending p map scratch list ≡ preparedOf 0 w h pic (settingsOf m) map₀ scratch₀ list₀ → Accepted (foot .limit) map list
+        → prepareLeaves p map scratch list ≡ preparedOf 0 w h pic (listingSettings m) map₀ scratch₀ list₀ → Accepted (foot .limit) map list
     unfolding preparedOf binsOf
     accepted {p} {foot} a z e =
         record {
           none = z;
           film = tiles-asks z;
-          bound = ap (λ (f : Footer). f .limit) (same (sym a ∙ ap (λ (x : Ended). x .answer .answer) e)) ∙ foot-limit w h (settingsOf m) refl (tiles-asks z .changes);
-          mapped = ap (λ (x : Ended). x .map) e ∙ ap (λ b. cond b map₀ (onto map₀ (mappings w h pic (settingsOf m)))) (tiles-asks z .changes) ∙ onto-whole map₀ (mappings w h pic (settingsOf m)) (omega (arith, length-mappings w h pic (settingsOf m)));
-          listed = ap (λ (x : Ended). x .list) e ∙ ap (λ b. cond b list₀ (onto list₀ (spents w h pic (settingsOf m)))) (tiles-asks z .changes) ∙ onto-whole list₀ (spents w h pic (settingsOf m)) (omega (arith, length-spents w h pic (settingsOf m)));
+          bound = ap (λ (f : Footer). f .limit) (same (sym a ∙ ap (λ (x : PrepareOut). x .answer .answer) e)) ∙ foot-limit w h (listingSettings m) refl (tiles-asks z .changes);
+          mapped = ap (λ (x : PrepareOut). x .map) e ∙ ap (λ b. cond b map₀ (onto map₀ (mappings w h pic (listingSettings m)))) (tiles-asks z .changes) ∙ onto-whole map₀ (mappings w h pic (listingSettings m)) (omega (arith, length-mappings w h pic (listingSettings m)));
+          listed = ap (λ (x : PrepareOut). x .list) e ∙ ap (λ b. cond b list₀ (onto list₀ (spents w h pic (listingSettings m)))) (tiles-asks z .changes) ∙ onto-whole list₀ (spents w h pic (listingSettings m)) (omega (arith, length-spents w h pic (listingSettings m)));
         }
       where
         same : {f g : Footer} → Made.Done f ≡ Made.Done g → f ≡ g
         same q = cc
 
-    module _ {s : Settings} {p : Prepared} (q : s ≡ settingsOf m) (e : ending p map scratch list ≡ prepareOf 0 w h pic s map₀ scratch₀ list₀) where
+    module _ {s : Settings} {p : Prepared} (q : s ≡ listingSettings m) (e : prepareLeaves p map scratch list ≡ prepareOf 0 w h pic s map₀ scratch₀ list₀) where
       -- what is left, by the rows' number
       abbrev Left : ℕ → Type 0
       Left i =
-          ending p map scratch list
-          ≡ unless i (λ r. ending (preparedNot r) map₀ scratch₀ list₀) (preparedOf 0 w h pic (settingsOf m) map₀ scratch₀ list₀)
+          prepareLeaves p map scratch list
+          ≡ unless i (λ r. prepareLeaves (preparedNot r) map₀ scratch₀ list₀) (preparedOf 0 w h pic (listingSettings m) map₀ scratch₀ list₀)
 
       left : Left number
       unfolding prepareOf
@@ -113,7 +113,7 @@ module _ (w h m : ℕ) (pic : List ℕ) where
           go : (i : ℕ) → number ≡ i → Left i → Accepted (foot .limit) map list
           go zero z f = accepted a z f
           go (suc i) z f =
-              let b : p .answer ≡ Made.Refused (suc i) = ap (λ (x : Ended). x .answer .answer) f in
+              let b : p .answer ≡ Made.Refused (suc i) = ap (λ (x : PrepareOut). x .answer .answer) f in
               absurd (let o : _≡_ {A = ℕ} 0 1 = cc in omega arith)
 
       -- the answer is a refusal: it is the rows' number
@@ -123,9 +123,9 @@ module _ (w h m : ℕ) (pic : List ℕ) where
         where
           go : (i : ℕ) → number ≡ i → Left i → (r < 100000) × ((text : List ℕ) → refusedText r ≡ unless number refusedText text)
           go zero z f =
-              let b : p .answer ≡ Made.Done (footOf w h (settingsOf m)) = ap (λ (x : Ended). x .answer .answer) f in
+              let b : p .answer ≡ Made.Done (footOf w h (listingSettings m)) = ap (λ (x : PrepareOut). x .answer .answer) f in
               absurd (let o : _≡_ {A = ℕ} 0 1 = cc in omega arith)
           go (suc i) z f =
-              let b : p .answer ≡ Made.Refused (suc i) = ap (λ (x : Ended). x .answer .answer) f in
+              let b : p .answer ≡ Made.Refused (suc i) = ap (λ (x : PrepareOut). x .answer .answer) f in
               let d : r ≡ suc i = cc in
-              (omega (arith, prepare-below w h pic (settingsOf m) 16 4 8), λ text. rw (z, d) refl)
+              (omega (arith, prepare-below w h pic (listingSettings m) 16 4 8), λ text. rw (z, d) refl)

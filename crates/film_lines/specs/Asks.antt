@@ -9,7 +9,7 @@ use Rattle.lines.specs.Lines.{line}
 use Rattle.lines.specs.Asks.{tileFields}
 
 -- the first line, with the limit that `film_lines` is handed
-abbrev pub firstKept : ℕ → ℕ → ℕ → ℕ → List ℕ
+abbrev pub firstKept : (w h maxval l : ℕ) → List ℕ
 firstKept w h maxval l = line (w ∷ h ∷ 2 ∷ 2 ∷ 4 ∷ 0 ∷ maxval ∷ l ∷ [])
 
 -- the line of tile k from what prepare left: its two entries of the list, E and the looks, and its mapping in the map buffer
@@ -17,7 +17,7 @@ unfoldable pub keptLine : List ℕ → List ℕ → ℕ → List ℕ
 keptLine map list k = line (tileFields k (getD list (k * 2) 0) (getD list (k * 2 + 1) 0) map)
 
 -- the text that `film_lines` lays down, from the limit, the map's entries and the list's; where these are a film's own it is `filmText`, by the law `text-kept`
-unfoldable pub keptText : ℕ → ℕ → ℕ → ℕ → List ℕ → List ℕ → List ℕ
+unfoldable pub keptText : (w h maxval l : ℕ) (map list : List ℕ) → List ℕ
 keptText w h maxval l map list = firstKept w h maxval l ++ joined 4 (keptLine map list)
 
 -- what `film_lines` asks: sizes, a limit, and two entries for each of the four tiles, all of at most five digits; a map of four mappings, and room

@@ -6,7 +6,7 @@ ghost use Rattle.refuse.specs.Refuse.{first, unless};
 ghost use Rattle.prepare.specs.Prepare.{prepareRows};
 ghost use Rattle.lines.specs.Lines.{refusedText};
 ghost use Rattle.lines.specs.Asks.{Told};
-ghost use Rattle.film_lines.specs.FilmText.{settingsOf, filmText};
+ghost use Rattle.film_lines.specs.FilmText.{listingSettings, filmText};
 ghost use Rattle.film_lines.specs.Asks.{keptText, LinesAsk};
 use limit::Clip;
 use limit::Edition;
@@ -15,7 +15,7 @@ use settings::Settings;
 
 // The listing's settings: grid 2 by 2, 4 bins, range 0 to maxval, factor 2.
 fn settings_for(maxval: u32) -> Settings
-    ensures { λ r. ⌜ r ≡ settingsOf maxval ⌝ }
+    ensures { λ r. ⌜ r ≡ listingSettings maxval ⌝ }
 {
     Settings {
         across: 2,
@@ -56,7 +56,7 @@ fn film_lines(
 // The listing of a film, or prepare's refusal of it.
 pub fn list_film(film: &[u16], width: u32, height: u32, maxval: u32, out: &mut [u8]) -> usize
     requires { ⌜ (width * height ≤ 8192) × (512 ≤ length (now out)) ⌝ }
-    ensures { λ r. ⌜ Told (now (out .entry)) (unless (first (prepareRows width height (now (film .entry)) (settingsOf maxval) 16 4 8)) refusedText (filmText width height maxval (now (film .entry)))) (now (out .exit)) r ⌝ }
+    ensures { λ r. ⌜ Told (now (out .entry)) (unless (first (prepareRows width height (now (film .entry)) (listingSettings maxval) 16 4 8)) refusedText (filmText width height maxval (now (film .entry)))) (now (out .exit)) r ⌝ }
 {
     let mut map = [0u16; 16];
     let mut scratch = [0u32; 4];

@@ -11,7 +11,7 @@ use Rattle.grid.specs.Grid.{axisOf, noAxis}
 use Rattle.filmset.specs.declared.kept.Eleven.{Eleven}
 use Rattle.filmset.specs.declared.kept.Kept.{Kept}
 use Rattle.filmset.specs.declared.axes.Axes.{Axes}
-use Rattle.filmset.specs.Filmset.{freshLine, digitOf, longerLine, fedLine, lookedLine, isFilm, ownOf, elevenOf, madeAxis, axesOf, changedAxes, keptAs, placeOf, handedOf}
+use Rattle.filmset.specs.Filmset.{freshLine, digitOf, longerLine, fedLine, lookedLine, isFilm, ownOf, elevenOf, madeAxis, madeAxes, changedAxes, keptAs, fieldColumn, handedOf}
 
 pub digit-low : (b : ℕ) → b < 65 → b - 48 ≡ digitOf b
 unfolding digitOf
@@ -74,7 +74,7 @@ module _ (row drawn : List ℕ) (k : Kept) {f : ℕ} (e : f ≡ ownOf drawn 9 12
   unfolding handedOf
   handed-kept h q = rw (← e, le-leb 11 f h, q) refl
 
-  pub handed-made : {t : Eleven} {a : Axes} → f < 11 → t ≡ elevenOf (set row (placeOf f) (getD drawn 10 0)) → a ≡ axesOf (elevenOf row) → keptAs (k .number) t a ≡ handedOf row drawn k
+  pub handed-made : {t : Eleven} {a : Axes} → f < 11 → t ≡ elevenOf (set row (fieldColumn f) (getD drawn 10 0)) → a ≡ madeAxes (elevenOf row) → keptAs (k .number) t a ≡ handedOf row drawn k
   unfolding handedOf
   handed-made h q r = rw (← e, lt-leb 11 f h, q, r) refl
 

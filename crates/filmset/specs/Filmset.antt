@@ -7,7 +7,7 @@ use lib.Dec.{eqb, ltb, leb}
 use lib.Ieee.{Float, nan, binary32, binary64, ofBits, toBits}
 use lib.ListN.{getD, set, length, replicate}
 use Rattle.text.specs.declared.Text.{Text}
-use Rattle.text.specs.Text.{run, blankText, fieldOf, fieldsOf, hexFieldOf, startOf, endOf, lineOf, smallOf}
+use Rattle.text.specs.Text.{run, blankText, fieldOf, fieldsOf, hexFieldOf, lineStart, lineEnd, lineOf, smallOf}
 use Rattle.limit.specs.declared.Clip.{Clip}
 use Rattle.limit.specs.declared.Clip.the-variants.{Off, Factor}
 use Rattle.limit.specs.declared.Edition.{Edition}
@@ -96,8 +96,8 @@ foundRow text n = run (lookedLine n) freshLine text .numbers
 -- ---- records
 
 -- the f32 of a bit pattern; one NaN stands for all
-unfoldable pub factorOf : ℕ → Float
-factorOf bits = cond (ltb 2139095040 (bits % 2147483648)) nan (ofBits binary32 bits)
+unfoldable pub floatOf : ℕ → Float
+floatOf bits = cond (ltb 2139095040 (bits % 2147483648)) nan (ofBits binary32 bits)
 
 -- the made record of a film's row
 unfoldable pub elevenOf : List ℕ → Eleven
@@ -112,7 +112,7 @@ elevenOf row =
       min = wordOf row 15;
       max = wordOf row 16;
       clip = wordOf row 17;
-      factor = factorOf (wordOf row 18);
+      factor = floatOf (wordOf row 18);
       edition = wordOf row 24;
     }
 
@@ -167,10 +167,10 @@ unfoldable pub madeAxis : ℕ → ℕ → Axis
 madeAxis side grid = cond (leb 2 grid && leb grid 16 && leb grid side && leb side 4096) (axisOf side grid) noAxis
 
 -- "The made record's axes are the rule's for its own width, height, across and down"
-unfoldable pub axesOf : Eleven → Axes
-axesOf t = record { columns = madeAxis (t .width) (t .across); rows = madeAxis (t .height) (t .down) }
+unfoldable pub madeAxes : Eleven → Axes
+madeAxes t = record { columns = madeAxis (t .width) (t .across); rows = madeAxis (t .height) (t .down) }
 
--- those of a map record
+-- the axes of a map record
 unfoldable pub axesIn : MapRecord → Axes
 axesIn r = record { columns = r .columns; rows = r .rows }
 
@@ -179,7 +179,7 @@ abbrev pub changedEntry : Bool → List ℕ → ℕ → List ℕ
 changedEntry asked s value = cond asked (set s (value / 65536) (value % 65536)) s
 
 -- that of an axis whose edges and centres these fields are
-unfoldable pub changedAxis : Axis → ℕ → ℕ → ℕ → ℕ → Axis
+unfoldable pub changedAxis : (a : Axis) (field edges centres value : ℕ) → Axis
 changedAxis a field edges centres value =
     record {
       edges = changedEntry (eqb field edges) (a .edges) value;
@@ -194,13 +194,13 @@ changedAxes a field value =
 -- ---- what is kept
 
 -- the eleven but for the factor and the edition, in the order in which they are printed
-abbrev pub nineOf : Eleven → List ℕ
-nineOf t =
+abbrev pub printedNumbers : Eleven → List ℕ
+printedNumbers t =
     t .film ∷ t .width ∷ t .height ∷ t .across ∷ t .down ∷ t .bins ∷ t .min ∷ t .max ∷ t .clip ∷ []
 
 -- the eleven but for the factor, in the order in which C has them
-abbrev pub tenOf : Eleven → List ℕ
-tenOf t =
+abbrev pub cellNumbers : Eleven → List ℕ
+cellNumbers t =
     t .film ∷ t .width ∷ t .height ∷ t .across ∷ t .down ∷ t .bins ∷ t .min ∷ t .max ∷ t .clip ∷ t .edition ∷ []
 
 -- the eleven of these ten and the factor
@@ -226,7 +226,7 @@ keptAs number t a = record { number = number; eleven = t; axes = a }
 
 -- an answer and the made record
 abbrev pub keptMade : ℕ → Eleven → Kept
-keptMade number t = keptAs number t (axesOf t)
+keptMade number t = keptAs number t (madeAxes t)
 
 -- what is kept of an answer beside its record: that record, or the made one beside the refusal's number
 abbrev pub keptBeside : Eleven → MapRecord → Made → Kept
@@ -251,8 +251,8 @@ abbrev pub leftAlone : Kept → Left
 leftAlone k = record { kept = k; list = 0; line = blankText }
 
 -- the map record that is kept
-unfoldable pub recordOf : Kept → MapRecord
-recordOf k =
+unfoldable pub keptMapRecord : Kept → MapRecord
+keptMapRecord k =
     record {
       film = k .eleven .film;
       width = k .eleven .width;
@@ -266,7 +266,7 @@ recordOf k =
 
 -- the fields of the eleven
 unfoldable pub elevenFields : Text → Eleven → Text
-elevenFields line t = fieldOf (hexFieldOf (fieldsOf line (nineOf t)) 8 (toBits binary32 (t .factor))) (t .edition)
+elevenFields line t = fieldOf (hexFieldOf (fieldsOf line (printedNumbers t)) 8 (toBits binary32 (t .factor))) (t .edition)
 
 -- the digests of an axis: of its edges and of its centres
 unfoldable pub axisFields : Text → Axis → Text
@@ -285,9 +285,9 @@ doneFields line letter k limit asked used =
 -- the line of prepare or enhance: the answer, and of an accepted call its fields; none under the letter 0
 unfoldable pub answerLine : ℕ → ℕ → Kept → ℕ → Float → Float → Text
 answerLine letter n k limit asked used =
-    let line = fieldOf (startOf letter n) (k .number) in
+    let line = fieldOf (lineStart letter n) (k .number) in
     cond (eqb letter 0) blankText
-    (cond (eqb (k .number) 0) (endOf (doneFields line letter k limit asked used)) (endOf line))
+    (cond (eqb (k .number) 0) (lineEnd (doneFields line letter k limit asked used)) (lineEnd line))
 
 -- the line K, 1 or 0: whether two pictures have the same digest, where all calls accepted
 unfoldable pub sameLine : ℕ → Shot → Shot → Text
@@ -330,8 +330,8 @@ drawnNumber drawn.Done = 0
 drawnNumber (drawn.Refused n) = n
 
 -- the column of a record's field in a film's row
-unfoldable pub placeOf : ℕ → ℕ
-placeOf field = cond (ltb field 3) (field + 2) (cond (eqb field 10) 24 (field % 16 + 9))
+unfoldable pub fieldColumn : ℕ → ℕ
+fieldColumn field = cond (ltb field 3) (field + 2) (cond (eqb field 10) 24 (field % 16 + 9))
 
 -- the record handed to draw: the kept one, of whose axes an entry may be changed, or the made one "with that field's number set to value,
 -- and its axes as they were"
@@ -339,7 +339,7 @@ unfoldable pub handedOf : List ℕ → List ℕ → Kept → Kept
 handedOf row drawn k =
     cond (leb 11 (ownOf drawn 9 12))
     (keptAs (k .number) (k .eleven) (changedAxes (k .axes) (ownOf drawn 9 12) (getD drawn 10 0)))
-    (keptAs (k .number) (elevenOf (set row (placeOf (ownOf drawn 9 12)) (getD drawn 10 0))) (axesOf (elevenOf row)))
+    (keptAs (k .number) (elevenOf (set row (fieldColumn (ownOf drawn 9 12)) (getD drawn 10 0))) (madeAxes (elevenOf row)))
 
 -- what came of two calls, the second of which rendered
 unfoldable pub joinedOf : ℕ → Shot → Shot
@@ -348,7 +348,7 @@ joinedOf number shot = cond (eqb number 0) shot (record { number = number; diges
 -- ---- lent memory
 
 -- entry i of a buffer that counts on from base: what is left of first + i * pace by span
-unfoldable pub fillOf : ℕ → ℕ → ℕ → ℕ → ℕ → ℕ
+unfoldable pub fillOf : (base first pace span i : ℕ) → ℕ
 fillOf base first pace span i = (base + restOf ((i % 4294967296 * (pace % 4294967296) + first) % 2 ^ 64) span) % 2 ^ 64 % 65536
 
 -- entry i of a scratch before a call
@@ -356,5 +356,5 @@ unfoldable pub scratchOf : ℕ → ℕ
 scratchOf i = i % 1000 * 5 % 1000 + 1
 
 -- entry i of a list before a call: "1099511627776 + (i mod 1000)"
-unfoldable pub listOf : ℕ → ℕ
-listOf i = 1099511627776 + i % 1000
+unfoldable pub listEntry : ℕ → ℕ
+listEntry i = 1099511627776 + i % 1000

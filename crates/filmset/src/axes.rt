@@ -3,7 +3,7 @@ ghost use mathlib.Core.Path.{_≡_};
 ghost use mathlib.Core.Bool.{cond};
 ghost use Prim.Native.Nat.{_/_, _%_};
 ghost use lib.ListN.{set};
-ghost use Rattle.filmset.specs.Filmset.{madeAxis, axesOf, changedAxis, changedAxes, axisFields, axesFields};
+ghost use Rattle.filmset.specs.Filmset.{madeAxis, madeAxes, changedAxis, changedAxes, axisFields, axesFields};
 use crate::digest;
 use crate::kept::Eleven;
 use grid::Axis;
@@ -36,7 +36,7 @@ fn made_axis(side: u32, tiles: u32) -> Axis
 
 // The axes of the made record.
 pub fn of(t: Eleven) -> Axes
-    ensures { λ r. ⌜ r ≡ axesOf t ⌝ }
+    ensures { λ r. ⌜ r ≡ madeAxes t ⌝ }
 {
     Axes {
         columns: made_axis(t.width, t.across),

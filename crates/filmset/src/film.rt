@@ -1,7 +1,7 @@
 // The films and the draws: prepare, draw and enhance.
 ghost use mathlib.Core.Path.{_≡_};
 ghost use lib.ListN.{length};
-ghost use Rattle.filmset.specs.Filmset.{digestOf, isFilm, ownOf, windowOf, drawnNumber, placeOf, handedOf, joinedOf, sameLine, leftOf, leftAlone};
+ghost use Rattle.filmset.specs.Filmset.{digestOf, isFilm, ownOf, windowOf, drawnNumber, fieldColumn, handedOf, joinedOf, sameLine, leftOf, leftAlone};
 use crate::axes;
 use crate::axes::Axes;
 use crate::column;
@@ -417,7 +417,7 @@ fn draw_by(
 // The column of a record's field in a film's row: film, width and height stand before the picture's columns, the settings behind, and the
 // edition last of all.
 fn place(field: u64) -> usize
-    ensures { λ r. ⌜ r ≡ placeOf field ⌝ }
+    ensures { λ r. ⌜ r ≡ fieldColumn field ⌝ }
 {
     if field < 3 {
         return (field + 2) as usize;

@@ -1,7 +1,7 @@
 // The eleven numbers of a film's record, and what the calls of prepare make of them and of its axes.
 ghost use mathlib.Core.Path.{_≡_};
 ghost use lib.ListN.{getD};
-ghost use Rattle.filmset.specs.Filmset.{factorOf, elevenOf, clipOf, editionOf, settingsOf, recordOf, clipNumber, clipFactor, editionNumber, flatOf, axesIn, nineOf, tenOf, elevenFrom, keptAs, keptMade, keptPrepared, keptEnhanced, elevenFields, doneFields, answerLine};
+ghost use Rattle.filmset.specs.Filmset.{floatOf, elevenOf, clipOf, editionOf, settingsOf, keptMapRecord, clipNumber, clipFactor, editionNumber, flatOf, axesIn, printedNumbers, cellNumbers, elevenFrom, keptAs, keptMade, keptPrepared, keptEnhanced, elevenFields, doneFields, answerLine};
 use crate::axes;
 use crate::axes::Axes;
 use crate::column;
@@ -40,7 +40,7 @@ pub struct Kept {
 
 // The f32 of a bit pattern; one NaN stands for all.
 fn factor_of(bits: u32) -> f32
-    ensures { λ r. ⌜ r ≡ factorOf bits ⌝ }
+    ensures { λ r. ⌜ r ≡ floatOf bits ⌝ }
 {
     if 0x7f800000 < bits % 0x80000000 {
         return 0.0 / 0.0;
@@ -104,7 +104,7 @@ pub fn settings(t: Eleven) -> Settings
 
 // The map record that is kept.
 pub fn record(k: Kept) -> MapRecord
-    ensures { λ r. ⌜ r ≡ recordOf k ⌝ }
+    ensures { λ r. ⌜ r ≡ keptMapRecord k ⌝ }
 {
     let t = k.eleven;
     let axes = k.axes;
@@ -219,7 +219,7 @@ pub fn line(letter: u8, no: u64, k: Kept, limit: u32, asked: f32, used: f64) -> 
 
 // The eleven but for the factor and the edition, in the order in which they are printed.
 fn nine(t: Eleven) -> [u32; 9]
-    ensures { λ r. ⌜ r ≡ nineOf t ⌝ }
+    ensures { λ r. ⌜ r ≡ printedNumbers t ⌝ }
 {
     [
         t.film,
@@ -236,7 +236,7 @@ fn nine(t: Eleven) -> [u32; 9]
 
 // The eleven but for the factor, in the order in which C has them.
 pub fn ten(t: Eleven) -> [u32; 10]
-    ensures { λ r. ⌜ r ≡ tenOf t ⌝ }
+    ensures { λ r. ⌜ r ≡ cellNumbers t ⌝ }
 {
     [
         t.film,

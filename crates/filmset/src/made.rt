@@ -3,7 +3,7 @@ ghost use mathlib.Core.Path.{_≡_};
 ghost use Prim.Native.Nat.{_%_};
 ghost use lib.ListN.{getD, set, length};
 ghost use Rattle.lists.specs.Lists.{tab};
-ghost use Rattle.filmset.specs.Filmset.{fillOf, scratchOf, listOf};
+ghost use Rattle.filmset.specs.Filmset.{fillOf, scratchOf, listEntry};
 use crate::column;
 use crate::whole::Row;
 use crate::whole::at;
@@ -197,7 +197,7 @@ pub fn scratch() -> [u32; 4200]
 
 // A list of the longest length before a call: its entries are more than 32 bits hold.
 pub fn list() -> [u64; 600]
-    ensures { λ r. ⌜ r ≡ tab 600 listOf ⌝ }
+    ensures { λ r. ⌜ r ≡ tab 600 listEntry ⌝ }
 {
     let mut entries = [0u64; 600];
     let mut i = 0;

@@ -31,12 +31,12 @@ use Rattle.settings.proofs.Records.{tiled-columns, tiled-rows}
 use Rattle.render.specs.Render.{renderOf, rectOf, renderedOf}
 use Rattle.render.proofs.Laws.{render-at, rendered-by}
 use Rattle.tiles.specs.Tiles.{pixelsIn, footOf}
-use Rattle.prepare.specs.Prepare.{preparedSays, enhancedSays, Ended}
+use Rattle.prepare.specs.Prepare.{preparedSays, enhancedSays, PrepareOut}
 use Rattle.counting.specs.Counting.{countsIn, countedSays}
 use Rattle.counting.proofs.Tables.{count-ready}
 use Rattle.counts.specs.Counts.{addsUp, mappingsFrom, mapDoneOf, tilingRows, mapRows}
 use Rattle.counts.proofs.Tables.{map-ready, tiling-tiled}
-use Rattle.draw.specs.Draw.{drawnSays, Shows, drawOf, DrawReady}
+use Rattle.draw.specs.Draw.{drawnSays, DrawOut, drawOf, DrawReady}
 use Rattle.draw.proofs.Tables.{draw-ready}
 use Rattle.draw.proofs.Works.{render-asks}
 use Rattle.draw.proofs.Like.{drawn-pixels}
@@ -136,7 +136,7 @@ pub fitted-drawn-any : {d : DrawCall} → Draws d → drawnSays (d .answer) ≡ 
     ≡ fitShown (d .width) (d .height) (d .settings) (d .map) (d .window .left + i) (d .window .top + j) (getD (d .pixels) ((d .window .top + j) * d .width + (d .window .left + i)) 0)
 unfolding fitShown
 fitted-drawn-any {d} ran done fitted one j i l k =
-    ap (λ (z : Shows). getD (z .out) (j * d .window .width + i) 0) (draw-ends ran ∙ table-done (draw-table (d .film) (d .width) (d .height) (d .pixels) (d .settings) (d .kept) (d .window) (d .map) (d .out)) says-done)
+    ap (λ (z : DrawOut). getD (z .out) (j * d .window .width + i) 0) (draw-ends ran ∙ table-done (draw-table (d .film) (d .width) (d .height) (d .pixels) (d .settings) (d .kept) (d .window) (d .map) (d .out)) says-done)
     ∙ ap (λ ys. getD ys (j * d .window .width + i) 0) (drawn-pixels (d .width) (d .height) (d .pixels) (d .settings) (d .window) (d .map) ∙ ap (λ b. cond b greys (renderOf (d .width) (d .height) (d .settings) (d .map) (d .window) greys)) one)
     ∙ render-at (d .width) (d .height) (d .settings) (d .map) (d .window) greys l k
     ∙ ap (renderedOf (d .width) (d .height) (d .settings) (d .map) (d .window .left + i) (d .window .top + j)) (getD-greys (d .pixels) (d .width) (rectOf (d .window)) l k)
@@ -144,7 +144,7 @@ fitted-drawn-any {d} ran done fitted one j i l k =
     ∙ grey-places (d .settings) (d .map) v (columns .places (d .window .left + i) inside-x) (rows .places (d .window .top + j) inside-y)
   where
     says-done : drawnSays (drawOf (d .film) (d .width) (d .height) (d .pixels) (d .settings) (d .kept) (d .window) (d .map) (d .out) .answer) ≡ accepted tt
-    says-done = sym (ap (λ (z : Shows). drawnSays (z .answer)) (draw-ends ran)) ∙ done
+    says-done = sym (ap (λ (z : DrawOut). drawnSays (z .answer)) (draw-ends ran)) ∙ done
 
     known : DrawReady (d .film) (d .width) (d .height) (d .pixels) (d .settings) (d .kept) (d .window) (d .map) (length (d .out))
     known =
@@ -195,7 +195,7 @@ pub fitted-mapped : {d : MapCall} {r : MapRecord} {foot : Footer} → Maps d →
     × (foot ≡ fitFoot (d .width) (d .height) (d .settings))
 unfolding mapDoneOf mappingsFrom fitMappingsFrom
 fitted-mapped {d} {r} {foot} ran done fitted = (
-  ap (λ (y : Ended). y .map) (map-ends ran ∙ table-done (map-table _ _ _ _ _ _ _ _) (sym (ap (λ (y : Ended). preparedSays (y .answer)) (map-ends ran)) ∙ done))
+  ap (λ (y : PrepareOut). y .map) (map-ends ran ∙ table-done (map-table _ _ _ _ _ _ _ _) (sym (ap (λ (y : PrepareOut). preparedSays (y .answer)) (map-ends ran)) ∙ done))
       ∙ ap (λ ys. cond (clipOne (d .settings .clip)) (d .map) (onto (d .map) ys)) maps,
   sym (ap (λ (v : MapRecord × Footer). v .1) (told .1)) ∙ same .foot,
 )

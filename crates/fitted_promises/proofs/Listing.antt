@@ -26,9 +26,9 @@ use Rattle.header.specs.declared.Head.the-variants.{Found}
 use Rattle.header.specs.Header.{headerOf}
 use Rattle.samples.specs.Samples.{isWide, unpacked, noneAbove}
 use Rattle.pgm.specs.Pgm.{readOf}
-use Rattle.pgm_write.specs.Write.{wrote, wroteAs}
+use Rattle.pgm_write.specs.Write.{wrote, writeLeaves}
 use Rattle.lines.specs.Lines.{line, refusedText}
-use Rattle.film_lines.specs.FilmText.{two, settingsOf, firstLine, tileLine, filmText}
+use Rattle.film_lines.specs.FilmText.{two, listingSettings, firstLine, tileLine, filmText}
 use Rattle.listing.specs.Listing.{isLarger, pictureText, readText, listingOf, textRows, listOf}
 use Rattle.listing.proofs.Outcomes.{ListCall, Lists, list-ends}
 use Rattle.promises.specs.Fitted.{Fitted, fitRect, FilmAsBefore}
@@ -68,7 +68,7 @@ module _ {w h : ℕ} {s : Settings} (tiled : Tiled w h s) (fitted : Fitted w h s
           ∙ getD-joined (binsOf s) (s .across * s .down) before (λ j _. long j) k i 0 l q
 
 -- the text of such a film
-text-same : (w h m : ℕ) (pic : List ℕ) → Tiled w h (settingsOf m) → Fitted w h (settingsOf m) → filmText w h m pic ≡ fitText w h m pic
+text-same : (w h m : ℕ) (pic : List ℕ) → Tiled w h (listingSettings m) → Fitted w h (listingSettings m) → filmText w h m pic ≡ fitText w h m pic
 unfolding filmText fitText firstLine tileLine fitLine
 text-same w h m pic tiled fitted =
     ap₂ (λ a b. a ++ b) (ap (λ n. line (w ∷ h ∷ 2 ∷ 2 ∷ 4 ∷ 0 ∷ m ∷ limitOf two n 4 ∷ [])) (same tiled fitted pic .pixels 0))
@@ -78,23 +78,23 @@ text-same w h m pic tiled fitted =
     lines k l = ap₂ (λ (p : Spent) ys. line (k / 2 ∷ k % 2 ∷ p .excess ∷ p .looks ∷ ys)) (spent-same tiled fitted pic k) (map-same tiled fitted pic k l)
 
 -- refusals included
-picture-same : (w h m : ℕ) (pic : List ℕ) → Fitted w h (settingsOf m) → pictureText w h m pic ≡ fitPictureText w h m pic
-picture-same w h m pic fitted = ap (λ xs. cond (noneAbove m pic) xs (refusedText 26)) (go (first (prepareRows w h pic (settingsOf m) 16 4 8)) refl)
+picture-same : (w h m : ℕ) (pic : List ℕ) → Fitted w h (listingSettings m) → pictureText w h m pic ≡ fitPictureText w h m pic
+picture-same w h m pic fitted = ap (λ xs. cond (noneAbove m pic) xs (refusedText 26)) (go (first (prepareRows w h pic (listingSettings m) 16 4 8)) refl)
   where
-    number : first (prepareRows w h pic (settingsOf m) 16 4 8) ≡ first (fitPrepareRows w h pic (settingsOf m) 16 4 8)
-    number = prepare-same w h (settingsOf m) fitted pic 16 4 8
+    number : first (prepareRows w h pic (listingSettings m) 16 4 8) ≡ first (fitPrepareRows w h pic (listingSettings m) 16 4 8)
+    number = prepare-same w h (listingSettings m) fitted pic 16 4 8
 
-    go : (n : ℕ) → first (prepareRows w h pic (settingsOf m) 16 4 8) ≡ n
-        → unless (first (prepareRows w h pic (settingsOf m) 16 4 8)) refusedText (filmText w h m pic) ≡ unless (first (fitPrepareRows w h pic (settingsOf m) 16 4 8)) refusedText (fitText w h m pic)
+    go : (n : ℕ) → first (prepareRows w h pic (listingSettings m) 16 4 8) ≡ n
+        → unless (first (prepareRows w h pic (listingSettings m) 16 4 8)) refusedText (filmText w h m pic) ≡ unless (first (fitPrepareRows w h pic (listingSettings m) 16 4 8)) refusedText (fitText w h m pic)
     go zero z =
-        ap₂ (λ n text. unless n refusedText text) number (text-same w h m pic (work w h pic (settingsOf m) 16 4 8 z .ready .tiled) fitted)
+        ap₂ (λ n text. unless n refusedText text) number (text-same w h m pic (work w h pic (listingSettings m) 16 4 8 z .ready .tiled) fitted)
     go (suc n) z = ap (λ k. unless k refusedText (filmText w h m pic)) z ∙ sym (ap (λ k. unless k refusedText (fitText w h m pic)) (sym number ∙ z))
 
 -- ---- the call
 
 -- the listing of a file whose film has even sides, its grid being 2 by 2, is the old one
 pub fitted-listed : {c : ListCall} → Lists c → {w h m at : ℕ} → readOf (c .bytes) ≡ Found w h m at → w % 2 ≡ 0 → h % 2 ≡ 0
-    → wroteAs (c .answer) (c .out′) ≡ wrote (textRows (length (c .out))) (c .out) (fitListingOf (c .bytes))
+    → writeLeaves (c .answer) (c .out′) ≡ wrote (textRows (length (c .out))) (c .out) (fitListingOf (c .bytes))
 unfolding listOf listingOf fitListingOf
 fitted-listed {c} ran {w} {h} {m} {at} found wide high =
     list-ends ran

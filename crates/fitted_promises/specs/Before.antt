@@ -29,7 +29,7 @@ use Rattle.header.specs.Header.{headerOf}
 use Rattle.samples.specs.Samples.{isWide, unpacked, noneAbove}
 use Rattle.pgm.specs.Pgm.{readOf}
 use Rattle.lines.specs.Lines.{line, refusedText}
-use Rattle.film_lines.specs.FilmText.{two, settingsOf}
+use Rattle.film_lines.specs.FilmText.{two, listingSettings}
 use Rattle.listing.specs.Listing.{isLarger}
 use Rattle.promises.specs.Fitted.{tileWidth, tileHeight, fitRect, fitPixels, fitPlace}
 
@@ -47,28 +47,28 @@ fitGridRows w h s =
     ∷ []
 
 -- the rows that all calls with a picture share, 5 and 6 as they were
-unfoldable pub fitSharedRows : ℕ → ℕ → ℕ → Settings → ℕ → List Row
+unfoldable pub fitSharedRows : (w h size : ℕ) (s : Settings) (room : ℕ) → List Row
 fitSharedRows w h size s room = (sizeRows w h size ++ (fitGridRows w h s ++ greyRows s)) ++ roomRows s room
 
 -- prepare's table
-abbrev pub fitPrepareRows : ℕ → ℕ → List ℕ → Settings → ℕ → ℕ → ℕ → List Row
+abbrev pub fitPrepareRows : (w h : ℕ) (pic : List ℕ) (s : Settings) (room scratch list : ℕ) → List Row
 fitPrepareRows w h pic s room scratch list = fitSharedRows w h (length pic) s room ++ listedRows pic s scratch list
 
 -- enhance's
-abbrev pub fitEnhanceRows : ℕ → ℕ → List ℕ → Settings → ℕ → ℕ → List Row
+abbrev pub fitEnhanceRows : (w h : ℕ) (pic : List ℕ) (s : Settings) (room scratch : ℕ) → List Row
 fitEnhanceRows w h pic s room scratch = fitSharedRows w h (length pic) s room ++ workRows pic s scratch
 
 -- draw's
-abbrev pub fitDrawRows : ℕ → ℕ → ℕ → List ℕ → Settings → MapRecord → Window → List ℕ → ℕ → List Row
+abbrev pub fitDrawRows : (film w h : ℕ) (pic : List ℕ) (s : Settings) (r : MapRecord) (win : Window) (m : List ℕ) (room : ℕ) → List Row
 fitDrawRows film w h pic s r win m room =
     fitSharedRows w h (length pic) s (length m) ++ (recordRows film w h s r ++ (windowRows w h win room ++ pixelRows w pic s win m))
 
 -- counting's
-abbrev pub fitCountRows : ℕ → ℕ → List ℕ → Settings → ℕ → List Row
+abbrev pub fitCountRows : (w h : ℕ) (pic : List ℕ) (s : Settings) (size : ℕ) → List Row
 fitCountRows w h pic s size = (sizeRows w h (length pic) ++ (fitGridRows w h s ++ rangeRows s)) ++ (countsRows s size ++ outsideRows pic s)
 
 -- mapping's: a tile's counts add up to N = tw x th
-abbrev pub fitMapRows : ℕ → ℕ → Settings → List ℕ → ℕ → ℕ → ℕ → List Row
+abbrev pub fitMapRows : (w h : ℕ) (s : Settings) (cs : List ℕ) (room scratch list : ℕ) → List Row
 fitMapRows w h s cs room scratch list =
     (sideRows w h ++ (fitGridRows w h s ++ greyRows s))
     ++ (lentRows s room scratch list (length cs) ++ (row 34 (not (every (s .across * s .down) (λ k. eqb (total (countsIn s cs k)) (fitPixels w h s)))) ∷ []))
@@ -76,7 +76,7 @@ fitMapRows w h s cs room scratch list =
 -- ---- "From mappings to grey", "from the map entries as lent, whoever wrote them"
 
 -- the grey of a pixel of grey v in column x and row y
-unfoldable pub fitShown : ℕ → ℕ → Settings → List ℕ → ℕ → ℕ → ℕ → ℕ
+unfoldable pub fitShown : (w h : ℕ) (s : Settings) (m : List ℕ) (x y v : ℕ) → ℕ
 fitShown w h s m x y v =
     let column = fitPlace (tileWidth w s) (s .across) x in
     let row = fitPlace (tileHeight h s) (s .down) y in
@@ -92,27 +92,27 @@ fitMappingsFrom w h s cs = joined (s .across * s .down) (λ k. countsMapping (s 
 -- ---- the listing
 
 -- E and the looks of tile k
-unfoldable pub fitSpent : ℕ → ℕ → List ℕ → Settings → ℕ → Spent
+unfoldable pub fitSpent : (w h : ℕ) (pic : List ℕ) (s : Settings) (k : ℕ) → Spent
 fitSpent w h pic s k = spentBy (s .edition) (s .clip) (fitPixels w h s) (countsOf (s .min) (s .max) (binsOf s) (greysOf pic w (fitRect w h s k)))
 
 -- "Then a line per tile: row, column, E, the mapping.", the looks behind E
-unfoldable pub fitLine : ℕ → ℕ → ℕ → List ℕ → ℕ → List ℕ
+unfoldable pub fitLine : (w h maxval : ℕ) (pic : List ℕ) (k : ℕ) → List ℕ
 fitLine w h maxval pic k =
-    let s = settingsOf maxval in
+    let s = listingSettings maxval in
     let p = fitSpent w h pic s k in
     line (k / 2 ∷ k % 2 ∷ p .excess ∷ p .looks ∷ tileMapping (s .min) (s .max) (binsOf s) (s .edition) (s .clip) (greysOf pic w (fitRect w h s k)))
 
 -- "First line: width, height, grid across, grid down, bins, Min, Max, L.", then the lines of the four tiles
-unfoldable pub fitText : ℕ → ℕ → ℕ → List ℕ → List ℕ
+unfoldable pub fitText : (w h maxval : ℕ) (pic : List ℕ) → List ℕ
 fitText w h maxval pic =
-    line (w ∷ h ∷ 2 ∷ 2 ∷ 4 ∷ 0 ∷ maxval ∷ limitOf two (fitPixels w h (settingsOf maxval)) 4 ∷ [])
+    line (w ∷ h ∷ 2 ∷ 2 ∷ 4 ∷ 0 ∷ maxval ∷ limitOf two (fitPixels w h (listingSettings maxval)) 4 ∷ [])
     ++ (fitLine w h maxval pic 0 ++ (fitLine w h maxval pic 1 ++ (fitLine w h maxval pic 2 ++ fitLine w h maxval pic 3)))
 
 -- of a film that was read: 26, then prepare's refusals, then the listing
-abbrev pub fitPictureText : ℕ → ℕ → ℕ → List ℕ → List ℕ
+abbrev pub fitPictureText : (w h maxval : ℕ) (pic : List ℕ) → List ℕ
 fitPictureText w h maxval pic =
     cond (noneAbove maxval pic)
-    (unless (first (fitPrepareRows w h pic (settingsOf maxval) 16 4 8)) refusedText (fitText w h maxval pic))
+    (unless (first (fitPrepareRows w h pic (listingSettings maxval) 16 4 8)) refusedText (fitText w h maxval pic))
     (refusedText 26)
 
 -- of a file that read accepts its film's text, else read's own refusal

@@ -16,10 +16,10 @@ use Rattle.prepare.specs.declared.Prepared.{Prepared}
 use Rattle.prepare.specs.declared.Made.the-variants as Made
 use Rattle.prepare.specs.declared.Enhanced.{Enhanced}
 use Rattle.prepare.specs.declared.Enhanced.the-variants as Enhanced
-use Rattle.prepare.specs.Prepare.{preparedSays, enhancedSays, Ended, Over, ending, overing}
+use Rattle.prepare.specs.Prepare.{preparedSays, enhancedSays, PrepareOut, EnhanceOut, prepareLeaves, enhanceLeaves}
 use Rattle.draw.specs.declared.Drawn.{Drawn}
 use Rattle.draw.specs.declared.Drawn.the-variants as Drawn
-use Rattle.draw.specs.Draw.{drawnSays, Shows, showing}
+use Rattle.draw.specs.Draw.{drawnSays, DrawOut, drawLeaves}
 use Rattle.header.specs.declared.Head.{Head}
 use Rattle.header.specs.declared.Head.the-variants as Head
 use Rattle.pgm.specs.declared.Sizes.{Sizes}
@@ -29,11 +29,11 @@ use Rattle.pgm_greys.specs.declared.Turned.the-variants as Turned
 use Rattle.pgm_write.specs.declared.Written.{Written}
 use Rattle.pgm_write.specs.declared.Written.the-variants as Written
 use Rattle.pgm.specs.Pgm.{readOf, sizesOf, rasterOf, sizesSays}
-use Rattle.pgm_greys.specs.Greys.{turnedSays, Greyed, greyedAs}
-use Rattle.pgm_write.specs.Write.{writtenSays, Wrote, wroteAs}
+use Rattle.pgm_greys.specs.Greys.{turnedSays, GreysOut, greysLeave}
+use Rattle.pgm_write.specs.Write.{writtenSays, WriteOut, writeLeaves}
 use Rattle.pgm.proofs.Tables.{read-within}
 use Rattle.flat.specs.Flat.{returned, clipFrom, clipNumber, clipFactor, editionFrom, editionNumber, recordNumbers, Axes, axesAfter, recordFrom}
-use Rattle.flat.specs.Films.{Foot, footAfter, Cells, celled, cellsAfter, preparedAs, flatPrepared, enhancedAs, flatEnhanced, drawnAs, flatDrawn}
+use Rattle.flat.specs.Films.{Foot, footAfter, Cells, cellsFrom, cellsAfter, preparedAs, flatPrepared, enhancedAs, flatEnhanced, drawnAs, flatDrawn}
 use Rattle.flat.specs.Files.{answered, flatSizes, flatRaster, flatGreys, writtenAs, flatWritten}
 
 -- a number that is not 0 carries the factor
@@ -51,7 +51,7 @@ edition-some (suc n) h = refl
 -- prepare's answer handed out: an accepted film's record and footer stand in their cells
 pub prepared-done : (p : Prepared) (old : Cells) {f : Footer} {ns : List ℕ} {x : Float} {a : Axes} {y : Foot}
     → p .answer ≡ Made.Done f → ns ≡ recordNumbers (p .kept) → x ≡ clipFactor (p .kept .settings .clip) → a ≡ axesAfter (p .kept) → y ≡ footAfter f
-    → (0 ≡ returned (preparedSays p)) × (celled ns x a y ≡ cellsAfter (preparedSays p) old)
+    → (0 ≡ returned (preparedSays p)) × (cellsFrom ns x a y ≡ cellsAfter (preparedSays p) old)
 unfolding preparedSays
 prepared-done p old q n x a y = rw (q, n, x, a, y) (refl, refl)
 
@@ -62,26 +62,26 @@ unfolding preparedSays
 prepared-refused p old q = rw q (refl, refl)
 
 -- so what prepare leaves and what was handed out are what the call for C leaves
-pub prepared-handed : {p : Prepared} {m t list : List ℕ} (e : Ended) (old : Cells) {n : ℕ} {cells : Cells} → ending p m t list ≡ e
+pub prepared-handed : {p : Prepared} {m t list : List ℕ} (e : PrepareOut) (old : Cells) {n : ℕ} {cells : Cells} → prepareLeaves p m t list ≡ e
     → (n ≡ returned (preparedSays p)) × (cells ≡ cellsAfter (preparedSays p) old) → preparedAs n m t list cells ≡ flatPrepared e old
 unfolding flatPrepared
 prepared-handed e old q h = rw (← q, h .0, h .1) refl
 
-pub enhanced-done : {a : Enhanced} {pic m t : List ℕ} (o : Over) (foot : Foot) {f : Footer} {y : Foot}
-    → overing a pic m t ≡ o → a ≡ Enhanced.Done f → y ≡ footAfter f → enhancedAs 0 pic m t y ≡ flatEnhanced o foot
+pub enhanced-done : {a : Enhanced} {pic m t : List ℕ} (o : EnhanceOut) (foot : Foot) {f : Footer} {y : Foot}
+    → enhanceLeaves a pic m t ≡ o → a ≡ Enhanced.Done f → y ≡ footAfter f → enhancedAs 0 pic m t y ≡ flatEnhanced o foot
 unfolding flatEnhanced enhancedSays
 enhanced-done o foot p q y = rw (← p, q, y) refl
 
-pub enhanced-refused : {a : Enhanced} {pic m t : List ℕ} (o : Over) (foot : Foot) {n : ℕ}
-    → overing a pic m t ≡ o → a ≡ Enhanced.Refused n → enhancedAs n pic m t foot ≡ flatEnhanced o foot
+pub enhanced-refused : {a : Enhanced} {pic m t : List ℕ} (o : EnhanceOut) (foot : Foot) {n : ℕ}
+    → enhanceLeaves a pic m t ≡ o → a ≡ Enhanced.Refused n → enhancedAs n pic m t foot ≡ flatEnhanced o foot
 unfolding flatEnhanced enhancedSays
 enhanced-refused o foot p q = rw (← p, q) refl
 
-pub drawn-done : {a : Drawn} {out : List ℕ} (s : Shows) → showing a out ≡ s → a ≡ Drawn.Done → drawnAs 0 out ≡ flatDrawn s
+pub drawn-done : {a : Drawn} {out : List ℕ} (s : DrawOut) → drawLeaves a out ≡ s → a ≡ Drawn.Done → drawnAs 0 out ≡ flatDrawn s
 unfolding flatDrawn drawnSays
 drawn-done s p q = rw (← p, q) refl
 
-pub drawn-refused : {a : Drawn} {out : List ℕ} (s : Shows) {n : ℕ} → showing a out ≡ s → a ≡ Drawn.Refused n → drawnAs n out ≡ flatDrawn s
+pub drawn-refused : {a : Drawn} {out : List ℕ} (s : DrawOut) {n : ℕ} → drawLeaves a out ≡ s → a ≡ Drawn.Refused n → drawnAs n out ≡ flatDrawn s
 unfolding flatDrawn drawnSays
 drawn-refused s p q = rw (← p, q) refl
 
@@ -117,19 +117,19 @@ unfolding flatRaster
 raster-refused (Head.Found x y z at) size old {a} {n} p q = let v : _≡_ {A = ℕ} 0 1 = cc in absurd (omega arith)
 raster-refused (Head.Refused k) size old p q = cc
 
-pub greys-done : {a : Turned} {t : List ℕ} (g : Greyed) → greyedAs a t ≡ g → a ≡ Turned.Done → answered 0 t ≡ flatGreys g
+pub greys-done : {a : Turned} {t : List ℕ} (g : GreysOut) → greysLeave a t ≡ g → a ≡ Turned.Done → answered 0 t ≡ flatGreys g
 unfolding flatGreys turnedSays
 greys-done g p q = rw (← p, q) refl
 
-pub greys-refused : {a : Turned} {t : List ℕ} (g : Greyed) {n : ℕ} → greyedAs a t ≡ g → a ≡ Turned.Refused n → answered n t ≡ flatGreys g
+pub greys-refused : {a : Turned} {t : List ℕ} (g : GreysOut) {n : ℕ} → greysLeave a t ≡ g → a ≡ Turned.Refused n → answered n t ≡ flatGreys g
 unfolding flatGreys turnedSays
 greys-refused g p q = rw (← p, q) refl
 
-pub written-bytes : {a : Written} {out : List ℕ} (w : Wrote) (old : ℕ) {n : ℕ} → wroteAs a out ≡ w → a ≡ Written.Bytes n → writtenAs 0 out n ≡ flatWritten w old
+pub written-bytes : {a : Written} {out : List ℕ} (w : WriteOut) (old : ℕ) {n : ℕ} → writeLeaves a out ≡ w → a ≡ Written.Bytes n → writtenAs 0 out n ≡ flatWritten w old
 unfolding flatWritten writtenSays
 written-bytes w old p q = rw (← p, q) refl
 
-pub written-refused : {a : Written} {out : List ℕ} (w : Wrote) (old : ℕ) {n : ℕ} → wroteAs a out ≡ w → a ≡ Written.Refused n → writtenAs n out old ≡ flatWritten w old
+pub written-refused : {a : Written} {out : List ℕ} (w : WriteOut) (old : ℕ) {n : ℕ} → writeLeaves a out ≡ w → a ≡ Written.Refused n → writtenAs n out old ≡ flatWritten w old
 unfolding flatWritten writtenSays
 written-refused w old p q = rw (← p, q) refl
 

@@ -6,8 +6,8 @@ use mathlib.Core.List.{List, [], _∷_}
 use Rattle.refuse.specs.Refuse.{Says, accepted, refused}
 use Rattle.header.specs.declared.Head.{Head}
 use Rattle.header.specs.declared.Head.the-variants as Head
-use Rattle.pgm_greys.specs.Greys.{turnedSays, Greyed}
-use Rattle.pgm_write.specs.Write.{writtenSays, Wrote}
+use Rattle.pgm_greys.specs.Greys.{turnedSays, GreysOut}
+use Rattle.pgm_write.specs.Write.{writtenSays, WriteOut}
 use Rattle.flat.specs.Flat.{returned}
 
 -- "one answer can't hold numbers and a part": the number returned, and the numbers or the target that were lent for the rest
@@ -30,7 +30,7 @@ flatRaster (Head.Found w h m at) size old = answered 0 (at ∷ (size - at) ∷ [
 flatRaster (Head.Refused n) size old = answered n old
 
 -- "a second call turns it into greys": from what that call leaves
-unfoldable pub flatGreys : Greyed → Answer
+unfoldable pub flatGreys : GreysOut → Answer
 flatGreys g = answered (returned (turnedSays (g .answer))) (g .target)
 
 -- "returns the byte count": what tz_write and tz_listing leave, the count in a cell of its own
@@ -49,5 +49,5 @@ writtenBy (accepted k) out count = writtenAs 0 out k
 writtenBy (refused n) out count = writtenAs n out count
 
 -- from what write leaves, and what the count's cell held before
-unfoldable pub flatWritten : Wrote → ℕ → FlatWritten
+unfoldable pub flatWritten : WriteOut → ℕ → FlatWritten
 flatWritten w count = writtenBy (writtenSays (w .answer)) (w .out) count

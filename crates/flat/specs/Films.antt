@@ -7,8 +7,8 @@ use lib.Ieee.{Float}
 use Rattle.refuse.specs.Refuse.{Says, accepted, refused}
 use Rattle.settings.specs.declared.MapRecord.{MapRecord}
 use Rattle.settings.specs.declared.Footer.{Footer}
-use Rattle.prepare.specs.Prepare.{preparedSays, enhancedSays, Ended, Over}
-use Rattle.draw.specs.Draw.{drawnSays, Shows}
+use Rattle.prepare.specs.Prepare.{preparedSays, enhancedSays, PrepareOut, EnhanceOut}
+use Rattle.draw.specs.Draw.{drawnSays, DrawOut}
 use Rattle.flat.specs.Flat.{returned, recordNumbers, clipFactor, Axes, axesAfter}
 
 -- "a footer record with L, the factor asked as f32 and the factor used as f64": the three cells that it is handed out in
@@ -18,12 +18,12 @@ pub record Foot : Type 0 where
   pub used : Float
 
 -- three cells as one
-abbrev pub footed : ℕ → Float → Float → Foot
-footed l a u = record { limit = l; asked = a; used = u }
+abbrev pub footFrom : ℕ → Float → Float → Foot
+footFrom l a u = record { limit = l; asked = a; used = u }
 
 -- the cells that hold a footer
 abbrev pub footAfter : Footer → Foot
-footAfter f = footed (f .limit) (f .asked) (f .used)
+footAfter f = footFrom (f .limit) (f .asked) (f .used)
 
 -- ---- tz_prepare
 
@@ -35,12 +35,12 @@ pub record Cells : Type 0 where
   pub foot : Foot
 
 -- the cells as one
-abbrev pub celled : List ℕ → Float → Axes → Foot → Cells
-celled numbers factor axes foot = record { numbers = numbers; factor = factor; axes = axes; foot = foot }
+abbrev pub cellsFrom : List ℕ → Float → Axes → Foot → Cells
+cellsFrom numbers factor axes foot = record { numbers = numbers; factor = factor; axes = axes; foot = foot }
 
 -- an accepted film's record and footer in their cells; "after a refusal all lent memory holds what it held before"
 abbrev pub cellsAfter : Says (MapRecord × Footer) → Cells → Cells
-cellsAfter (accepted v) cells = celled (recordNumbers (v .0)) (clipFactor (v .0 .settings .clip)) (axesAfter (v .0)) (footAfter (v .1))
+cellsAfter (accepted v) cells = cellsFrom (recordNumbers (v .0)) (clipFactor (v .0 .settings .clip)) (axesAfter (v .0)) (footAfter (v .1))
 cellsAfter (refused n) cells = cells
 
 -- what tz_prepare leaves: its number, the map buffer, the scratch, the list and the cells
@@ -52,11 +52,11 @@ pub record FlatPrepared : Type 0 where
   pub cells : Cells
 
 -- a number, three buffers and the cells as one
-abbrev pub preparedAs : ℕ → List ℕ → List ℕ → List ℕ → Cells → FlatPrepared
+abbrev pub preparedAs : (n : ℕ) (m t list : List ℕ) (cells : Cells) → FlatPrepared
 preparedAs n m t list cells = record { number = n; map = m; scratch = t; list = list; cells = cells }
 
 -- from what prepare leaves, and what the cells held before
-unfoldable pub flatPrepared : Ended → Cells → FlatPrepared
+unfoldable pub flatPrepared : PrepareOut → Cells → FlatPrepared
 flatPrepared e cells = preparedAs (returned (preparedSays (e .answer))) (e .map) (e .scratch) (e .list) (cellsAfter (preparedSays (e .answer)) cells)
 
 -- ---- tz_enhance
@@ -70,7 +70,7 @@ pub record FlatEnhanced : Type 0 where
   pub foot : Foot
 
 -- a number and the cells as one
-abbrev pub enhancedAs : ℕ → List ℕ → List ℕ → List ℕ → Foot → FlatEnhanced
+abbrev pub enhancedAs : (n : ℕ) (pic m t : List ℕ) (foot : Foot) → FlatEnhanced
 enhancedAs n pic m t foot = record { number = n; picture = pic; map = m; scratch = t; foot = foot }
 
 -- an accepted film's footer in its cells; a refusal leaves what stood there
@@ -79,7 +79,7 @@ enhancedBy (accepted f) pic m t foot = enhancedAs 0 pic m t (footAfter f)
 enhancedBy (refused n) pic m t foot = enhancedAs n pic m t foot
 
 -- from what enhance leaves, and what the footer's cells held before
-unfoldable pub flatEnhanced : Over → Foot → FlatEnhanced
+unfoldable pub flatEnhanced : EnhanceOut → Foot → FlatEnhanced
 flatEnhanced o foot = enhancedBy (enhancedSays (o .answer)) (o .picture) (o .map) (o .scratch) foot
 
 -- ---- tz_draw
@@ -94,5 +94,5 @@ abbrev pub drawnAs : ℕ → List ℕ → FlatDrawn
 drawnAs n out = record { number = n; out = out }
 
 -- from what draw leaves
-unfoldable pub flatDrawn : Shows → FlatDrawn
+unfoldable pub flatDrawn : DrawOut → FlatDrawn
 flatDrawn s = drawnAs (returned (drawnSays (s .answer))) (s .out)

@@ -48,7 +48,7 @@ editionNumber Ours = 0
 editionNumber Of1986 = 1
 
 -- "It sits inside the settings record": grid across and down, bins, Min, Max, the clip setting and the edition, from eight arguments
-abbrev pub settingsFrom : ℕ → ℕ → ℕ → ℕ → ℕ → ℕ → Float → ℕ → Settings
+abbrev pub settingsFrom : (across down bins min max clip : ℕ) (factor : Float) (edition : ℕ) → Settings
 settingsFrom across down bins min max clip factor edition =
     record { across = across; down = down; bins = bins; min = min; max = max; clip = clipFrom clip factor; edition = editionFrom edition }
 
@@ -75,18 +75,18 @@ pub record Axes : Type 0 where
   pub rowCentres : List ℕ
 
 -- four arrays as one
-abbrev pub axed : List ℕ → List ℕ → List ℕ → List ℕ → Axes
-axed ce cc re rc = record { columnEdges = ce; columnCentres = cc; rowEdges = re; rowCentres = rc }
+abbrev pub axesFrom : (ce cc re rc : List ℕ) → Axes
+axesFrom ce cc re rc = record { columnEdges = ce; columnCentres = cc; rowEdges = re; rowCentres = rc }
 
--- the arrays that hold the columns' and the rows'
+-- the arrays that hold the edges and centres of the columns and of the rows
 abbrev pub axesOf : Axis → Axis → Axes
-axesOf columns rows = axed (columns .edges) (columns .centres) (rows .edges) (rows .centres)
+axesOf columns rows = axesFrom (columns .edges) (columns .centres) (rows .edges) (rows .centres)
 
--- those that hold a record's
+-- the arrays that hold the edges and centres of a record
 abbrev pub axesAfter : MapRecord → Axes
 axesAfter r = axesOf (r .columns) (r .rows)
 
--- an axis from two of them
+-- an axis from its edges and its centres
 abbrev pub axisFrom : List ℕ → List ℕ → Axis
 axisFrom edges centres = record { edges = edges; centres = centres }
 
@@ -103,5 +103,5 @@ recordFrom l factor axes =
     }
 
 -- draw's window, from its four numbers
-abbrev pub windowFrom : ℕ → ℕ → ℕ → ℕ → Window
+abbrev pub windowFrom : (left top width height : ℕ) → Window
 windowFrom left top width height = record { left = left; top = top; width = width; height = height }

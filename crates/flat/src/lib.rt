@@ -1,8 +1,8 @@
 // Settings, records and footers as the calls for C pass them: numbers and slices to records and back, once.
 ghost use mathlib.Core.Path.{_≡_};
 ghost use Rattle.prepare.specs.Prepare.{preparedSays};
-ghost use Rattle.flat.specs.Flat.{returned, clipFrom, clipNumber, clipFactor, editionFrom, editionNumber, settingsFrom, recordNumbers, axed, axesOf, axesAfter, axisFrom, recordFrom};
-ghost use Rattle.flat.specs.Films.{footed, footAfter, celled, cellsAfter};
+ghost use Rattle.flat.specs.Flat.{returned, clipFrom, clipNumber, clipFactor, editionFrom, editionNumber, settingsFrom, recordNumbers, axesFrom, axesOf, axesAfter, axisFrom, recordFrom};
+ghost use Rattle.flat.specs.Films.{footFrom, footAfter, cellsFrom, cellsAfter};
 use grid::Axis;
 use limit::Clip;
 use limit::Edition;
@@ -113,7 +113,7 @@ fn put_record(
     row_centres: &mut [u32; 16],
     r: MapRecord,
 )
-    ensures { λ _. ⌜ (now (numbers .exit) ≡ recordNumbers r) × (now (kept .exit) ≡ clipFactor (r .settings .clip)) × (axed (now («column_edges» .exit)) (now («column_centres» .exit)) (now («row_edges» .exit)) (now («row_centres» .exit)) ≡ axesAfter r) ⌝ }
+    ensures { λ _. ⌜ (now (numbers .exit) ≡ recordNumbers r) × (now (kept .exit) ≡ clipFactor (r .settings .clip)) × (axesFrom (now («column_edges» .exit)) (now («column_centres» .exit)) (now («row_edges» .exit)) (now («row_centres» .exit)) ≡ axesAfter r) ⌝ }
 {
     let s = r.settings;
     let clip = s.clip;
@@ -162,7 +162,7 @@ pub fn record_from(numbers: &[u32; 10], factor: f32, columns: Axis, rows: Axis) 
 
 // A footer goes out in three cells.
 pub fn put_footer(limit: &mut u32, asked: &mut f32, used: &mut f64, foot: Footer)
-    ensures { λ _. ⌜ footed (now (limit .exit)) (now (asked .exit)) (now (used .exit)) ≡ footAfter foot ⌝ }
+    ensures { λ _. ⌜ footFrom (now (limit .exit)) (now (asked .exit)) (now (used .exit)) ≡ footAfter foot ⌝ }
 {
     *limit = foot.limit;
     *asked = foot.asked;
@@ -182,7 +182,7 @@ pub fn put_prepared(
     row_centres: &mut [u32; 16],
     p: Prepared,
 ) -> u32
-    ensures { λ r. ⌜ (r ≡ returned (preparedSays p)) × (celled (now (numbers .exit)) (now (kept .exit)) (axed (now («column_edges» .exit)) (now («column_centres» .exit)) (now («row_edges» .exit)) (now («row_centres» .exit))) (footed (now (limit .exit)) (now (asked .exit)) (now (used .exit))) ≡ cellsAfter (preparedSays p) (celled (now (numbers .entry)) (now (kept .entry)) (axed (now («column_edges» .entry)) (now («column_centres» .entry)) (now («row_edges» .entry)) (now («row_centres» .entry))) (footed (now (limit .entry)) (now (asked .entry)) (now (used .entry))))) ⌝ }
+    ensures { λ r. ⌜ (r ≡ returned (preparedSays p)) × (cellsFrom (now (numbers .exit)) (now (kept .exit)) (axesFrom (now («column_edges» .exit)) (now («column_centres» .exit)) (now («row_edges» .exit)) (now («row_centres» .exit))) (footFrom (now (limit .exit)) (now (asked .exit)) (now (used .exit))) ≡ cellsAfter (preparedSays p) (cellsFrom (now (numbers .entry)) (now (kept .entry)) (axesFrom (now («column_edges» .entry)) (now («column_centres» .entry)) (now («row_edges» .entry)) (now («row_centres» .entry))) (footFrom (now (limit .entry)) (now (asked .entry)) (now (used .entry))))) ⌝ }
 {
     let answer = p.answer;
     match answer {

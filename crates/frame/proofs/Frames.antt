@@ -19,7 +19,7 @@ use Rattle.tally.specs.Tally.{greysOf}
 use Rattle.tally.proofs.Greys.{rowOf, greys-rows, length-row, row-room, part-row}
 use Rattle.settings.specs.declared.Window.{Window}
 use Rattle.render.specs.Render.{rectOf}
-use Rattle.frame.specs.Frame.{Framed, CopyAsks}
+use Rattle.frame.specs.Frame.{Framed, CopyWindowAsks}
 
 -- a window inside the film lies inside the film's picture
 pub framed : {w h size : ℕ} {win : Window} → 0 < win .width → win .left + win .width ≤ w → win .top + win .height ≤ h → size ≡ w * h → Framed size w win
@@ -66,7 +66,7 @@ lines-not p pic stride win {y} {vs} h k e =
 
 -- ---- the rows, copied one by one
 
-module _ {pic : List ℕ} {stride : ℕ} {win : Window} {out₀ : List ℕ} (asks : CopyAsks pic stride win out₀) where
+module _ {pic : List ℕ} {stride : ℕ} {win : Window} {out₀ : List ℕ} (asks : CopyWindowAsks pic stride win out₀) where
   -- where a row goes lies inside the output
   pub place-room : {y : ℕ} → y < win .height → y * win .width + win .width ≤ length out₀
   place-room l = block-fits (win .width) (win .height) l (omega (arith, asks .size))

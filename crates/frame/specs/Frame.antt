@@ -14,6 +14,6 @@ pub record Framed (size stride : ℕ) (win : Window) : Type 0 where
   pub down : (win .top + win .height) * stride ≤ size
 
 -- what the copying of a window asks: it lies inside the picture, and the output has its area
-pub record CopyAsks (pic : List ℕ) (stride : ℕ) (win : Window) (out : List ℕ) : Type 0 where
+pub record CopyWindowAsks (pic : List ℕ) (stride : ℕ) (win : Window) (out : List ℕ) : Type 0 where
   pub framed : Framed (length pic) stride win
   pub size : length out ≡ win .height * win .width

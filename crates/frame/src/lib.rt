@@ -5,7 +5,7 @@ ghost use Rattle.lists.specs.Lists.{all};
 ghost use Rattle.scan.specs.Scan.{within};
 ghost use Rattle.tally.specs.Tally.{greysOf};
 ghost use Rattle.render.specs.Render.{rectOf};
-ghost use Rattle.frame.specs.Frame.{Framed, CopyAsks};
+ghost use Rattle.frame.specs.Frame.{Framed, CopyWindowAsks};
 use settings::Window;
 
 // Whether all pixels of the window lie in Min to Max.
@@ -27,7 +27,7 @@ pub fn window_within(picture: &[u16], stride: usize, win: Window, min: u32, max:
 
 // Copies the window's pixels to the output, row by row.
 pub fn copy_window(picture: &[u16], stride: usize, win: Window, out: &mut [u16])
-    requires { ⌜ CopyAsks (now picture) stride win (now out) ⌝ }
+    requires { ⌜ CopyWindowAsks (now picture) stride win (now out) ⌝ }
     ensures { λ _. ⌜ now (out .exit) ≡ greysOf (now (picture .entry)) stride (rectOf win) ⌝ }
 {
     let wide = win.width as usize;

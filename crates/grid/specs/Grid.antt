@@ -8,32 +8,32 @@ use Rattle.lists.specs.Lists.{tab, same}
 use Rattle.grid.specs.declared.Axis.{Axis}
 
 -- "Tile column i shall run from floor(i x width / grid) up to floor((i + 1) x width / grid), rows likewise": edge i
-unfoldable pub edgeOf : ℕ → ℕ → ℕ → ℕ
+unfoldable pub edgeOf : (side grid i : ℕ) → ℕ
 edgeOf side grid i = i * side / grid
 
 -- so tile i is this wide (or high)
-unfoldable pub sizeOf : ℕ → ℕ → ℕ → ℕ
+unfoldable pub sizeOf : (side grid i : ℕ) → ℕ
 sizeOf side grid i = edgeOf side grid (i + 1) - edgeOf side grid i
 
 -- "A tile's centre is floor((its first column + the column after its last) / 2)"
-unfoldable pub centreOf : ℕ → ℕ → ℕ → ℕ
+unfoldable pub centreOf : (side grid i : ℕ) → ℕ
 centreOf side grid i = (edgeOf side grid i + edgeOf side grid (i + 1)) / 2
 
 -- ---- what a map record keeps of them
 
 -- edge i of 17, which are one more than the tiles can be: 0 behind the last
-unfoldable pub edgeAt : ℕ → ℕ → ℕ → ℕ
+unfoldable pub edgeAt : (side grid i : ℕ) → ℕ
 edgeAt side grid i = cond (leb i grid) (edgeOf side grid i) 0
 
 -- centre i of 16: 0 behind the last
-unfoldable pub centreAt : ℕ → ℕ → ℕ → ℕ
+unfoldable pub centreAt : (side grid i : ℕ) → ℕ
 centreAt side grid i = cond (ltb i grid) (centreOf side grid i) 0
 
 -- "The map record keeps the edges and centres"
 unfoldable pub axisOf : ℕ → ℕ → Axis
 axisOf side grid = record { edges = tab 17 (edgeAt side grid); centres = tab 16 (centreAt side grid) }
 
--- those of no film
+-- the edges and centres beside a refusal, which has no film: all 0
 unfoldable pub noAxis : Axis
 noAxis = record { edges = tab 17 (λ i. 0); centres = tab 16 (λ i. 0) }
 

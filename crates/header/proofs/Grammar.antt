@@ -16,7 +16,7 @@ use Rattle.lists.specs.Lists.{all}
 use Rattle.lists.proofs.Tabs.{and-left, and-right, and-both}
 use Rattle.header.specs.declared.Number.the-variants.{Read, Misfit}
 use Rattle.header.specs.declared.Head.the-variants.{Found, Refused}
-use Rattle.header.specs.Header.{isWhite, isDigit, misfitOf, whiteOf, digitsOf, firstDigit, numberOf, behind, endOf, fieldsOf, headerOf}
+use Rattle.header.specs.Header.{isWhite, isDigit, misfitOf, whiteOf, digitsOf, firstDigit, numberOf, thenHead, headEnd, headFields, headerOf}
 use Rattle.header.specs.Grammar.{valueOf, Numeral, Header}
 use Rattle.header.proofs.Reading.{white-within, digit-within, digit-not-white, white-head, white-cons, white-step, digit-nil, digit-cons, digit-other, digit-step, first-digits, number-behind, end-found, behind-read, behind-found, header-magic, magic-within}
 
@@ -268,8 +268,8 @@ record Ends (s : List ℕ) (w h m i w′ h′ m′ at : ℕ) : Type 0 where
   place : i + 1 ≡ at
   last : isWhite (getD s i 0) ≡ true
 
-end-tells : (s : List ℕ) (w h m i : ℕ) {w′ h′ m′ at : ℕ} → endOf s w h m i ≡ Found w′ h′ m′ at → Ends s w h m i w′ h′ m′ at
-unfolding endOf
+end-tells : (s : List ℕ) (w h m i : ℕ) {w′ h′ m′ at : ℕ} → headEnd s w h m i ≡ Found w′ h′ m′ at → Ends s w h m i w′ h′ m′ at
+unfolding headEnd
 end-tells s w h m i {w′} {h′} {m′} {at} q = go (isWhite (getD s i 0)) refl q
   where
     go : (t : Bool) → isWhite (getD s i 0) ≡ t → cond t (Found w h m (i + 1)) (Refused (misfitOf (getD s i 0))) ≡ Found w′ h′ m′ at
@@ -286,7 +286,7 @@ magic-bytes s h =
 
 -- a header that is found is one of the grammar, and its raster starts within the bytes
 pub header-sound : (s : List ℕ) {w h m at : ℕ} → headerOf s ≡ Found w h m at → (at ≤ length s) × Header s w h m (drop at s)
-unfolding headerOf fieldsOf
+unfolding headerOf headFields
 header-sound s {w} {h} {m} {at} q = go (eqb (getD s 0 0) 80 && eqb (getD s 1 0) 53) refl q
   where
     joined : {a b c i j k : ℕ} → s ≡ (80 ∷ 53 ∷ []) ++ drop 2 s → NumberAt s 2 a i → NumberAt s i b j → NumberAt s j c k → Ends s a b c k w h m at
@@ -316,7 +316,7 @@ header-sound s {w} {h} {m} {at} q = go (eqb (getD s 0 0) 80 && eqb (getD s 1 0) 
 
     go : (t : Bool) → (eqb (getD s 0 0) 80 && eqb (getD s 1 0) 53) ≡ t
         → cond t
-        (behind (numberOf s 2) (λ w at. behind (numberOf s at) (λ h at. behind (numberOf s at) (λ m at. endOf s w h m at))))
+        (thenHead (numberOf s 2) (λ w at. thenHead (numberOf s at) (λ h at. thenHead (numberOf s at) (λ m at. headEnd s w h m at))))
         (Refused 20)
         ≡ Found w h m at
         → (at ≤ length s) × Header s w h m (drop at s)

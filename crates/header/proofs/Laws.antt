@@ -16,7 +16,7 @@ use Rattle.lists.proofs.Tabs.{and-both}
 use Rattle.lists.proofs.Alls.{all-one, all-both}
 use Rattle.header.specs.declared.Number.the-variants.{Misfit}
 use Rattle.header.specs.declared.Head.the-variants.{Found, Refused}
-use Rattle.header.specs.Header.{isWhite, isDigit, misfitOf, whiteOf, digitsOf, firstDigit, numberOf, behind, endOf, fieldsOf, headerOf, decimalOf, headerBytes}
+use Rattle.header.specs.Header.{isWhite, isDigit, misfitOf, whiteOf, digitsOf, firstDigit, numberOf, thenHead, headEnd, headFields, headerOf, decimalOf, headerBytes}
 use Rattle.header.specs.Grammar.{valueOf, Numeral, Header}
 use Rattle.header.proofs.Reading.{digits-never, behind-refused, tens}
 use Rattle.header.proofs.Writing.{decimal-one, decimal-more, count-most, count-least, length-header}
@@ -58,8 +58,8 @@ number-refused s i {n} q = go (isWhite (getD s i 0)) q
     go true q = first-refused s (whiteOf (drop i s) i) q
     go false q = misfit-same (getD s i 0) q
 
-end-refused : (s : List ℕ) (w h m i : ℕ) {n : ℕ} → endOf s w h m i ≡ Refused n → Number20 n
-unfolding endOf
+end-refused : (s : List ℕ) (w h m i : ℕ) {n : ℕ} → headEnd s w h m i ≡ Refused n → Number20 n
+unfolding headEnd
 end-refused s w h m i {n} q = go (isWhite (getD s i 0)) q
   where
     go : (t : Bool) → cond t (Found w h m (i + 1)) (Refused (misfitOf (getD s i 0))) ≡ Refused n → Number20 n
@@ -70,12 +70,12 @@ end-refused s w h m i {n} q = go (isWhite (getD s i 0)) q
 
 -- "20" and "21" are the only refusals of a header
 pub refused-number : (s : List ℕ) {n : ℕ} → headerOf s ≡ Refused n → (n ≡ 20) ⊎ (n ≡ 21)
-unfolding headerOf fieldsOf
+unfolding headerOf headFields
 refused-number s {n} q = go (eqb (getD s 0 0) 80 && eqb (getD s 1 0) 53) q
   where
     go : (t : Bool)
         → cond t
-        (behind (numberOf s 2) (λ w at. behind (numberOf s at) (λ h at. behind (numberOf s at) (λ m at. endOf s w h m at))))
+        (thenHead (numberOf s 2) (λ w at. thenHead (numberOf s at) (λ h at. thenHead (numberOf s at) (λ m at. headEnd s w h m at))))
         (Refused 20)
         ≡ Refused n
         → (n ≡ 20) ⊎ (n ≡ 21)

@@ -18,7 +18,7 @@ use Rattle.header.specs.declared.Number.{Number}
 use Rattle.header.specs.declared.Number.the-variants.{Read, Misfit}
 use Rattle.header.specs.declared.Head.{Head}
 use Rattle.header.specs.declared.Head.the-variants.{Found, Refused}
-use Rattle.header.specs.Header.{isWhite, isDigit, misfitOf, whiteOf, digitsOf, firstDigit, numberOf, behind, endOf, fieldsOf, headerOf}
+use Rattle.header.specs.Header.{isWhite, isDigit, misfitOf, whiteOf, digitsOf, firstDigit, numberOf, thenHead, headEnd, headFields, headerOf}
 
 -- ---- a byte that is something lies within the bytes
 
@@ -248,32 +248,32 @@ number-within s at v e l h = go (isWhite (getD s at 0)) h
 -- ---- the header
 
 -- white space ends the header
-pub end-found : (s : List ℕ) (w h m at : ℕ) → isWhite (getD s at 0) ≡ true → endOf s w h m at ≡ Found w h m (at + 1)
-unfolding endOf
+pub end-found : (s : List ℕ) (w h m at : ℕ) → isWhite (getD s at 0) ≡ true → headEnd s w h m at ≡ Found w h m (at + 1)
+unfolding headEnd
 end-found s w h m at q = rw q refl
 
 -- any other byte is a misfit
-pub end-misfit : (s : List ℕ) (w h m at : ℕ) → isWhite (getD s at 0) ≡ false → endOf s w h m at ≡ Refused (misfitOf (getD s at 0))
-unfolding endOf
+pub end-misfit : (s : List ℕ) (w h m at : ℕ) → isWhite (getD s at 0) ≡ false → headEnd s w h m at ≡ Refused (misfitOf (getD s at 0))
+unfolding headEnd
 end-misfit s w h m at q = rw q refl
 
 -- what stands behind a number that was read, and one that was not
-pub behind-read : {x : Number} {v e : ℕ} (k : ℕ → ℕ → Head) → x ≡ Read v e → behind x k ≡ k v e
-behind-read k q = ap (λ n. behind n k) q
+pub behind-read : {x : Number} {v e : ℕ} (k : ℕ → ℕ → Head) → x ≡ Read v e → thenHead x k ≡ k v e
+behind-read k q = ap (λ n. thenHead n k) q
 
 -- a misfit is the refusal
-pub behind-misfit : {x : Number} {n : ℕ} (k : ℕ → ℕ → Head) → x ≡ Misfit n → behind x k ≡ Refused n
-behind-misfit k q = ap (λ n. behind n k) q
+pub behind-misfit : {x : Number} {n : ℕ} (k : ℕ → ℕ → Head) → x ≡ Misfit n → thenHead x k ≡ Refused n
+behind-misfit k q = ap (λ n. thenHead n k) q
 
 -- what is found behind a number was found behind one that was read
 pub behind-found : (x : Number) (k : ℕ → ℕ → Head) {w h m at : ℕ} {P : Type 0}
-    → ((v e : ℕ) → x ≡ Read v e → k v e ≡ Found w h m at → P) → behind x k ≡ Found w h m at → P
+    → ((v e : ℕ) → x ≡ Read v e → k v e ≡ Found w h m at → P) → thenHead x k ≡ Found w h m at → P
 behind-found (Read v e) k f q = f v e refl q
 behind-found (Misfit n) k f q = absurd (let z : _≡_ {A = ℕ} 0 1 = cc in omega arith)
 
 -- what is refused behind a number is refused for the number, or behind one that was read
 pub behind-refused : (x : Number) (k : ℕ → ℕ → Head) {n : ℕ} {P : Type 0}
-    → (x ≡ Misfit n → P) → ((v e : ℕ) → x ≡ Read v e → k v e ≡ Refused n → P) → behind x k ≡ Refused n → P
+    → (x ≡ Misfit n → P) → ((v e : ℕ) → x ≡ Read v e → k v e ≡ Refused n → P) → thenHead x k ≡ Refused n → P
 behind-refused (Read v e) k f g q = g v e refl q
 behind-refused (Misfit l) k {n} f g q = let e : l ≡ n = cc in f (ap Misfit e)
 
@@ -289,22 +289,22 @@ header-second s p h = rw (eq-eqb (getD s 0 0) 80 p, ne-eqb (getD s 1 0) 53 h) re
 
 -- both are right
 pub header-magic : (s : List ℕ) → getD s 0 0 ≡ 80 → getD s 1 0 ≡ 53
-    → headerOf s ≡ behind (numberOf s 2) (λ w e. behind (numberOf s e) (λ h e. behind (numberOf s e) (λ m e. endOf s w h m e)))
-unfolding headerOf fieldsOf
+    → headerOf s ≡ thenHead (numberOf s 2) (λ w e. thenHead (numberOf s e) (λ h e. thenHead (numberOf s e) (λ m e. headEnd s w h m e)))
+unfolding headerOf headFields
 header-magic s p q = rw (eq-eqb (getD s 0 0) 80 p, eq-eqb (getD s 1 0) 53 q) refl
 
 -- then the numbers behind them decide
-pub header-fields : (s : List ℕ) → getD s 0 0 ≡ 80 → getD s 1 0 ≡ 53 → headerOf s ≡ fieldsOf s
+pub header-fields : (s : List ℕ) → getD s 0 0 ≡ 80 → getD s 1 0 ≡ 53 → headerOf s ≡ headFields s
 unfolding headerOf
 header-fields s p q = rw (eq-eqb (getD s 0 0) 80 p, eq-eqb (getD s 1 0) 53 q) refl
 
 -- a number that was read, or not, behind the first two bytes
-pub fields-read : (s : List ℕ) {w e : ℕ} → numberOf s 2 ≡ Read w e → fieldsOf s ≡ behind (numberOf s e) (λ h e. behind (numberOf s e) (λ m e. endOf s w h m e))
-unfolding fieldsOf
+pub fields-read : (s : List ℕ) {w e : ℕ} → numberOf s 2 ≡ Read w e → headFields s ≡ thenHead (numberOf s e) (λ h e. thenHead (numberOf s e) (λ m e. headEnd s w h m e))
+unfolding headFields
 fields-read s q = behind-read _ q
 
-pub fields-misfit : (s : List ℕ) {n : ℕ} → numberOf s 2 ≡ Misfit n → fieldsOf s ≡ Refused n
-unfolding fieldsOf
+pub fields-misfit : (s : List ℕ) {n : ℕ} → numberOf s 2 ≡ Misfit n → headFields s ≡ Refused n
+unfolding headFields
 fields-misfit s q = behind-misfit _ q
 
 -- ---- what stands behind the first two bytes decides alone
@@ -364,22 +364,22 @@ number-same s t at q =
     let start : ℕ = whiteOf (drop at t) at in
     rw (byte-same s t at q, q) (ap (λ x. cond (isWhite (getD t at 0)) x (Misfit (misfitOf (getD t at 0)))) (first-same s t start (behind-same s t at start (white-from (drop at t) at) q)))
 
-end-same : (s t : List ℕ) (w h m at : ℕ) → drop at s ≡ drop at t → endOf s w h m at ≡ endOf t w h m at
-unfolding endOf
+end-same : (s t : List ℕ) (w h m at : ℕ) → drop at s ≡ drop at t → headEnd s w h m at ≡ headEnd t w h m at
+unfolding headEnd
 end-same s t w h m at q = rw (byte-same s t at q) refl
 
 -- two headers that are read the same up to a number are read the same behind it
 then-same : (s t : List ℕ) (at : ℕ) (k l : ℕ → ℕ → Head) → drop at s ≡ drop at t → ((v e : ℕ) → drop e s ≡ drop e t → k v e ≡ l v e)
-    → behind (numberOf s at) k ≡ behind (numberOf t at) l
-then-same s t at k l q f = ap (λ x. behind x k) (number-same s t at q) ∙ go (numberOf t at) refl
+    → thenHead (numberOf s at) k ≡ thenHead (numberOf t at) l
+then-same s t at k l q f = ap (λ x. thenHead x k) (number-same s t at q) ∙ go (numberOf t at) refl
   where
-    go : (x : Number) → numberOf t at ≡ x → behind x k ≡ behind x l
+    go : (x : Number) → numberOf t at ≡ x → thenHead x k ≡ thenHead x l
     go (Read v e) h = f v e (behind-same s t at e (number-from t at v e h) q)
     go (Misfit n) h = refl
 
 -- so a plain file's numbers are read as those of the raw file with the same bytes behind its first two
-pub fields-same : (s t : List ℕ) → drop 2 s ≡ drop 2 t → fieldsOf s ≡ fieldsOf t
-unfolding fieldsOf
+pub fields-same : (s t : List ℕ) → drop 2 s ≡ drop 2 t → headFields s ≡ headFields t
+unfolding headFields
 fields-same s t q =
     then-same s t 2 _ _ q
     (λ w e p. then-same s t e _ _ p (λ h e p. then-same s t e _ _ p (λ m e p. end-same s t w h m e p)))

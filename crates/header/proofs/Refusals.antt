@@ -15,7 +15,7 @@ use Rattle.lists.proofs.Alls.{all-append}
 use Rattle.header.specs.declared.Number.the-variants.{Read, Misfit}
 use Rattle.header.specs.declared.Head.{Head}
 use Rattle.header.specs.declared.Head.the-variants.{Found, Refused}
-use Rattle.header.specs.Header.{isWhite, isDigit, misfitOf, whiteOf, digitsOf, firstDigit, numberOf, behind, endOf, fieldsOf, headerOf}
+use Rattle.header.specs.Header.{isWhite, isDigit, misfitOf, whiteOf, digitsOf, firstDigit, numberOf, thenHead, headEnd, headFields, headerOf}
 use Rattle.header.specs.Grammar.{valueOf, Numeral, Header, Hash}
 use Rattle.header.proofs.Reading.{test-within, first-misfit, number-behind, number-misfit, end-misfit, digits-never, behind-read, behind-misfit, behind-refused, header-magic}
 use Rattle.header.proofs.Grammar.{byte-at, drop-behind, drop-byte, all-first, numeral-white, number-reads, white-some, Run, NumberAt, number-sound, magic-bytes, white-run, white-not-digit, header-complete, header-sound}
@@ -117,8 +117,8 @@ number-stuck s i q = white (isWhite (getD s i 0)) refl q
     white true h q = digit (isDigit (getD s j 0)) (white-some s i h) q
     white false h q = at-white cc
 
-end-stuck : (s : List ℕ) (w h m i : ℕ) → endOf s w h m i ≡ Refused 21 → drop i s ≡ 35 ∷ drop (i + 1) s
-unfolding endOf
+end-stuck : (s : List ℕ) (w h m i : ℕ) → headEnd s w h m i ≡ Refused 21 → drop i s ≡ 35 ∷ drop (i + 1) s
+unfolding headEnd
 end-stuck s w h m i q = go (isWhite (getD s i 0)) q
   where
     go : (t : Bool) → cond t (Found w h m (i + 1)) (Refused (misfitOf (getD s i 0))) ≡ Refused 21 → drop i s ≡ 35 ∷ drop (i + 1) s
@@ -179,12 +179,12 @@ module _ (s : List ℕ) (magic : s ≡ (80 ∷ 53 ∷ []) ++ drop 2 s) where
 
 -- what is refused with 21 has a `#` in the header
 pub hash-sound : (s : List ℕ) → headerOf s ≡ Refused 21 → Hash s
-unfolding headerOf fieldsOf
+unfolding headerOf headFields
 hash-sound s q = go (eqb (getD s 0 0) 80 && eqb (getD s 1 0) 53) refl q
   where
     go : (t : Bool) → (eqb (getD s 0 0) 80 && eqb (getD s 1 0) 53) ≡ t
         → cond t
-        (behind (numberOf s 2) (λ w at. behind (numberOf s at) (λ h at. behind (numberOf s at) (λ m at. endOf s w h m at))))
+        (thenHead (numberOf s 2) (λ w at. thenHead (numberOf s at) (λ h at. thenHead (numberOf s at) (λ m at. headEnd s w h m at))))
         (Refused 20)
         ≡ Refused 21
         → Hash s
@@ -229,7 +229,7 @@ module _ (s : List ℕ) where
   number-at-hash : (i : ℕ) → getD s i 0 ≡ 35 → numberOf s i ≡ Misfit 21
   number-at-hash i q = number-misfit s i (ap isWhite q ∙ hash-white) ∙ ap Misfit (ap misfitOf q ∙ hash-misfit)
 
-  end-at-hash : (w h m i : ℕ) → getD s i 0 ≡ 35 → endOf s w h m i ≡ Refused 21
+  end-at-hash : (w h m i : ℕ) → getD s i 0 ≡ 35 → headEnd s w h m i ≡ Refused 21
   end-at-hash w h m i q = end-misfit s w h m i (ap isWhite q ∙ hash-white) ∙ ap Refused (ap misfitOf q ∙ hash-misfit)
 
   module _ (i : ℕ) (after : List ℕ) where
@@ -296,7 +296,7 @@ module _ (s : List ℕ) where
   step : (i : ℕ) (before after : List ℕ) (due : ℕ) (more x t : List ℕ) {n : ℕ} (k : ℕ → ℕ → Head) → drop i s ≡ before ++ (35 ∷ after)
       → before ++ (due ∷ more) ≡ x ++ t → Numeral x n → isWhite (getD t 0 0) ≡ true → ((v e : ℕ) → getD s e 0 ≡ 35 → k v e ≡ Refused 21)
       → ((z : List ℕ) → drop (i + length x) s ≡ z ++ (35 ∷ after) → z ++ (due ∷ more) ≡ t → k n (i + length x) ≡ Refused 21)
-      → behind (numberOf s i) k ≡ Refused 21
+      → thenHead (numberOf s i) k ≡ Refused 21
   unfolding Cuts Cut
   step i before after due more x t {n} k e q a h there later = ⊎-elim behind-it within-it (cuts before (due ∷ more) x t q)
     where
@@ -305,12 +305,12 @@ module _ (s : List ℕ) where
       no-digit [] q = hash-digit
       no-digit (b ∷ z) q = white-not-digit b (ap (λ u. isWhite (getD u 0 0)) q ∙ h)
 
-      behind-it : (z : List ℕ) × (before ≡ x ++ z) × (z ++ (due ∷ more) ≡ t) → behind (numberOf s i) k ≡ Refused 21
+      behind-it : (z : List ℕ) × (before ≡ x ++ z) × (z ++ (due ∷ more) ≡ t) → thenHead (numberOf s i) k ≡ Refused 21
       behind-it z =
           let p : drop i s ≡ x ++ (z .0 ++ (35 ∷ after)) = e ∙ (ap (λ u. u ++ (35 ∷ after)) (z .1) ∙ append-assoc x (z .0) (35 ∷ after)) in
           behind-read k (number-reads s i (z .0 ++ (35 ∷ after)) a p (no-digit (z .0) (z .2))) ∙ later (z .0) (drop-behind s i x p) (z .2)
 
-      within-it : (y : ℕ) × (z : List ℕ) × (x ≡ before ++ (y ∷ z)) → behind (numberOf s i) k ≡ Refused 21
+      within-it : (y : ℕ) × (z : List ℕ) × (x ≡ before ++ (y ∷ z)) → thenHead (numberOf s i) k ≡ Refused 21
       within-it z =
           ⊎-elim (λ p. behind-misfit k p) (λ p. behind-read k (p .2) ∙ there (p .0) (p .1) (p .3)) (number-cut i after before (z .0 ∷ z .1) x e a (z .2))
 

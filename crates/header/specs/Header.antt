@@ -30,7 +30,7 @@ whiteOf [] at = at
 whiteOf (b ∷ bs) at = elim (isWhite b) [ true ↦ whiteOf bs (at + 1) | false ↦ at ]
 
 -- "numbers of 1 to 5 digits", "Leading zeros count as digits": at most `most` more digits behind a number v so far
-unfoldable pub digitsOf : ℕ → List ℕ → ℕ → ℕ → Number
+unfoldable pub digitsOf : (most : ℕ) (bs : List ℕ) (v at : ℕ) → Number
 digitsOf zero bs v at = Read v at
 digitsOf (suc most) [] v at = Read v at
 digitsOf (suc most) (b ∷ bs) v at =
@@ -45,23 +45,23 @@ unfoldable pub numberOf : List ℕ → ℕ → Number
 numberOf s at = cond (isWhite (getD s at 0)) (firstDigit s (whiteOf (drop at s) at)) (Misfit (misfitOf (getD s at 0)))
 
 -- what stands behind a number
-abbrev pub behind : Number → (ℕ → ℕ → Head) → Head
-behind (Read v at) k = k v at
-behind (Misfit n) k = Refused n
+abbrev pub thenHead : Number → (ℕ → ℕ → Head) → Head
+thenHead (Read v at) k = k v at
+thenHead (Misfit n) k = Refused n
 
 -- "exactly one white space byte at the end"
-unfoldable pub endOf : List ℕ → ℕ → ℕ → ℕ → ℕ → Head
-endOf s w h m at = cond (isWhite (getD s at 0)) (Found w h m (at + 1)) (Refused (misfitOf (getD s at 0)))
+unfoldable pub headEnd : (s : List ℕ) (w h m at : ℕ) → Head
+headEnd s w h m at = cond (isWhite (getD s at 0)) (Found w h m (at + 1)) (Refused (misfitOf (getD s at 0)))
 
 -- three numbers behind the first two bytes, width, height and maxval
-unfoldable pub fieldsOf : List ℕ → Head
-fieldsOf s = behind (numberOf s 2) (λ w at. behind (numberOf s at) (λ h at. behind (numberOf s at) (λ m at. endOf s w h m at)))
+unfoldable pub headFields : List ℕ → Head
+headFields s = thenHead (numberOf s 2) (λ w at. thenHead (numberOf s at) (λ h at. thenHead (numberOf s at) (λ m at. headEnd s w h m at)))
 
 -- "P5", then three numbers, width, height and maxval; what is found ends with the place where the raster starts
 unfoldable pub headerOf : List ℕ → Head
 headerOf s =
     cond (eqb (getD s 0 0) 80 && eqb (getD s 1 0) 53)
-    (fieldsOf s)
+    (headFields s)
     (Refused 20)
 
 -- ---- the writer

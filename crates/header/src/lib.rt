@@ -4,7 +4,7 @@ ghost use Prim.Native.Nat.{_+_, _≤_, _<_};
 ghost use mathlib.Core.List.{[], _∷_, _++_};
 ghost use lib.ListN.{length, getD, drop};
 ghost use Rattle.lists.specs.Lists.{onto, over};
-ghost use Rattle.header.specs.Header.{isWhite, isDigit, misfitOf, whiteOf, digitsOf, firstDigit, numberOf, behind, endOf, fieldsOf, headerOf, decimalOf, headerBytes};
+ghost use Rattle.header.specs.Header.{isWhite, isDigit, misfitOf, whiteOf, digitsOf, firstDigit, numberOf, thenHead, headEnd, headFields, headerOf, decimalOf, headerBytes};
 
 // A number of the header with the place behind it, or the refusal of what stands in its place.
 pub enum Number {
@@ -126,7 +126,7 @@ fn read_number(s: &[u8], at: usize) -> Number
 
 // Exactly one white space byte ends the header; the raster starts behind it.
 fn ending(s: &[u8], width: u32, height: u32, maxval: u32, at: usize) -> Head
-    ensures { λ r. ⌜ r ≡ endOf (now (s .entry)) width height maxval at ⌝ }
+    ensures { λ r. ⌜ r ≡ headEnd (now (s .entry)) width height maxval at ⌝ }
 {
     let b = byte(s, at);
     if is_white(b) {
@@ -138,7 +138,7 @@ fn ending(s: &[u8], width: u32, height: u32, maxval: u32, at: usize) -> Head
 // The header from behind the height on.
 fn from_maxval(s: &[u8], width: u32, height: u32, at: usize) -> Head
     requires { ⌜ at ≤ length (now s) ⌝ }
-    ensures { λ r. ⌜ r ≡ behind (numberOf (now (s .entry)) at) (λ m e. endOf (now (s .entry)) width height m e) ⌝ }
+    ensures { λ r. ⌜ r ≡ thenHead (numberOf (now (s .entry)) at) (λ m e. headEnd (now (s .entry)) width height m e) ⌝ }
 {
     match read_number(s, at) {
         Number::Read(maxval, e) => ending(s, width, height, maxval, e),
@@ -149,7 +149,7 @@ fn from_maxval(s: &[u8], width: u32, height: u32, at: usize) -> Head
 // The header from behind the width on.
 fn from_height(s: &[u8], width: u32, at: usize) -> Head
     requires { ⌜ at ≤ length (now s) ⌝ }
-    ensures { λ r. ⌜ r ≡ behind (numberOf (now (s .entry)) at) (λ h e. behind (numberOf (now (s .entry)) e) (λ m e. endOf (now (s .entry)) width h m e)) ⌝ }
+    ensures { λ r. ⌜ r ≡ thenHead (numberOf (now (s .entry)) at) (λ h e. thenHead (numberOf (now (s .entry)) e) (λ m e. headEnd (now (s .entry)) width h m e)) ⌝ }
 {
     match read_number(s, at) {
         Number::Read(height, e) => from_maxval(s, width, height, e),
@@ -160,7 +160,7 @@ fn from_height(s: &[u8], width: u32, at: usize) -> Head
 // The header from behind its first two bytes on: width, height and maxval. A plain file's is read by it too.
 pub fn fields(s: &[u8]) -> Head
     requires { ⌜ 2 ≤ length (now s) ⌝ }
-    ensures { λ r. ⌜ r ≡ fieldsOf (now (s .entry)) ⌝ }
+    ensures { λ r. ⌜ r ≡ headFields (now (s .entry)) ⌝ }
 {
     match read_number(s, 2) {
         Number::Read(width, e) => from_height(s, width, e),

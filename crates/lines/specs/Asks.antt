@@ -29,7 +29,7 @@ pub record LineAsks (at : ℕ) (numbers : List ℕ) (room : ℕ) : Type 0 where
   pub fitting : at + 6 * length numbers ≤ room
 
 -- the fields of a tile's line: row, column, E, the looks and the mapping, which stands in the map buffer's k-th four entries
-abbrev pub tileFields : ℕ → ℕ → ℕ → List ℕ → List ℕ
+abbrev pub tileFields : (k e n : ℕ) (m : List ℕ) → List ℕ
 tileFields k e n m = k / 2 ∷ k % 2 ∷ e ∷ n ∷ getD m (k * 4) 0 ∷ getD m (k * 4 + 1) 0 ∷ getD m (k * 4 + 2) 0 ∷ getD m (k * 4 + 3) 0 ∷ []
 
 -- what `tile_line` asks: one of the four tiles, its excess and looks, a map of four mappings, and room

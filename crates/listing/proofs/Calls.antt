@@ -25,9 +25,9 @@ use Rattle.pgm_greys.specs.declared.Turned.{Turned}
 use Rattle.pgm_greys.specs.declared.Turned.the-variants as Turned
 use Rattle.pgm_write.specs.declared.Written.{Written}
 use Rattle.pgm_write.specs.declared.Written.the-variants as Written
-use Rattle.pgm_write.specs.Write.{Wrote, wroteAs}
+use Rattle.pgm_write.specs.Write.{WriteOut, writeLeaves}
 use Rattle.raster.specs.Raster.{headRows, rasterRows, RasterAsks}
-use Rattle.pgm_greys.specs.Greys.{targetRows, turnRows, Greyed, greyedAs, turnedOf}
+use Rattle.pgm_greys.specs.Greys.{targetRows, turnRows, GreysOut, greysLeave, turnedOf}
 use Rattle.pgm.specs.Pgm.{readOf, sizesOf, rasterOf}
 use Rattle.raster.proofs.Tables.{within-none, exact-none}
 use Rattle.pgm_greys.proofs.Tables.{grey-asks, target-roomy}
@@ -37,10 +37,10 @@ use Rattle.prepare.specs.Prepare.{prepareRows}
 use Rattle.lines.specs.Lines.{refusedText}
 use Rattle.lines.specs.Asks.{Told}
 use Rattle.lines.proofs.Lines.{length-refused}
-use Rattle.film_lines.specs.FilmText.{settingsOf, filmText}
+use Rattle.film_lines.specs.FilmText.{listingSettings, filmText}
 use Rattle.film_lines.proofs.Tiles.{length-film}
 use Rattle.listing.specs.Listing.{isLarger, pictureText, readText, listingOf, textRows, listOf, laidOf}
-use Rattle.listing.specs.Asks.{ListAsks}
+use Rattle.listing.specs.Asks.{ListRasterAsks}
 
 -- a product of two 32-bit numbers fits 64 bits
 pub product-fits : (a b : ℕ) → a < 4294967296 → b < 4294967296 → a * b < 18446744073709551616
@@ -58,7 +58,7 @@ told-both t e = (t .bytes ∙ ap (onto _) e, t .count ∙ ap length e)
 
 -- ---- what greys left
 
-module _ (raster : List ℕ) (w h m room : ℕ) (asks : ListAsks raster w h m room) where
+module _ (raster : List ℕ) (w h m room : ℕ) (asks : ListRasterAsks raster w h m room) where
   -- the greys of the raster
   abbrev pub greys : List ℕ
   greys = unpacked (isWide m) raster (w * h)
@@ -72,16 +72,16 @@ module _ (raster : List ℕ) (w h m room : ℕ) (asks : ListAsks raster w h m ro
       ∙ first-behind (rasterRows w h m (length raster - 0)) _ (exact-none w h m (length raster - 0) (omega (arith, asks .asks .exact))))
 
   -- the answer is done: the greys are none above maxval, and stand at the front of the film
-  pub greys-told : (target : List ℕ) {left : List ℕ} {answer : Turned} → length target ≡ 8192 → answer ≡ Turned.Done → greyedAs answer left ≡ turnedOf raster 0 w h m target
+  pub greys-told : (target : List ℕ) {left : List ℕ} {answer : Turned} → length target ≡ 8192 → answer ≡ Turned.Done → greysLeave answer left ≡ turnedOf raster 0 w h m target
       → (noneAbove m greys ≡ true) × (left ≡ onto target greys)
   unfolding turnedOf
   greys-told target {left} {answer} n a e = go (first (turnRows raster 0 w h m (length target))) refl (rw a at e)
     where
-      go : (i : ℕ) → first (turnRows raster 0 w h m (length target)) ≡ i → greyedAs Turned.Done left ≡ unless i (λ n. greyedAs (Turned.Refused n) target) (greyedAs Turned.Done (onto target greys))
+      go : (i : ℕ) → first (turnRows raster 0 w h m (length target)) ≡ i → greysLeave Turned.Done left ≡ unless i (λ n. greysLeave (Turned.Refused n) target) (greysLeave Turned.Done (onto target greys))
           → (noneAbove m greys ≡ true) × (left ≡ onto target greys)
-      go zero z f = (grey-asks raster 0 w h m (length target) z .bounded, ap (λ (x : Greyed). x .target) f)
+      go zero z f = (grey-asks raster 0 w h m (length target) z .bounded, ap (λ (x : GreysOut). x .target) f)
       go (suc i) z f =
-          let a : Turned.Done ≡ Turned.Refused (suc i) = ap (λ (x : Greyed). x .answer) f in
+          let a : Turned.Done ≡ Turned.Refused (suc i) = ap (λ (x : GreysOut). x .answer) f in
           absurd (let o : _≡_ {A = ℕ} 0 1 = cc in omega arith)
 
   -- of the last two rows, 27 does not apply
@@ -93,18 +93,18 @@ module _ (raster : List ℕ) (w h m room : ℕ) (asks : ListAsks raster w h m ro
       go false q y = (sym y, q)
 
   -- the answer is a refusal: it is 26
-  pub greys-refused : (target : List ℕ) {left : List ℕ} {answer : Turned} {r : ℕ} → length target ≡ 8192 → answer ≡ Turned.Refused r → greyedAs answer left ≡ turnedOf raster 0 w h m target
+  pub greys-refused : (target : List ℕ) {left : List ℕ} {answer : Turned} {r : ℕ} → length target ≡ 8192 → answer ≡ Turned.Refused r → greysLeave answer left ≡ turnedOf raster 0 w h m target
       → (r ≡ 26) × (noneAbove m greys ≡ false)
   unfolding turnedOf
   greys-refused target {left} {answer} {r} n a e = go (first (turnRows raster 0 w h m (length target))) refl (rw a at e)
     where
-      go : (i : ℕ) → first (turnRows raster 0 w h m (length target)) ≡ i → greyedAs (Turned.Refused r) left ≡ unless i (λ n. greyedAs (Turned.Refused n) target) (greyedAs Turned.Done (onto target greys))
+      go : (i : ℕ) → first (turnRows raster 0 w h m (length target)) ≡ i → greysLeave (Turned.Refused r) left ≡ unless i (λ n. greysLeave (Turned.Refused n) target) (greysLeave Turned.Done (onto target greys))
           → (r ≡ 26) × (noneAbove m greys ≡ false)
       go zero z f =
-          let a : Turned.Refused r ≡ Turned.Done = ap (λ (x : Greyed). x .answer) f in
+          let a : Turned.Refused r ≡ Turned.Done = ap (λ (x : GreysOut). x .answer) f in
           absurd (let o : _≡_ {A = ℕ} 0 1 = cc in omega arith)
       go (suc i) z f =
-          let a : Turned.Refused r ≡ Turned.Refused (suc i) = ap (λ (x : Greyed). x .answer) f in
+          let a : Turned.Refused r ≡ Turned.Refused (suc i) = ap (λ (x : GreysOut). x .answer) f in
           let b : r ≡ suc i = cc in
           let t = target-last i (sym (rows-target target n) ∙ z) in
           (b ∙ t .0, t .1)
@@ -119,7 +119,7 @@ module _ (raster : List ℕ) (w h m room : ℕ) (asks : ListAsks raster w h m ro
 
 -- the text of a film none of whose samples is above maxval
 pub picture-listed : (w h m : ℕ) {pic film d out : List ℕ} {r : ℕ} → film ≡ pic → noneAbove m pic ≡ true
-    → Told d (unless (first (prepareRows w h film (settingsOf m) 16 4 8)) refusedText (filmText w h m film)) out r → Told d (pictureText w h m pic) out r
+    → Told d (unless (first (prepareRows w h film (listingSettings m) 16 4 8)) refusedText (filmText w h m film)) out r → Told d (pictureText w h m pic) out r
 picture-listed w h m {pic} {film} f e t = rw e (rw f at t)
 
 -- the text of one that has such a sample
@@ -188,7 +188,7 @@ module _ (s : List ℕ) where
         few = ltb-false 8192 (w * h) (ap isLarger (sym (read-header s (start .found))) ∙ (sym e ∙ q))
 
         -- what `list_raster` asks
-        pub list-asks : (room : ℕ) → 512 ≤ room → ListAsks raster w h m room
+        pub list-asks : (room : ℕ) → 512 ≤ room → ListRasterAsks raster w h m room
         list-asks room n =
             let t : RasterAsks s (start .at) w h m = read-asks s (start .found) in
             record {
@@ -215,7 +215,7 @@ length-pick false s t l k = k
 length-read : (x : Head) (s : List ℕ) → length (readText x s) ≤ 240
 length-read (Head.Found w h m at) s =
     let pic = unpacked (isWide m) (drop at s) (w * h) in
-    length-pick (noneAbove m pic) _ (refusedText 26) (length-unless (first (prepareRows w h pic (settingsOf m) 16 4 8)) (filmText w h m pic) (length-film w h m pic)) (omega (arith, length-refused 26))
+    length-pick (noneAbove m pic) _ (refusedText 26) (length-unless (first (prepareRows w h pic (listingSettings m) 16 4 8)) (filmText w h m pic) (length-film w h m pic)) (omega (arith, length-refused 26))
 length-read (Head.Refused n) s = omega (arith, length-refused n)
 
 -- at most 240 bytes are printed, whatever is read
@@ -227,23 +227,23 @@ length-listing s =
 
 -- ---- the output's room
 
-pub list-short : (s out : List ℕ) → length out < 512 → wroteAs (Written.Refused 27) out ≡ listOf s out
+pub list-short : (s out : List ℕ) → length out < 512 → writeLeaves (Written.Refused 27) out ≡ listOf s out
 unfolding first textRows listOf
 list-short s out h = rw (lt-ltb (length out) 512 h) refl
 
-pub list-laid : (s out : List ℕ) {out′ : List ℕ} {n : ℕ} → 512 ≤ length out → out′ ≡ onto out (listingOf s) → n ≡ length (listingOf s) → wroteAs (Written.Bytes n) out′ ≡ listOf s out
+pub list-laid : (s out : List ℕ) {out′ : List ℕ} {n : ℕ} → 512 ≤ length out → out′ ≡ onto out (listingOf s) → n ≡ length (listingOf s) → writeLeaves (Written.Bytes n) out′ ≡ listOf s out
 unfolding first textRows listOf
 list-laid s out h e q = rw (le-ltb (length out) 512 h, e, q) refl
 
 -- what was laid down lies in the output
-pub list-fits : (s out : List ℕ) {r : Written} {out′ : List ℕ} → wroteAs r out′ ≡ listOf s out → laidOf r ≤ length out
+pub list-fits : (s out : List ℕ) {r : Written} {out′ : List ℕ} → writeLeaves r out′ ≡ listOf s out → laidOf r ≤ length out
 list-fits s out {r} e = go (ltb (length out) 512) refl
   where
     laid : laidOf r ≡ laidOf (listOf s out .answer)
-    laid = ap (λ (z : Wrote). laidOf (z .answer)) e
+    laid = ap (λ (z : WriteOut). laidOf (z .answer)) e
 
     go : (b : Bool) → ltb (length out) 512 ≡ b → laidOf r ≤ length out
-    go true q = omega (arith, laid ∙ ap (λ (z : Wrote). laidOf (z .answer)) (sym (list-short s out (ltb-true (length out) 512 q))))
+    go true q = omega (arith, laid ∙ ap (λ (z : WriteOut). laidOf (z .answer)) (sym (list-short s out (ltb-true (length out) 512 q))))
     go false q =
         let room : 512 ≤ length out = ltb-false (length out) 512 q in
-        omega (arith, laid ∙ ap (λ (z : Wrote). laidOf (z .answer)) (sym (list-laid s out room refl refl)), length-listing s, room)
+        omega (arith, laid ∙ ap (λ (z : WriteOut). laidOf (z .answer)) (sym (list-laid s out room refl refl)), length-listing s, room)

@@ -7,7 +7,7 @@ use mathlib.Core.Path.{_≡_, sym, ap, _∙_}
 use denote.Ref.{now}
 use Rattle.refuse.specs.Run.{Run, Ran}
 use Rattle.pgm_write.specs.declared.Written.{Written}
-use Rattle.pgm_write.specs.Write.{Wrote, wroteAs}
+use Rattle.pgm_write.specs.Write.{WriteOut, writeLeaves}
 use Rattle.listing.specs.Listing.{listOf}
 use Rattle.listing.proofs.list.Kinds as list
 use Rattle.listing.proofs.list.Reads as list-reads
@@ -25,18 +25,18 @@ list-values run =
     record { bytes = now bytes; out = now out; answer = run .answer; out′ = now out′ }
 
 -- what it is handed
-abbrev pub list-given : ListCall → List ℕ × List ℕ
-list-given c = (c .bytes, c .out)
+abbrev pub list-arguments : ListCall → List ℕ × List ℕ
+list-arguments c = (c .bytes, c .out)
 
 -- list ran with these values
 abbrev pub Lists : ListCall → Type 0
 Lists = Ran list-values
 
-pub list-ends : {c : ListCall} → Lists c → wroteAs (c .answer) (c .out′) ≡ listOf (c .bytes) (c .out)
+pub list-ends : {c : ListCall} → Lists c → writeLeaves (c .answer) (c .out′) ≡ listOf (c .bytes) (c .out)
 list-ends ran = rw (ran .named) (ran .run .allowed)
 
 -- one answer and one output for each file and output lent; a film's refusal is part of the text
-pub list-determined : {c k : ListCall} → Lists c → Lists k → list-given c ≡ list-given k → (c .answer ≡ k .answer) × (c .out′ ≡ k .out′)
+pub list-determined : {c k : ListCall} → Lists c → Lists k → list-arguments c ≡ list-arguments k → (c .answer ≡ k .answer) × (c .out′ ≡ k .out′)
 list-determined x y same =
     let e = list-ends x ∙ ap (λ g. listOf (g .0) (g .1)) same ∙ sym (list-ends y) in
-    (ap (λ (z : Wrote). z .answer) e, ap (λ (z : Wrote). z .out) e)
+    (ap (λ (z : WriteOut). z .answer) e, ap (λ (z : WriteOut). z .out) e)

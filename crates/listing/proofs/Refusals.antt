@@ -16,7 +16,7 @@ use Rattle.header.specs.declared.Head.the-variants as Head
 use Rattle.header.specs.Header.{headerOf}
 use Rattle.header.proofs.Laws.{refused-number}
 use Rattle.raster.specs.Raster.{headRows, rasterRows}
-use Rattle.pgm.specs.Pgm.{judgedOf, readOf}
+use Rattle.pgm.specs.Pgm.{judgedHead, readOf}
 use Rattle.raster.proofs.Tables.{read-numbers}
 
 judged-below : (w h m size : ℕ) → first (headRows w h m ++ rasterRows w h m size) < 100
@@ -26,14 +26,14 @@ judged-below w h m size =
 
 -- a refusal of read
 pub read-below : (s : List ℕ) {n : ℕ} → readOf s ≡ Head.Refused n → n < 100
-unfolding readOf judgedOf
+unfolding readOf judgedHead
 read-below s {n} q = go (headerOf s) refl q
   where
     pass : (k w h m at : ℕ) → k < 100 → unless k Head.Refused (Head.Found w h m at) ≡ Head.Refused n → n < 100
     pass zero w h m at l e = absurd (let o : _≡_ {A = ℕ} 0 1 = cc in omega arith)
     pass (suc k) w h m at l e = let i : suc k ≡ n = cc in omega arith
 
-    go : (x : Head) → headerOf s ≡ x → judgedOf x (length s) ≡ Head.Refused n → n < 100
+    go : (x : Head) → headerOf s ≡ x → judgedHead x (length s) ≡ Head.Refused n → n < 100
     go (Head.Found w h m at) p e = pass (first (headRows w h m ++ rasterRows w h m (length s - at))) w h m at (judged-below w h m (length s - at)) e
     go (Head.Refused k) p e =
         let i : k ≡ n = cc in

@@ -5,7 +5,7 @@ use mathlib.Core.List.{List}
 use Rattle.raster.specs.Raster.{RasterAsks}
 
 -- what `list_raster` asks: a raster that read handed back, of at most 8,192 samples
-pub record ListAsks (raster : List ℕ) (w h m room : ℕ) : Type 0 where
+pub record ListRasterAsks (raster : List ℕ) (w h m room : ℕ) : Type 0 where
   pub asks : RasterAsks raster 0 w h m
   pub few : w * h ≤ 8192
   pub fitting : 512 ≤ room

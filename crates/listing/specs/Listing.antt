@@ -13,10 +13,10 @@ use Rattle.samples.specs.Samples.{isWide, unpacked, noneAbove}
 use Rattle.pgm_write.specs.declared.Written.{Written}
 use Rattle.pgm_write.specs.declared.Written.the-variants as Written
 use Rattle.pgm.specs.Pgm.{readOf}
-use Rattle.pgm_write.specs.Write.{Wrote, wrote}
+use Rattle.pgm_write.specs.Write.{WriteOut, wrote}
 use Rattle.prepare.specs.Prepare.{prepareRows}
 use Rattle.lines.specs.Lines.{refusedText}
-use Rattle.film_lines.specs.FilmText.{settingsOf, filmText}
+use Rattle.film_lines.specs.FilmText.{listingSettings, filmText}
 
 -- "at most 8,192 pixels": "a larger film is 22 where read's own 22 stands"
 abbrev pub isLarger : Head → Bool
@@ -24,10 +24,10 @@ isLarger (Found w h m at) = ltb 8192 (w * h)
 isLarger (Refused n) = false
 
 -- of a film that was read: 26, then prepare's refusals, then the listing
-abbrev pub pictureText : ℕ → ℕ → ℕ → List ℕ → List ℕ
+abbrev pub pictureText : (w h maxval : ℕ) (pic : List ℕ) → List ℕ
 pictureText w h maxval pic =
     cond (noneAbove maxval pic)
-    (unless (first (prepareRows w h pic (settingsOf maxval) 16 4 8)) refusedText (filmText w h maxval pic))
+    (unless (first (prepareRows w h pic (listingSettings maxval) 16 4 8)) refusedText (filmText w h maxval pic))
     (refusedText 26)
 
 -- "reads a PGM": of a file that read accepts its film's text, else read's own refusal
@@ -47,7 +47,7 @@ unfoldable pub textRows : ℕ → List Row
 textRows room = shortRow room 512 ∷ []
 
 -- the text at the front of the output, and its length; a film's refusal is part of its text
-unfoldable pub listOf : List ℕ → List ℕ → Wrote
+unfoldable pub listOf : List ℕ → List ℕ → WriteOut
 listOf s out = wrote (textRows (length out)) out (listingOf s)
 
 -- how many bytes an answer says were laid down: none where it is a refusal

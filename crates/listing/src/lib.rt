@@ -5,10 +5,10 @@ ghost use lib.ListN.{length};
 ghost use Rattle.lists.specs.Lists.{onto};
 ghost use Rattle.header.specs.Header.{headerOf};
 ghost use Rattle.samples.specs.Samples.{isWide, unpacked};
-ghost use Rattle.pgm_write.specs.Write.{wroteAs};
+ghost use Rattle.pgm_write.specs.Write.{writeLeaves};
 ghost use Rattle.lines.specs.Asks.{Told};
 ghost use Rattle.listing.specs.Listing.{isLarger, pictureText, listingOf, listOf, laidOf};
-ghost use Rattle.listing.specs.Asks.{ListAsks};
+ghost use Rattle.listing.specs.Asks.{ListRasterAsks};
 use header::Head;
 use pgm::Sizes;
 use pgm_greys::Turned;
@@ -26,7 +26,7 @@ fn is_larger(bytes: &[u8]) -> bool
 
 // The listing of a raster that read handed back, or the refusal of its film.
 fn list_raster(raster: &[u8], width: u32, height: u32, maxval: u32, out: &mut [u8]) -> usize
-    requires { ⌜ ListAsks (now raster) width height maxval (length (now out)) ⌝ }
+    requires { ⌜ ListRasterAsks (now raster) width height maxval (length (now out)) ⌝ }
     ensures { λ r. ⌜ Told (now (out .entry)) (pictureText width height maxval (unpacked (isWide maxval) (now (raster .entry)) (width * height))) (now (out .exit)) r ⌝ }
 {
     let mut film = [0u16; 8192];
@@ -60,7 +60,7 @@ fn lay_text(bytes: &[u8], out: &mut [u8]) -> usize
 
 // The text that the listing program prints for a file's bytes, at the front of out: its length, or 27 where fewer than 512 bytes are lent.
 pub fn list(bytes: &[u8], out: &mut [u8]) -> Written
-    ensures { λ r. ⌜ wroteAs r (now (out .exit)) ≡ listOf (now (bytes .entry)) (now (out .entry)) ⌝ }
+    ensures { λ r. ⌜ writeLeaves r (now (out .exit)) ≡ listOf (now (bytes .entry)) (now (out .entry)) ⌝ }
 {
     if out.len() < 512 {
         return Written::Refused(27);

@@ -23,7 +23,7 @@ unfoldable pub levelOf : ℕ → List ℕ → ℕ
 levelOf c cs = levelFrom c c cs
 
 -- "A bin below P becomes its count plus C - P, any other becomes C."
-abbrev pub raised : ℕ → ℕ → ℕ → ℕ
+abbrev pub raised : (c p x : ℕ) → ℕ
 raised c p x = cond (ltb x p) (x + (c - p)) c
 
 -- the counts by the rule of 1986; their sum is "the new total T"

@@ -12,7 +12,7 @@ use Rattle.header.specs.declared.Head.the-variants as Head
 use Rattle.header.specs.Header.{headerOf}
 use Rattle.raster.specs.Raster.{headRows, rasterRows, RasterAsks}
 use Rattle.raster.proofs.Tables.{limit-numbered, raster-asks}
-use Rattle.pgm.specs.Pgm.{judgedOf, readOf}
+use Rattle.pgm.specs.Pgm.{judgedHead, readOf}
 use Rattle.pgm.proofs.Tables.{unless-found}
 
 -- the rows 22 to 25 together
@@ -23,10 +23,10 @@ judged-asks s w h m at e =
 
 -- what read finds meets the limits, and its raster is exactly as long as width, height and maxval ask
 pub read-asks : (s : List ℕ) {w h m at : ℕ} → readOf s ≡ Head.Found w h m at → RasterAsks s at w h m
-unfolding readOf judgedOf
+unfolding readOf judgedHead
 read-asks s {w} {h} {m} {at} q = go (headerOf s) q
   where
-    go : (x : Head) → judgedOf x (length s) ≡ Head.Found w h m at → RasterAsks s at w h m
+    go : (x : Head) → judgedHead x (length s) ≡ Head.Found w h m at → RasterAsks s at w h m
     go (Head.Found w′ h′ m′ at′) e =
         let p = unless-found (first (headRows w′ h′ m′ ++ rasterRows w′ h′ m′ (length s - at′))) (Head.Found w′ h′ m′ at′) e in
         let f : Head.Found w′ h′ m′ at′ ≡ Head.Found w h m at = p .1 in

@@ -13,17 +13,17 @@ use Rattle.pgm.specs.declared.Sizes.{Sizes}
 use Rattle.pgm.specs.declared.Sizes.the-variants as Sizes
 
 -- "header bytes from the front ..; then 22 to 25": what the header found, in a file of `size` bytes
-unfoldable pub judgedOf : Head → ℕ → Head
-judgedOf (Head.Found w h m at) size = unless (first (headRows w h m ++ rasterRows w h m (size - at))) Head.Refused (Head.Found w h m at)
-judgedOf (Head.Refused n) size = Head.Refused n
+unfoldable pub judgedHead : Head → ℕ → Head
+judgedHead (Head.Found w h m at) size = unless (first (headRows w h m ++ rasterRows w h m (size - at))) Head.Refused (Head.Found w h m at)
+judgedHead (Head.Refused n) size = Head.Refused n
 
 -- the same where a header was found
-abbrev pub judgedFound : ℕ → ℕ → ℕ → ℕ → ℕ → Head
-judgedFound w h m at size = judgedOf (Head.Found w h m at) size
+abbrev pub judgedFound : (w h m at size : ℕ) → Head
+judgedFound w h m at size = judgedHead (Head.Found w h m at) size
 
 -- read of a whole file
 unfoldable pub readOf : List ℕ → Head
-readOf s = judgedOf (headerOf s) (length s)
+readOf s = judgedHead (headerOf s) (length s)
 
 -- "for the sizes and maxval"
 abbrev pub sizesOf : Head → Sizes
@@ -36,9 +36,9 @@ rasterOf (Head.Found w h m at) s = drop at s
 rasterOf (Head.Refused n) s = []
 
 -- where "that part of the caller's bytes" begins: behind the header; the empty part stands at the front
-abbrev pub startOf : Head → ℕ
-startOf (Head.Found w h m at) = at
-startOf (Head.Refused n) = 0
+abbrev pub rasterStart : Head → ℕ
+rasterStart (Head.Found w h m at) = at
+rasterStart (Head.Refused n) = 0
 
 -- document 01's values and number of read's answers: width, height and maxval, or a refusal
 unfoldable pub sizesSays : Sizes → Says (ℕ × ℕ × ℕ)

@@ -2,7 +2,7 @@
 ghost use mathlib.Core.Path.{_≡_};
 ghost use Prim.Native.Nat.{_+_, _≤_};
 ghost use denote.Ref.{ptr};
-ghost use Rattle.pgm.specs.Pgm.{judgedFound, readOf, sizesOf, rasterOf, startOf};
+ghost use Rattle.pgm.specs.Pgm.{judgedFound, readOf, sizesOf, rasterOf, rasterStart};
 use header::Head;
 
 // What read finds: width, height and maxval, or the refusal.
@@ -50,7 +50,7 @@ pub fn read_sizes(bytes: &[u8]) -> Sizes
 
 // Read, asked for the raster: the part of the bytes behind the header, and an empty part on a refusal.
 pub fn read_raster(bytes: &[u8]) -> &[u8]
-    ensures { λ r. ⌜ (now r ≡ rasterOf (readOf (now (bytes .entry))) (now (bytes .entry))) × (ptr r ≡ (ptr (bytes .entry) .0, startOf (readOf (now (bytes .entry))) + ptr (bytes .entry) .1)) ⌝ }
+    ensures { λ r. ⌜ (now r ≡ rasterOf (readOf (now (bytes .entry))) (now (bytes .entry))) × (ptr r ≡ (ptr (bytes .entry) .0, rasterStart (readOf (now (bytes .entry))) + ptr (bytes .entry) .1)) ⌝ }
 {
     match read(bytes) {
         Head::Found(_, _, _, at) => {

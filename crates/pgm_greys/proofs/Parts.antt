@@ -10,10 +10,10 @@ use lib.Seq.{take-all}
 use Rattle.lists.specs.Lists.{onto}
 use Rattle.refuse.specs.Refuse.{first, unless}
 use Rattle.refuse.proofs.Walk.{unless-refused}
-use Rattle.samples.specs.Samples.{isWide, sizeOf, unpacked}
+use Rattle.samples.specs.Samples.{isWide, sampleBytes, unpacked}
 use Rattle.raster.specs.Raster.{rasterSize, RasterAsks}
 use Rattle.pgm_greys.specs.declared.Turned.the-variants as Turned
-use Rattle.pgm_greys.specs.Greys.{targetRows, turnRows, Greyed, greyedAs, turnedOf}
+use Rattle.pgm_greys.specs.Greys.{targetRows, turnRows, GreysOut, greysLeave, turnedOf}
 
 -- ---- the raster as a part of the bytes
 
@@ -24,7 +24,7 @@ part-raster s start w h m {x} t e = take-all (start + x - start) (drop start s) 
 
 -- it has the bytes of the picture's samples
 pub part-length : (s : List ℕ) (start w h m : ℕ) {x : ℕ} {two : Bool} → RasterAsks s start w h m → two ≡ isWide m → x ≡ rasterSize w h m
-    → w * h * sizeOf two ≡ length (take (start + x - start) (drop start s))
+    → w * h * sampleBytes two ≡ length (take (start + x - start) (drop start s))
 part-length s start w h m {x} {two} t q e = rw (q, part-raster s start w h m t e, length-drop) (omega (arith, t .exact))
 
 -- it is read as what stands behind its start
@@ -36,16 +36,16 @@ part-greys s start w h m t q e = rw (q, part-raster s start w h m t e) refl
 
 module _ (s : List ℕ) (start w h m : ℕ) (target : List ℕ) where
   -- a refusal leaves the target as it was
-  pub greys-refused : {n : ℕ} → n ≡ first (turnRows s start w h m (length target)) → (n ≡ 0 → ⊥) → greyedAs (Turned.Refused n) target ≡ turnedOf s start w h m target
+  pub greys-refused : {n : ℕ} → n ≡ first (turnRows s start w h m (length target)) → (n ≡ 0 → ⊥) → greysLeave (Turned.Refused n) target ≡ turnedOf s start w h m target
   unfolding turnedOf
-  greys-refused {n} e z = unless-refused n (λ k. greyedAs (Turned.Refused k) target) done z ∙ ap (λ j. unless j (λ k. greyedAs (Turned.Refused k) target) done) e
+  greys-refused {n} e z = unless-refused n (λ k. greysLeave (Turned.Refused k) target) done z ∙ ap (λ j. unless j (λ k. greysLeave (Turned.Refused k) target) done) e
     where
-      done : Greyed
-      done = greyedAs Turned.Done (onto target (unpacked (isWide m) (drop start s) (w * h)))
+      done : GreysOut
+      done = greysLeave Turned.Done (onto target (unpacked (isWide m) (drop start s) (w * h)))
 
   -- else the greys stand at its front
   pub greys-done : {n : ℕ} {left : List ℕ} → n ≡ first (turnRows s start w h m (length target)) → n ≡ 0
-      → left ≡ onto target (unpacked (isWide m) (drop start s) (w * h)) → greyedAs Turned.Done left ≡ turnedOf s start w h m target
+      → left ≡ onto target (unpacked (isWide m) (drop start s) (w * h)) → greysLeave Turned.Done left ≡ turnedOf s start w h m target
   unfolding turnedOf
   greys-done e z q = rw (← e, z, q) refl
 

@@ -14,12 +14,12 @@ use Rattle.pgm_greys.specs.declared.Turned.{Turned}
 use Rattle.pgm_greys.specs.declared.Turned.the-variants as Turned
 
 -- 27 and 26: "the caller's target too short", "a sample above maxval"
-unfoldable pub targetRows : List ℕ → ℕ → ℕ → ℕ → ℕ → ℕ → List Row
+unfoldable pub targetRows : (bytes : List ℕ) (start w h m room : ℕ) → List Row
 targetRows bytes start w h m room =
     shortRow room (w * h) ∷ aboveRow m (unpacked (isWide m) (drop start bytes) (w * h)) ∷ []
 
 -- "Turning a raster into greys: 22, 23, 24, 25, 27, 26": the raster is what stands in `bytes` from `start` on, `room` the target's length
-unfoldable pub turnRows : List ℕ → ℕ → ℕ → ℕ → ℕ → ℕ → List Row
+unfoldable pub turnRows : (bytes : List ℕ) (start w h m room : ℕ) → List Row
 turnRows bytes start w h m room =
     headRows w h m ++ (rasterRows w h m (length bytes - start) ++ targetRows bytes start w h m room)
 
@@ -35,16 +35,16 @@ turnedSays Turned.Done = accepted tt
 turnedSays (Turned.Refused n) = refused n
 
 -- what the call leaves: its answer and the target
-pub record Greyed : Type 0 where
+pub record GreysOut : Type 0 where
   pub answer : Turned
   pub target : List ℕ
 
 -- an answer and a target as one
-abbrev pub greyedAs : Turned → List ℕ → Greyed
-greyedAs answer target = record { answer = answer; target = target }
+abbrev pub greysLeave : Turned → List ℕ → GreysOut
+greysLeave answer target = record { answer = answer; target = target }
 
 -- greys of a raster: the first row that applies, and the target stays as it was, else the greys at its front: "entries behind the last grey keep their contents"
-unfoldable pub turnedOf : List ℕ → ℕ → ℕ → ℕ → ℕ → List ℕ → Greyed
+unfoldable pub turnedOf : (bytes : List ℕ) (start w h m : ℕ) (target : List ℕ) → GreysOut
 turnedOf bytes start w h m target =
-    unless (first (turnRows bytes start w h m (length target))) (λ n. greyedAs (Turned.Refused n) target)
-    (greyedAs Turned.Done (onto target (unpacked (isWide m) (drop start bytes) (w * h))))
+    unless (first (turnRows bytes start w h m (length target))) (λ n. greysLeave (Turned.Refused n) target)
+    (greysLeave Turned.Done (onto target (unpacked (isWide m) (drop start bytes) (w * h))))

@@ -6,7 +6,7 @@ ghost use Rattle.lists.specs.Lists.{onto};
 ghost use Rattle.refuse.specs.Refuse.{first};
 ghost use Rattle.samples.specs.Samples.{isWide, unpacked};
 ghost use Rattle.raster.specs.Raster.{RasterAsks};
-ghost use Rattle.pgm_greys.specs.Greys.{targetRows, turnRows, GreyAsks, greyedAs, turnedOf};
+ghost use Rattle.pgm_greys.specs.Greys.{targetRows, turnRows, GreyAsks, greysLeave, turnedOf};
 
 // Whether a raster was turned into greys.
 pub enum Turned {
@@ -93,7 +93,7 @@ pub fn read_greys(
     maxval: u32,
     target: &mut [u16],
 ) -> Turned
-    ensures { λ r. ⌜ greyedAs r (now (target .exit)) ≡ turnedOf (now (bytes .entry)) start width height maxval (now (target .entry)) ⌝ }
+    ensures { λ r. ⌜ greysLeave r (now (target .exit)) ≡ turnedOf (now (bytes .entry)) start width height maxval (now (target .entry)) ⌝ }
 {
     let refusal = grey_refusal(bytes, start, width, height, maxval, target.len());
     if refusal != 0 {

@@ -14,28 +14,28 @@ use Rattle.header.specs.Header.{headerOf, headerBytes}
 use Rattle.header.proofs.Laws.{round-trip}
 use Rattle.samples.specs.Samples.{isWide, packed, unpacked, noneAbove}
 use Rattle.samples.proofs.Trips.{unpacked-packed}
-use Rattle.raster.specs.Raster.{rasterSize, headRows, rasterRows, Within}
+use Rattle.raster.specs.Raster.{rasterSize, headRows, rasterRows, RasterLimits}
 use Rattle.raster.proofs.Tables.{within-none, exact-none}
 use Rattle.pgm.specs.declared.Sizes.the-variants as Sizes
 use Rattle.pgm.specs.Pgm.{readOf, sizesOf}
 use Rattle.pgm.proofs.Tables.{judged-found, read-judged}
 use Rattle.pgm_greys.specs.declared.Turned.the-variants as Turned
-use Rattle.pgm_greys.specs.Greys.{turnRows, greyedAs, turnedOf}
+use Rattle.pgm_greys.specs.Greys.{turnRows, greysLeave, turnedOf}
 use Rattle.pgm_greys.proofs.Tables.{grey-none}
 use Rattle.pgm_greys.proofs.Parts.{greys-done}
-use Rattle.pgm_write.specs.Write.{writeRows, Film, fileOf}
+use Rattle.pgm_write.specs.Write.{writeRows, WriteReady, fileOf}
 use Rattle.pgm_write.proofs.Tables.{write-asks, length-file}
 
 module _ (pic : List ℕ) (w h m room : ℕ) (ok : first (writeRows pic w h m room) ≡ 0) where
-  film : Film pic w h m
+  film : WriteReady pic w h m
   film = write-asks pic w h m (fileOf pic w h m) room ok .film
 
   -- its header is found as it was written
   pub written-header : headerOf (fileOf pic w h m) ≡ Head.Found w h m (length (headerBytes w h m))
   unfolding fileOf
   written-header =
-      let t : Within w h m = film .within in
-      round-trip w h m (packed (isWide m) pic) (omega (arith, t .widest)) (omega (arith, t .highest)) (omega (arith, t .brightest))
+      let t : RasterLimits w h m = film .within in
+      round-trip w h m (packed (isWide m) pic) (omega (arith, t .widest)) (omega (arith, t .highest)) (omega (arith, t .maxval-most))
 
   -- the header is followed by a raster of the picture's size
   pub written-exact : length (headerBytes w h m) + rasterSize w h m ≡ length (fileOf pic w h m)
@@ -66,7 +66,7 @@ module _ (pic : List ℕ) (w h m room : ℕ) (ok : first (writeRows pic w h m ro
 
   -- a target with room takes them: no row of greys applies, and the picture stands at its front
   pub written-greys : (target : List ℕ) → w * h ≤ length target
-      → turnedOf (fileOf pic w h m) (length (headerBytes w h m)) w h m target ≡ greyedAs Turned.Done (onto target pic)
+      → turnedOf (fileOf pic w h m) (length (headerBytes w h m)) w h m target ≡ greysLeave Turned.Done (onto target pic)
   written-greys target l =
       sym (greys-done (fileOf pic w h m) (length (headerBytes w h m)) w h m target refl none (ap (onto target) (sym written-picture)))
     where

@@ -10,11 +10,11 @@ use Rattle.lists.proofs.Overs.{onto-tail}
 use Rattle.refuse.specs.Refuse.{first, unless}
 use Rattle.refuse.proofs.Walk.{unless-refused}
 use Rattle.header.specs.Header.{headerBytes}
-use Rattle.samples.specs.Samples.{isWide, sizeOf, packed, PackAsks}
+use Rattle.samples.specs.Samples.{isWide, sampleBytes, packed, PackAsks}
 use Rattle.raster.specs.Raster.{rasterSize}
 use Rattle.raster.proofs.Tables.{part-tail}
 use Rattle.pgm_write.specs.declared.Written.the-variants as Written
-use Rattle.pgm_write.specs.Write.{writtenRows, WriteAsks, fileOf, Wrote, wroteAs, writtenOf}
+use Rattle.pgm_write.specs.Write.{writtenRows, WriteAsks, fileOf, WriteOut, writeLeaves, writtenOf}
 use Rattle.pgm_write.proofs.Tables.{length-file}
 
 -- ---- the file laid down
@@ -34,22 +34,22 @@ file-fits {pic} {w} {h} {m} t = omega (arith, t .fitting, length-file pic w h m 
 pub file-room : (e pic : List ℕ) (w h m : ℕ) {at room : ℕ} → WriteAsks pic w h m (fileOf pic w h m) room → length e ≡ room → at ≡ length (headerBytes w h m)
     → PackAsks m pic (length (take (length e - at) (drop at e)))
 file-room e pic w h m {at} {room} t q n =
-    let l : w * h * sizeOf (isWide m) ≤ length e - at = omega (arith, file-fits t) in
+    let l : w * h * sampleBytes (isWide m) ≤ length e - at = omega (arith, file-fits t) in
     record { bounded = t .film .bounded; room = rw (part-tail e at, length-drop, t .film .whole) l }
 
 -- ---- what write leaves
 
 module _ (pic : List ℕ) (w h m : ℕ) (file out : List ℕ) where
   -- a refusal leaves the output as it was
-  pub write-refused : {n : ℕ} → n ≡ first (writtenRows pic w h m file (length out)) → (n ≡ 0 → ⊥) → wroteAs (Written.Refused n) out ≡ writtenOf pic w h m file out
+  pub write-refused : {n : ℕ} → n ≡ first (writtenRows pic w h m file (length out)) → (n ≡ 0 → ⊥) → writeLeaves (Written.Refused n) out ≡ writtenOf pic w h m file out
   unfolding writtenOf
-  write-refused {n} e z = unless-refused n (λ k. wroteAs (Written.Refused k) out) done z ∙ ap (λ j. unless j (λ k. wroteAs (Written.Refused k) out) done) e
+  write-refused {n} e z = unless-refused n (λ k. writeLeaves (Written.Refused k) out) done z ∙ ap (λ j. unless j (λ k. writeLeaves (Written.Refused k) out) done) e
     where
-      done : Wrote
-      done = wroteAs (Written.Bytes (length file)) (onto out file)
+      done : WriteOut
+      done = writeLeaves (Written.Bytes (length file)) (onto out file)
 
   -- else the file stands at its front, and its length is the answer
   pub write-done : {n k : ℕ} {left : List ℕ} → n ≡ first (writtenRows pic w h m file (length out)) → n ≡ 0
-      → left ≡ onto out file → k ≡ length file → wroteAs (Written.Bytes k) left ≡ writtenOf pic w h m file out
+      → left ≡ onto out file → k ≡ length file → writeLeaves (Written.Bytes k) left ≡ writtenOf pic w h m file out
   unfolding writtenOf
   write-done e z q l = rw (← e, z, q, l) refl

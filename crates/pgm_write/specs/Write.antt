@@ -10,35 +10,35 @@ use Rattle.lists.specs.Lists.{onto}
 use Rattle.refuse.specs.Refuse.{Row, lengthRow, shortRow, first, unless, Says, accepted, refused}
 use Rattle.header.specs.Header.{headerBytes}
 use Rattle.samples.specs.Samples.{isWide, packed, noneAbove}
-use Rattle.raster.specs.Raster.{headRows, aboveRow, Within}
+use Rattle.raster.specs.Raster.{headRows, aboveRow, RasterLimits}
 use Rattle.pgm_write.specs.declared.Written.{Written}
 use Rattle.pgm_write.specs.declared.Written.the-variants as Written
 
 -- "the raster is written straight behind the header bytes already laid down"
-unfoldable pub fileOf : List ℕ → ℕ → ℕ → ℕ → List ℕ
+unfoldable pub fileOf : (pic : List ℕ) (w h m : ℕ) → List ℕ
 fileOf pic w h m = headerBytes w h m ++ packed (isWide m) pic
 
 -- 22, 23, 2 and 26: the refusals of a picture that is to be written, whatever its file's form
-unfoldable pub pictureRows : List ℕ → ℕ → ℕ → ℕ → List Row
-pictureRows pic w h m = headRows w h m ++ (lengthRow w h (length pic) ∷ aboveRow m pic ∷ [])
+unfoldable pub filePictureRows : (pic : List ℕ) (w h m : ℕ) → List Row
+filePictureRows pic w h m = headRows w h m ++ (lengthRow w h (length pic) ∷ aboveRow m pic ∷ [])
 
 -- "Write: 22, 23, 2, 26, 27.", of the file that is to be written
-unfoldable pub writtenRows : List ℕ → ℕ → ℕ → ℕ → List ℕ → ℕ → List Row
-writtenRows pic w h m file room = pictureRows pic w h m ++ (shortRow room (length file) ∷ [])
+unfoldable pub writtenRows : (pic : List ℕ) (w h m : ℕ) (file : List ℕ) (room : ℕ) → List Row
+writtenRows pic w h m file room = filePictureRows pic w h m ++ (shortRow room (length file) ∷ [])
 
 -- of the raw one
-abbrev pub writeRows : List ℕ → ℕ → ℕ → ℕ → ℕ → List Row
+abbrev pub writeRows : (pic : List ℕ) (w h m room : ℕ) → List Row
 writeRows pic w h m room = writtenRows pic w h m (fileOf pic w h m) room
 
 -- what the rows 22, 23, 2 and 26 tell where none applies: a picture of its size, none of it above maxval
-pub record Film (pic : List ℕ) (w h m : ℕ) : Type 0 where
-  pub within : Within w h m
+pub record WriteReady (pic : List ℕ) (w h m : ℕ) : Type 0 where
+  pub within : RasterLimits w h m
   pub whole : length pic ≡ w * h
   pub bounded : noneAbove m pic ≡ true
 
 -- what 27 tells besides: room for the whole file
 pub record WriteAsks (pic : List ℕ) (w h m : ℕ) (file : List ℕ) (room : ℕ) : Type 0 where
-  pub film : Film pic w h m
+  pub film : WriteReady pic w h m
   pub fitting : length file ≤ room
 
 -- document 01's value and number of write's answers: "the byte count", or a refusal
@@ -47,22 +47,22 @@ writtenSays (Written.Bytes n) = accepted n
 writtenSays (Written.Refused n) = refused n
 
 -- what the call leaves: its answer and the output
-pub record Wrote : Type 0 where
+pub record WriteOut : Type 0 where
   pub answer : Written
   pub out : List ℕ
 
 -- an answer and an output as one
-abbrev pub wroteAs : Written → List ℕ → Wrote
-wroteAs answer out = record { answer = answer; out = out }
+abbrev pub writeLeaves : Written → List ℕ → WriteOut
+writeLeaves answer out = record { answer = answer; out = out }
 
 -- the first row that applies, and the output stays as it was, else bytes at its front: "returns the byte count; bytes behind it keep their contents"
-abbrev pub wrote : List Row → List ℕ → List ℕ → Wrote
-wrote rows out bytes = unless (first rows) (λ n. wroteAs (Written.Refused n) out) (wroteAs (Written.Bytes (length bytes)) (onto out bytes))
+abbrev pub wrote : List Row → List ℕ → List ℕ → WriteOut
+wrote rows out bytes = unless (first rows) (λ n. writeLeaves (Written.Refused n) out) (writeLeaves (Written.Bytes (length bytes)) (onto out bytes))
 
 -- of the file that is to be written
-unfoldable pub writtenOf : List ℕ → ℕ → ℕ → ℕ → List ℕ → List ℕ → Wrote
+unfoldable pub writtenOf : (pic : List ℕ) (w h m : ℕ) (file out : List ℕ) → WriteOut
 writtenOf pic w h m file out = wrote (writtenRows pic w h m file (length out)) out file
 
 -- write: of the raw file
-abbrev pub writeOf : List ℕ → ℕ → ℕ → ℕ → List ℕ → Wrote
+abbrev pub writeOf : (pic : List ℕ) (w h m : ℕ) (out : List ℕ) → WriteOut
 writeOf pic w h m out = writtenOf pic w h m (fileOf pic w h m) out

@@ -3,7 +3,7 @@ ghost use mathlib.Core.Path.{_≡_};
 ghost use lib.ListN.{length};
 ghost use Rattle.lists.specs.Lists.{onto};
 ghost use Rattle.refuse.specs.Refuse.{first};
-ghost use Rattle.pgm_write.specs.Write.{fileOf, pictureRows, writeRows, WriteAsks, wroteAs, writeOf};
+ghost use Rattle.pgm_write.specs.Write.{fileOf, filePictureRows, writeRows, WriteAsks, writeLeaves, writeOf};
 
 // How many bytes were written, or the refusal.
 pub enum Written {
@@ -13,7 +13,7 @@ pub enum Written {
 
 // The first refusal of a picture that is to be written, whatever its file's form, else 0.
 pub fn picture_refusal(picture: &[u16], width: u32, height: u32, maxval: u32) -> u32
-    ensures { λ r. ⌜ r ≡ first (pictureRows (now (picture .entry)) width height maxval) ⌝ }
+    ensures { λ r. ⌜ r ≡ first (filePictureRows (now (picture .entry)) width height maxval) ⌝ }
 {
     let limit = raster::limit_refusal(width, height, maxval);
     if limit != 0 {
@@ -55,7 +55,7 @@ fn lay_file(picture: &[u16], width: u32, height: u32, maxval: u32, out: &mut [u8
 
 // Writes a picture as a raw PGM file at the front of out; bytes behind it keep their contents.
 pub fn write(picture: &[u16], width: u32, height: u32, maxval: u32, out: &mut [u8]) -> Written
-    ensures { λ r. ⌜ wroteAs r (now (out .exit)) ≡ writeOf (now (picture .entry)) width height maxval (now (out .entry)) ⌝ }
+    ensures { λ r. ⌜ writeLeaves r (now (out .exit)) ≡ writeOf (now (picture .entry)) width height maxval (now (out .entry)) ⌝ }
 {
     let refusal = write_refusal(picture, width, height, maxval, out.len());
     if refusal != 0 {

@@ -18,7 +18,7 @@ use Rattle.header.proofs.Grammar.{byte-at, drop-behind, all-first, white-run, w
 use Rattle.plain.specs.declared.Sample.{Sample}
 use Rattle.plain.specs.declared.Sample.the-variants as Sample
 use Rattle.plain.specs.declared.Scan.the-variants as Scan
-use Rattle.plain.specs.Plain.{endsAt, judgedOf, tokenOf, sampleOf, thenScan, scanOf, thenGreys, greysFrom}
+use Rattle.plain.specs.Plain.{endsAt, judgedSample, tokenOf, sampleOf, thenScan, scanOf, thenGreys, greysFrom}
 use Rattle.plain.specs.Grammar.{SampleIn, Samples}
 use Rattle.plain.proofs.Samples.{judged-grey, token-read, sample-token}
 
@@ -61,7 +61,7 @@ ends-digit {rest} (inr h) = white-not-digit (getD rest 0 0) h
 
 -- a sample that is read is one of the grammar
 pub sample-sound : (m : ℕ) (s : List ℕ) (at : ℕ) {v e : ℕ} → sampleOf m s at ≡ Sample.Grey v e → SampleIn m (drop at s) v (drop e s)
-unfolding sampleOf tokenOf judgedOf
+unfolding sampleOf tokenOf judgedSample
 sample-sound m s at {v} {e} q = go (digitsOf 5 (drop from s) 0 from) refl q
   where
     from : ℕ
@@ -97,7 +97,7 @@ sample-sound m s at {v} {e} q = go (digitsOf 5 (drop from s) 0 from) refl q
     both w k h true false c p n b q = absurd (let z : _≡_ {A = ℕ} 0 1 = cc in omega arith)
     both w k h false b c p n r q = absurd (let z : _≡_ {A = ℕ} 0 1 = cc in omega arith)
 
-    go : (x : Number) → digitsOf 5 (drop from s) 0 from ≡ x → judgedOf m s from x ≡ Sample.Grey v e → SampleIn m (drop at s) v (drop e s)
+    go : (x : Number) → digitsOf 5 (drop from s) 0 from ≡ x → judgedSample m s from x ≡ Sample.Grey v e → SampleIn m (drop at s) v (drop e s)
     go (Read w k) h q = both w k h (ltb from k) (endsAt s k) (leb w m) refl refl refl q
     go (Misfit n) h q = absurd (let z : _≡_ {A = ℕ} 0 1 = cc in omega arith)
 
@@ -130,7 +130,7 @@ sample-complete m s at {v} {rest} g = (end, sample-token m s at skip (token-read
         (ap (λ u. digitsOf 5 u 0 from) there
         ∙ (digits-run (g .digits) rest 5 0 from (g .allDigits) (g .fewDigits) (ends-digit (g .ends)) ∙ ap (λ x. Read x end) (g .value)))
 
-    grey : Sample.Grey v end ≡ judgedOf m s from (Read v end)
+    grey : Sample.Grey v end ≡ judgedSample m s from (Read v end)
     grey = judged-grey m s from v end (omega (arith, g .someDigits)) (ends-so s end behind (g .ends)) (g .most)
 
 -- ---- all samples

@@ -14,7 +14,7 @@ use Rattle.lists.specs.Lists.{onto}
 use Rattle.lists.proofs.Tabs.{and-left, and-right}
 use Rattle.header.specs.declared.Head.{Head}
 use Rattle.header.specs.declared.Head.the-variants as Head
-use Rattle.header.specs.Header.{fieldsOf, headerOf, headerBytes}
+use Rattle.header.specs.Header.{headFields, headerOf, headerBytes}
 use Rattle.header.proofs.Reading.{test-within, header-fields, fields-same}
 use Rattle.header.proofs.Grammar.{header-complete, header-longer, header-rest, header-sound}
 use Rattle.header.proofs.Refusals.{hash-complete, hash-sound}
@@ -44,7 +44,7 @@ head-short s l =
     none false = refl
 
 -- both are right: the numbers behind them are read as a raw file's
-pub head-fields : (s : List ℕ) {r : Head} → getD s 0 0 ≡ 80 → getD s 1 0 ≡ 50 → r ≡ fieldsOf s → r ≡ plainHeadOf s
+pub head-fields : (s : List ℕ) {r : Head} → getD s 0 0 ≡ 80 → getD s 1 0 ≡ 50 → r ≡ headFields s → r ≡ plainHeadOf s
 unfolding plainHeadOf
 head-fields s p q h =
     rw (eq-eqb (getD s 0 0) 80 p, eq-eqb (getD s 1 0) 50 q)

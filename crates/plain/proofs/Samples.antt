@@ -19,7 +19,7 @@ use Rattle.plain.specs.declared.Sample.{Sample}
 use Rattle.plain.specs.declared.Sample.the-variants as Sample
 use Rattle.plain.specs.declared.Scan.{Scan}
 use Rattle.plain.specs.declared.Scan.the-variants as Scan
-use Rattle.plain.specs.Plain.{endsAt, judgedOf, tokenOf, sampleOf, thenScan, scanOf, thenGreys, greysFrom, LayAsks}
+use Rattle.plain.specs.Plain.{endsAt, judgedSample, tokenOf, sampleOf, thenScan, scanOf, thenGreys, greysFrom, LayAsks}
 
 -- ---- where a sample may end
 
@@ -33,25 +33,25 @@ ends-byte s e l h = h ∙ rw (lt-leb (length s) e l) refl
 
 -- ---- one sample
 
-pub judged-none : (m : ℕ) (s : List ℕ) (from v e : ℕ) → e ≤ from → Sample.Refused 24 ≡ judgedOf m s from (Read v e)
-unfolding judgedOf
+pub judged-none : (m : ℕ) (s : List ℕ) (from v e : ℕ) → e ≤ from → Sample.Refused 24 ≡ judgedSample m s from (Read v e)
+unfolding judgedSample
 judged-none m s from v e l = rw (le-ltb from e l) refl
 
-pub judged-other : (m : ℕ) (s : List ℕ) (from v e : ℕ) → from < e → endsAt s e ≡ false → Sample.Refused 24 ≡ judgedOf m s from (Read v e)
-unfolding judgedOf
+pub judged-other : (m : ℕ) (s : List ℕ) (from v e : ℕ) → from < e → endsAt s e ≡ false → Sample.Refused 24 ≡ judgedSample m s from (Read v e)
+unfolding judgedSample
 judged-other m s from v e l h = rw (lt-ltb from e l, h) refl
 
-pub judged-above : (m : ℕ) (s : List ℕ) (from v e : ℕ) → from < e → endsAt s e ≡ true → m < v → Sample.Refused 26 ≡ judgedOf m s from (Read v e)
-unfolding judgedOf
+pub judged-above : (m : ℕ) (s : List ℕ) (from v e : ℕ) → from < e → endsAt s e ≡ true → m < v → Sample.Refused 26 ≡ judgedSample m s from (Read v e)
+unfolding judgedSample
 judged-above m s from v e l h a = rw (lt-ltb from e l, h, lt-leb v m a) refl
 
-pub judged-grey : (m : ℕ) (s : List ℕ) (from v e : ℕ) → from < e → endsAt s e ≡ true → v ≤ m → Sample.Grey v e ≡ judgedOf m s from (Read v e)
-unfolding judgedOf
+pub judged-grey : (m : ℕ) (s : List ℕ) (from v e : ℕ) → from < e → endsAt s e ≡ true → v ≤ m → Sample.Grey v e ≡ judgedSample m s from (Read v e)
+unfolding judgedSample
 judged-grey m s from v e l h a = rw (lt-ltb from e l, h, le-leb v m a) refl
 
-pub token-read : (m : ℕ) (s : List ℕ) (from : ℕ) {v e : ℕ} {r : Sample} → Read v e ≡ digitsOf 5 (drop from s) 0 from → r ≡ judgedOf m s from (Read v e) → r ≡ tokenOf m s from
+pub token-read : (m : ℕ) (s : List ℕ) (from : ℕ) {v e : ℕ} {r : Sample} → Read v e ≡ digitsOf 5 (drop from s) 0 from → r ≡ judgedSample m s from (Read v e) → r ≡ tokenOf m s from
 unfolding tokenOf
-token-read m s from q h = h ∙ ap (judgedOf m s from) q
+token-read m s from q h = h ∙ ap (judgedSample m s from) q
 
 pub token-misfit : (m : ℕ) (s : List ℕ) (from : ℕ) {n : ℕ} → Misfit n ≡ digitsOf 5 (drop from s) 0 from → Sample.Refused 24 ≡ tokenOf m s from
 token-misfit m s from {n} q = absurd (digits-never 5 (drop from s) 0 from n (sym q))
@@ -65,8 +65,8 @@ pub record InOrder (m : ℕ) (s : List ℕ) (v e : ℕ) : Type 0 where
   pub within : e ≤ length s
   pub most : v ≤ m
 
-judged-order : (m : ℕ) (s : List ℕ) (from : ℕ) (x : Number) {v e : ℕ} → ((w k : ℕ) → x ≡ Read w k → k ≤ length s) → judgedOf m s from x ≡ Sample.Grey v e → InOrder m s v e
-unfolding judgedOf
+judged-order : (m : ℕ) (s : List ℕ) (from : ℕ) (x : Number) {v e : ℕ} → ((w k : ℕ) → x ≡ Read w k → k ≤ length s) → judgedSample m s from x ≡ Sample.Grey v e → InOrder m s v e
+unfolding judgedSample
 judged-order m s from (Read w k) {v} {e} near q = go (ltb from k && endsAt s k) (leb w m) refl q
   where
     go : (a b : Bool) → leb w m ≡ b → cond a (cond b (Sample.Grey w k) (Sample.Refused 26)) (Sample.Refused 24) ≡ Sample.Grey v e → InOrder m s v e
@@ -86,8 +86,8 @@ sample-order m s at l q =
     q
 
 -- a refusal of a sample is 24 or 26, so above 0
-judged-number : (m : ℕ) (s : List ℕ) (from : ℕ) (x : Number) {n : ℕ} → judgedOf m s from x ≡ Sample.Refused n → 0 < n
-unfolding judgedOf
+judged-number : (m : ℕ) (s : List ℕ) (from : ℕ) (x : Number) {n : ℕ} → judgedSample m s from x ≡ Sample.Refused n → 0 < n
+unfolding judgedSample
 judged-number m s from (Read w k) {n} q = go (ltb from k && endsAt s k) (leb w m) q
   where
     go : (a b : Bool) → cond a (cond b (Sample.Grey w k) (Sample.Refused 26)) (Sample.Refused 24) ≡ Sample.Refused n → 0 < n
@@ -225,8 +225,8 @@ laid-first {count} {m} {s} {at} d asks =
     }
 
 -- digits that are read are the sample, unless it is refused
-judged-read : (m : ℕ) (s : List ℕ) (from v e : ℕ) {x : Sample} → x ≡ judgedOf m s from (Read v e) → ((n : ℕ) → Sample.Refused n ≡ x → ⊥) → Sample.Grey v e ≡ x
-unfolding judgedOf
+judged-read : (m : ℕ) (s : List ℕ) (from v e : ℕ) {x : Sample} → x ≡ judgedSample m s from (Read v e) → ((n : ℕ) → Sample.Refused n ≡ x → ⊥) → Sample.Grey v e ≡ x
+unfolding judgedSample
 judged-read m s from v e {x} q never = go (ltb from e && endsAt s e) (leb v m) q
   where
     go : (a b : Bool) → x ≡ cond a (cond b (Sample.Grey v e) (Sample.Refused 26)) (Sample.Refused 24) → Sample.Grey v e ≡ x

@@ -16,7 +16,7 @@ use Rattle.header.specs.Header.{isWhite, decimalOf}
 use Rattle.header.proofs.Reading.{tens}
 use Rattle.header.proofs.Writing.{count-most, count-least}
 use Rattle.header.proofs.Laws.{decimal-digits, decimal-value}
-use Rattle.plain.specs.Plain.{lineOf, linesOf}
+use Rattle.plain.specs.Plain.{sampleLine, linesOf}
 use Rattle.plain.specs.Grammar.{SampleIn, Samples}
 
 -- ---- the lines from the front
@@ -27,7 +27,7 @@ joined-cons zero f = sym (append-nil (f 0))
 joined-cons (suc n) f = ap (λ u. u ++ f (suc n)) (joined-cons n f) ∙ append-assoc (f 0) (joined n (λ i. f (suc i))) (f (suc n))
 
 -- the lines are those of the samples, one behind the other
-pub lines-joined : (pic : List ℕ) → linesOf pic ≡ joined (length pic) (λ i. lineOf (getD pic i 0))
+pub lines-joined : (pic : List ℕ) → linesOf pic ≡ joined (length pic) (λ i. sampleLine (getD pic i 0))
 unfolding linesOf
 lines-joined pic = refl
 
@@ -35,9 +35,9 @@ lines-nil : linesOf [] ≡ []
 unfolding linesOf joined
 lines-nil = refl
 
-lines-cons : (v : ℕ) (vs : List ℕ) → linesOf (v ∷ vs) ≡ lineOf v ++ linesOf vs
+lines-cons : (v : ℕ) (vs : List ℕ) → linesOf (v ∷ vs) ≡ sampleLine v ++ linesOf vs
 unfolding linesOf
-lines-cons v vs = joined-cons (length vs) (λ i. lineOf (getD (v ∷ vs) i 0))
+lines-cons v vs = joined-cons (length vs) (λ i. sampleLine (getD (v ∷ vs) i 0))
 
 -- ---- one line
 

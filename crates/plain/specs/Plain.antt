@@ -35,13 +35,13 @@ unfoldable pub endsAt : List ℕ → ℕ → Bool
 endsAt s e = leb (length s) e || isWhite (getD s e 0)
 
 -- "missing or not 1 to 5 digits (24) or above maxval (26)": digits that were read from a place on, as a sample
-unfoldable pub judgedOf : ℕ → List ℕ → ℕ → Number → Sample
-judgedOf m s from (Read v e) = cond (ltb from e && endsAt s e) (cond (leb v m) (Sample.Grey v e) (Sample.Refused 26)) (Sample.Refused 24)
-judgedOf m s from (Misfit n) = Sample.Refused 24
+unfoldable pub judgedSample : ℕ → List ℕ → ℕ → Number → Sample
+judgedSample m s from (Read v e) = cond (ltb from e && endsAt s e) (cond (leb v m) (Sample.Grey v e) (Sample.Refused 26)) (Sample.Refused 24)
+judgedSample m s from (Misfit n) = Sample.Refused 24
 
 -- the sample at the place `from`, behind white space
 unfoldable pub tokenOf : ℕ → List ℕ → ℕ → Sample
-tokenOf m s from = judgedOf m s from (digitsOf 5 (drop from s) 0 from)
+tokenOf m s from = judgedSample m s from (digitsOf 5 (drop from s) 0 from)
 
 -- the next sample from a place on: its grey and the place behind it, or its refusal
 unfoldable pub sampleOf : ℕ → List ℕ → ℕ → Sample
@@ -55,7 +55,7 @@ thenScan (Sample.Grey v e) k = k e
 thenScan (Sample.Refused n) k = Scan.Refused n
 
 -- n samples from a place on: where they end, or the refusal "at the first sample" that is not in order
-unfoldable pub scanOf : ℕ → ℕ → List ℕ → ℕ → Scan
+unfoldable pub scanOf : (n m : ℕ) (s : List ℕ) (at : ℕ) → Scan
 scanOf zero m s at = Scan.Done at
 scanOf (suc n) m s at = thenScan (sampleOf m s at) (scanOf n m s)
 
@@ -65,19 +65,19 @@ thenGreys (Sample.Grey v e) k = v ∷ k e
 thenGreys (Sample.Refused n) k = []
 
 -- the greys of n samples
-unfoldable pub greysFrom : ℕ → ℕ → List ℕ → ℕ → List ℕ
+unfoldable pub greysFrom : (n m : ℕ) (s : List ℕ) (at : ℕ) → List ℕ
 greysFrom zero m s at = []
 greysFrom (suc n) m s at = thenGreys (sampleOf m s at) (greysFrom n m s)
 
 -- ---- the writer
 
 -- "one sample and LF per line"
-abbrev pub lineOf : ℕ → List ℕ
-lineOf v = decimalOf 5 v ++ (10 ∷ [])
+abbrev pub sampleLine : ℕ → List ℕ
+sampleLine v = decimalOf 5 v ++ (10 ∷ [])
 
 -- the samples of a film, a line each
 unfoldable pub linesOf : List ℕ → List ℕ
-linesOf pic = joined (length pic) (λ i. lineOf (getD pic i 0))
+linesOf pic = joined (length pic) (λ i. sampleLine (getD pic i 0))
 
 -- ---- what the functions ask
 

@@ -9,9 +9,9 @@ abbrev pub twoOf : ℕ → List ℕ
 twoOf n = (48 + n / 10) ∷ (48 + n % 10) ∷ []
 
 -- these two bytes as one number
-abbrev pub pairOf : ℕ → ℕ
-pairOf n = 48 + n / 10 + (48 + n % 10) * 256
+abbrev pub pairWord : ℕ → ℕ
+pairWord n = 48 + n / 10 + (48 + n % 10) * 256
 
 -- of each number below 100
 unfoldable pub pairs100 : List ℕ
-pairs100 = tab 100 pairOf
+pairs100 = tab 100 pairWord

@@ -4,7 +4,7 @@ ghost use Prim.Native.Nat.{_+_, _≤_, _<_};
 ghost use lib.ListN.{length};
 ghost use Rattle.lists.specs.Lists.{onto, over};
 ghost use Rattle.header.specs.Header.{decimalOf};
-ghost use Rattle.plain.specs.Plain.{lineOf, linesOf};
+ghost use Rattle.plain.specs.Plain.{sampleLine, linesOf};
 ghost use Rattle.plain_lines.specs.Pairs.{pairs100, twoOf};
 
 // How many bytes the samples of a picture take, a line each.
@@ -46,7 +46,7 @@ fn lay_two(out: &mut [u8], at: usize, n: u32, pairs: &[u16])
 // Lays a sample of three digits down, and LF; hands back the place behind it.
 fn lay_three(out: &mut [u8], at: usize, v: u32, pairs: &[u16]) -> usize
     requires { ⌜ (100 ≤ v) × (v < 1000) × (at + 3 < length (now out)) × (now pairs ≡ pairs100) ⌝ }
-    ensures { λ r. ⌜ (now (out .exit) ≡ over (now (out .entry)) at (lineOf v)) × (r ≡ at + 4) ⌝ }
+    ensures { λ r. ⌜ (now (out .exit) ≡ over (now (out .entry)) at (sampleLine v)) × (r ≡ at + 4) ⌝ }
 {
     out[at] = (48 + v / 100) as u8;
     lay_two(out, at + 1, v % 100, pairs);
@@ -57,7 +57,7 @@ fn lay_three(out: &mut [u8], at: usize, v: u32, pairs: &[u16]) -> usize
 // The same of four digits.
 fn lay_four(out: &mut [u8], at: usize, v: u32, pairs: &[u16]) -> usize
     requires { ⌜ (1000 ≤ v) × (v < 10000) × (at + 4 < length (now out)) × (now pairs ≡ pairs100) ⌝ }
-    ensures { λ r. ⌜ (now (out .exit) ≡ over (now (out .entry)) at (lineOf v)) × (r ≡ at + 5) ⌝ }
+    ensures { λ r. ⌜ (now (out .exit) ≡ over (now (out .entry)) at (sampleLine v)) × (r ≡ at + 5) ⌝ }
 {
     lay_two(out, at, v / 100, pairs);
     lay_two(out, at + 2, v % 100, pairs);
@@ -68,7 +68,7 @@ fn lay_four(out: &mut [u8], at: usize, v: u32, pairs: &[u16]) -> usize
 // Lays a sample down, and LF; hands back the place behind it.
 fn lay_line(out: &mut [u8], at: usize, v: u32, pairs: &[u16]) -> usize
     requires { ⌜ (v < 100000) × (at + length (decimalOf 5 v) < length (now out)) × (now pairs ≡ pairs100) ⌝ }
-    ensures { λ r. ⌜ (now (out .exit) ≡ over (now (out .entry)) at (lineOf v)) × (r ≡ at + length (decimalOf 5 v) + 1) ⌝ }
+    ensures { λ r. ⌜ (now (out .exit) ≡ over (now (out .entry)) at (sampleLine v)) × (r ≡ at + length (decimalOf 5 v) + 1) ⌝ }
 {
     if v < 100 {
         return header::field(out, at, v, 10);

@@ -11,8 +11,8 @@ use Rattle.refuse.specs.Refuse.{Says, accepted}
 use Rattle.pgm.specs.Pgm.{sizesSays}
 use Rattle.pgm_greys.specs.declared.Turned.{Turned}
 use Rattle.pgm_greys.specs.declared.Turned.the-variants as Turned
-use Rattle.pgm_greys.specs.Greys.{turnedSays, greyedAs}
-use Rattle.pgm_write.specs.Write.{Film, fileOf, writtenSays, Wrote, wroteAs, writtenOf}
+use Rattle.pgm_greys.specs.Greys.{turnedSays, greysLeave}
+use Rattle.pgm_write.specs.Write.{WriteReady, fileOf, writtenSays, WriteOut, writeLeaves, writtenOf}
 use Rattle.pgm_write.proofs.Tables.{write-asks}
 use Rattle.plain.specs.Plain.{plainHeadOf}
 use Rattle.plain_read.specs.PlainRead.{plainReadAs, limitedOf}
@@ -34,13 +34,13 @@ raw c = fileOf (c .pixels) (c .width) (c .height) (c .maxval)
 abbrev plain : WriteCall → List ℕ
 plain c = plainFileOf (c .pixels) (c .width) (c .height) (c .maxval)
 
-module _ (c : WriteCall) (file : List ℕ) (ends : wroteAs (c .answer) (c .out′) ≡ writtenOf (c .pixels) (c .width) (c .height) (c .maxval) file (c .out)) where
+module _ (c : WriteCall) (file : List ℕ) (ends : writeLeaves (c .answer) (c .out′) ≡ writtenOf (c .pixels) (c .width) (c .height) (c .maxval) file (c .out)) where
   module _ {n : ℕ} (written : writtenSays (c .answer) ≡ accepted n) where
     laid : writtenSays (writtenOf (c .pixels) (c .width) (c .height) (c .maxval) file (c .out) .answer) ≡ accepted n
-    laid = sym (ap (λ (x : Wrote). writtenSays (x .answer)) ends) ∙ written
+    laid = sym (ap (λ (x : WriteOut). writtenSays (x .answer)) ends) ∙ written
 
     -- what was written is a film
-    film-of : Film (c .pixels) (c .width) (c .height) (c .maxval)
+    film-of : WriteReady (c .pixels) (c .width) (c .height) (c .maxval)
     film-of = write-asks (c .pixels) (c .width) (c .height) (c .maxval) file (length (c .out)) (written-none (c .pixels) (c .width) (c .height) (c .maxval) file (c .out) laid) .film
 
     -- the count is its file's
@@ -49,15 +49,15 @@ module _ (c : WriteCall) (file : List ℕ) (ends : wroteAs (c .answer) (c .out�
 
     -- and the bytes that it counts are the file
     file-of : take n (c .out′) ≡ file
-    file-of = ap (λ (x : Wrote). take n (x .out)) ends ∙ written-file (c .pixels) (c .width) (c .height) (c .maxval) file (c .out) laid
+    file-of = ap (λ (x : WriteOut). take n (x .out)) ends ∙ written-file (c .pixels) (c .width) (c .height) (c .maxval) file (c .out) laid
 
   -- a film is accepted in an output with room for its file
-  takes : Film (c .pixels) (c .width) (c .height) (c .maxval) → length file ≤ length (c .out) → writtenSays (c .answer) ≡ accepted (length file)
-  takes film room = ap (λ (x : Wrote). writtenSays (x .answer)) ends ∙ film-written (c .pixels) (c .width) (c .height) (c .maxval) file (c .out) film room .0
+  takes : WriteReady (c .pixels) (c .width) (c .height) (c .maxval) → length file ≤ length (c .out) → writtenSays (c .answer) ≡ accepted (length file)
+  takes film room = ap (λ (x : WriteOut). writtenSays (x .answer)) ends ∙ film-written (c .pixels) (c .width) (c .height) (c .maxval) file (c .out) film room .0
 
 -- a call of either writer ended with this form of file
 abbrev Laid : (List ℕ → ℕ → ℕ → ℕ → List ℕ) → WriteCall → Type 0
-Laid form c = wroteAs (c .answer) (c .out′) ≡ writtenOf (c .pixels) (c .width) (c .height) (c .maxval) (form (c .pixels) (c .width) (c .height) (c .maxval)) (c .out)
+Laid form c = writeLeaves (c .answer) (c .out′) ≡ writtenOf (c .pixels) (c .width) (c .height) (c .maxval) (form (c .pixels) (c .width) (c .height) (c .maxval)) (c .out)
 
 -- the film of a file that was written, written in the same form again, is the same bytes
 same-again : (form : List ℕ → ℕ → ℕ → ℕ → List ℕ) (a b : WriteCall) {n : ℕ} → Laid form a → writtenSays (a .answer) ≡ accepted n → Laid form b
@@ -84,7 +84,7 @@ sizes-same {w} {h} {m} {w′} {h′} {m′} p q =
     (ap (λ (x : ℕ × ℕ × ℕ). x .0) v, ap (λ (x : ℕ × ℕ × ℕ). x .1) v, ap (λ (x : ℕ × ℕ × ℕ). x .2) v)
 
 -- what read_plain left is a film
-plain-left : {r : PlainReadCall} {w h m : ℕ} → ReadsPlain r → sizesSays (r .answer) ≡ accepted (w, h, m) → Film (take (w * h) (r .target′)) w h m
+plain-left : {r : PlainReadCall} {w h m : ℕ} → ReadsPlain r → sizesSays (r .answer) ≡ accepted (w, h, m) → WriteReady (take (w * h) (r .target′)) w h m
 plain-left {r} {w} {h} {m} ran q =
     Left.plain-left (r .bytes) (r .target) (r .target′) w h m (sym (plain-read-ends ran) ∙ ap (λ a. plainReadAs a (r .target′)) (sizes-found-said (r .answer) q))
 
@@ -95,14 +95,14 @@ turned-done Turned.Done e = refl
 turned-done (Turned.Refused n) e = absurd (let z : _≡_ {A = ℕ} 0 1 = cc in omega arith)
 
 -- and so is what greys left
-raw-left : {g : GreysCall} → Greys g → turnedSays (g .answer) ≡ accepted tt → Film (take (g .width * g .height) (g .target′)) (g .width) (g .height) (g .maxval)
+raw-left : {g : GreysCall} → Greys g → turnedSays (g .answer) ≡ accepted tt → WriteReady (take (g .width * g .height) (g .target′)) (g .width) (g .height) (g .maxval)
 raw-left {g} ran q =
-    Left.raw-left (g .bytes) (g .start) (g .target) (g .target′) (g .width) (g .height) (g .maxval) (sym (greys-ends ran) ∙ ap (λ a. greyedAs a (g .target′)) (turned-done (g .answer) q))
+    Left.raw-left (g .bytes) (g .start) (g .target) (g .target′) (g .width) (g .height) (g .maxval) (sym (greys-ends ran) ∙ ap (λ a. greysLeave a (g .target′)) (turned-done (g .answer) q))
 
 -- ---- a film written as plain and read back
 
 module _ {c : WriteCall} {n : ℕ} (ran : WritesPlain c) (written : writtenSays (c .answer) ≡ accepted n) where
-  plain-film : Film (c .pixels) (c .width) (c .height) (c .maxval)
+  plain-film : WriteReady (c .pixels) (c .width) (c .height) (c .maxval)
   plain-film = film-of c (plain c) (plain-write-ends ran) written
 
   plain-file : take n (c .out′) ≡ plain c
@@ -203,7 +203,7 @@ pub raw-plain-raw : {a : WriteCall} {n : ℕ} {z : SizesCall} {k : RasterCall} {
 raw-plain-raw {a} {n} {z} {k} {g} {p} {j} {r} {b} way =
     same-again fileOf a b (write-ends (way .made .writes)) (way .made .written) (write-ends (way .again)) (home .0 ∙ there .0, home .1 ∙ there .1, home .2 ∙ there .2) same (way .wide)
   where
-    film : Film (a .pixels) (a .width) (a .height) (a .maxval)
+    film : WriteReady (a .pixels) (a .width) (a .height) (a .maxval)
     film = film-of a (raw a) (write-ends (way .made .writes)) (way .made .written)
 
     there : (p .width ≡ a .width) × (p .height ≡ a .height) × (p .maxval ≡ a .maxval)
@@ -242,7 +242,7 @@ pub plain-raw-plain : {a : WriteCall} {n : ℕ} {r : PlainReadCall} {c : WriteCa
 plain-raw-plain {a} {n} {r} {c} {j} {z} {k} {g} {b} way =
     same-again plainFileOf a b (plain-write-ends (way .makes)) (way .made) (plain-write-ends (way .again)) (home .0 ∙ there .0, home .1 ∙ there .1, home .2 ∙ there .2) same (way .wide)
   where
-    film : Film (a .pixels) (a .width) (a .height) (a .maxval)
+    film : WriteReady (a .pixels) (a .width) (a .height) (a .maxval)
     film = plain-film (way .makes) (way .made)
 
     back : (sizesSays (r .answer) ≡ accepted (a .width, a .height, a .maxval)) × (r .target′ ≡ onto (r .target) (a .pixels))

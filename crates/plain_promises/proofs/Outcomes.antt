@@ -11,11 +11,11 @@ use Rattle.lists.specs.Lists.{onto}
 use Rattle.refuse.specs.Refuse.{first, Says, accepted, refused, says}
 use Rattle.header.specs.declared.Head.{Head}
 use Rattle.header.specs.declared.Head.the-variants as Head
-use Rattle.raster.specs.Raster.{headRows, Within}
+use Rattle.raster.specs.Raster.{headRows, RasterLimits}
 use Rattle.pgm.specs.declared.Sizes.{Sizes}
 use Rattle.pgm.specs.declared.Sizes.the-variants as Sizes
 use Rattle.pgm.specs.Pgm.{sizesSays}
-use Rattle.pgm_write.specs.Write.{pictureRows, writtenSays, Wrote}
+use Rattle.pgm_write.specs.Write.{filePictureRows, writtenSays, WriteOut}
 use Rattle.plain.specs.Plain.{plainHeadOf, greysFrom}
 use Rattle.plain.specs.Grammar.{PlainHeader, PlainHash, PlainFile}
 use Rattle.plain.proofs.Heads.{head-complete, plain-hash-exactly, plain-refused-number, plain-other-exactly}
@@ -26,8 +26,8 @@ use Rattle.plain_write.specs.PlainWrite.{plainFileOf, plainWriteRows, plainWrit
 use Rattle.plain_write.proofs.Parts.{roomy}
 use Rattle.promises.proofs.Accepted.{says-refused, ByTable, table-says, table-kept}
 use Rattle.promises.proofs.Files.{write-table}
-use Rattle.promises.proofs.Runs.{SizesCall, WriteCall, write-given}
-use Rattle.plain_promises.proofs.Runs.{ReadsPlainSizes, plain-sizes-ends, PlainReadCall, plain-read-given, ReadsPlain, plain-read-ends, WritesPlain, plain-write-ends}
+use Rattle.promises.proofs.Runs.{SizesCall, WriteCall, write-arguments}
+use Rattle.plain_promises.proofs.Runs.{ReadsPlainSizes, plain-sizes-ends, PlainReadCall, plain-read-arguments, ReadsPlain, plain-read-ends, WritesPlain, plain-write-ends}
 
 -- ---- any two outcomes are equal
 
@@ -36,16 +36,16 @@ pub plain-sizes-determined : {c k : SizesCall} → ReadsPlainSizes c → ReadsPl
 plain-sizes-determined x y same = plain-sizes-ends x ∙ ap (λ s. limitedOf (plainHeadOf s)) same ∙ sym (plain-sizes-ends y)
 
 -- read_plain: one answer and one target for each file and target
-pub plain-read-determined : {r k : PlainReadCall} → ReadsPlain r → ReadsPlain k → plain-read-given r ≡ plain-read-given k → (r .answer ≡ k .answer) × (r .target′ ≡ k .target′)
+pub plain-read-determined : {r k : PlainReadCall} → ReadsPlain r → ReadsPlain k → plain-read-arguments r ≡ plain-read-arguments k → (r .answer ≡ k .answer) × (r .target′ ≡ k .target′)
 plain-read-determined x y same =
     let e = plain-read-ends x ∙ ap (λ g. plainOf (g .0) (g .1)) same ∙ sym (plain-read-ends y) in
     (ap (λ (z : PlainRead). z .answer) e, ap (λ (z : PlainRead). z .target) e)
 
 -- write_plain: one answer and one output for each picture, numbers and output
-pub plain-write-determined : {c k : WriteCall} → WritesPlain c → WritesPlain k → write-given c ≡ write-given k → (c .answer ≡ k .answer) × (c .out′ ≡ k .out′)
+pub plain-write-determined : {c k : WriteCall} → WritesPlain c → WritesPlain k → write-arguments c ≡ write-arguments k → (c .answer ≡ k .answer) × (c .out′ ≡ k .out′)
 plain-write-determined x y same =
     let e = plain-write-ends x ∙ ap (λ g. plainWriteOf (g .0) (g .1) (g .2) (g .3) (g .4)) same ∙ sym (plain-write-ends y) in
-    (ap (λ (z : Wrote). z .answer) e, ap (λ (z : Wrote). z .out) e)
+    (ap (λ (z : WriteOut). z .answer) e, ap (λ (z : WriteOut). z .out) e)
 
 -- ---- what plain_sizes says
 
@@ -113,11 +113,11 @@ plain-read-says-misfit {r} ran header hash =
 pub plain-write-says : {c : WriteCall} → WritesPlain c
     → writtenSays (c .answer)
     ≡ says (first (plainWriteRows (c .pixels) (c .width) (c .height) (c .maxval) (length (c .out)))) (length (plainFileOf (c .pixels) (c .width) (c .height) (c .maxval)))
-plain-write-says ran = ap (λ (x : Wrote). writtenSays (x .answer)) (plain-write-ends ran) ∙ table-says (write-table _ _ _ _ _ _)
+plain-write-says ran = ap (λ (x : WriteOut). writtenSays (x .answer)) (plain-write-ends ran) ∙ table-says (write-table _ _ _ _ _ _)
 
 -- 18 bytes and five for each pixel are room enough for any film: 22, 23, 2 and 26 alone decide
 pub plain-write-roomy : {c : WriteCall} → WritesPlain c → 18 + c .width * c .height * 5 ≤ length (c .out)
-    → writtenSays (c .answer) ≡ says (first (pictureRows (c .pixels) (c .width) (c .height) (c .maxval))) (length (plainFileOf (c .pixels) (c .width) (c .height) (c .maxval)))
+    → writtenSays (c .answer) ≡ says (first (filePictureRows (c .pixels) (c .width) (c .height) (c .maxval))) (length (plainFileOf (c .pixels) (c .width) (c .height) (c .maxval)))
 plain-write-roomy {c} ran l =
     plain-write-says ran ∙ ap (λ n. says n (length (plainFileOf (c .pixels) (c .width) (c .height) (c .maxval)))) (roomy (c .pixels) (c .width) (c .height) (c .maxval) (length (c .out)) l)
 
@@ -160,7 +160,7 @@ plain-read-refusal-keeps {r} n ran q =
 pub plain-write-refusal-keeps : {c : WriteCall} (n : ℕ) → WritesPlain c → writtenSays (c .answer) ≡ refused n → c .out′ ≡ c .out
 plain-write-refusal-keeps n ran q =
     let x = plain-write-ends ran in
-    ap (λ (y : Wrote). y .out) (x ∙ table-kept (write-table _ _ _ _ _ _) (sym (ap (λ (y : Wrote). writtenSays (y .answer)) x) ∙ q))
+    ap (λ (y : WriteOut). y .out) (x ∙ table-kept (write-table _ _ _ _ _ _) (sym (ap (λ (y : WriteOut). writtenSays (y .answer)) x) ∙ q))
 
 -- ---- which files are accepted
 
@@ -174,7 +174,7 @@ sizes-found-said (Sizes.Refused k) e = absurd (let z : _≡_ {A = ℕ} 0 1 = cc 
 
 module _ {r : PlainReadCall} {w h m : ℕ} (ran : ReadsPlain r) where
   -- a plain file of the grammar, in the limits of 22 and 23, is accepted where the target has room, and its greys stand at the target's front
-  pub plain-accepts : {vs : List ℕ} → PlainFile (r .bytes) w h m vs → Within w h m → w * h ≤ length (r .target)
+  pub plain-accepts : {vs : List ℕ} → PlainFile (r .bytes) w h m vs → RasterLimits w h m → w * h ≤ length (r .target)
       → (sizesSays (r .answer) ≡ accepted (w, h, m)) × (r .target′ ≡ onto (r .target) vs)
   unfolding sizesSays
   plain-accepts {vs} file within room =
@@ -182,10 +182,10 @@ module _ {r : PlainReadCall} {w h m : ℕ} (ran : ReadsPlain r) where
       (ap (λ (x : PlainRead). sizesSays (x .answer)) e, ap (λ (x : PlainRead). x .target) e)
 
   -- "numbers parted by white space, no comments, nothing but white space behind the last sample": nothing else is accepted
-  pub plain-exactly : (sizesSays (r .answer) ≡ accepted (w, h, m)) ↔ ((vs : List ℕ) × PlainFile (r .bytes) w h m vs × Within w h m × (w * h ≤ length (r .target)))
+  pub plain-exactly : (sizesSays (r .answer) ≡ accepted (w, h, m)) ↔ ((vs : List ℕ) × PlainFile (r .bytes) w h m vs × RasterLimits w h m × (w * h ≤ length (r .target)))
   plain-exactly = (there, λ x. plain-accepts (x .1) (x .2) (x .3) .0)
     where
-      there : sizesSays (r .answer) ≡ accepted (w, h, m) → (vs : List ℕ) × PlainFile (r .bytes) w h m vs × Within w h m × (w * h ≤ length (r .target))
+      there : sizesSays (r .answer) ≡ accepted (w, h, m) → (vs : List ℕ) × PlainFile (r .bytes) w h m vs × RasterLimits w h m × (w * h ≤ length (r .target))
       there q =
           let x = read-sound (r .bytes) (r .target) w h m (sym (plain-read-ends ran) ∙ ap (λ a. plainReadAs a (r .target′)) (sizes-found-said (r .answer) q)) in
           (x .pic, x .file, x .within, x .fitting)

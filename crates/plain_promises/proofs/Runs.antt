@@ -6,7 +6,7 @@ use mathlib.Core.Path.{_≡_}
 use denote.Ref.{now}
 use Rattle.refuse.specs.Run.{Run, Ran}
 use Rattle.pgm.specs.declared.Sizes.{Sizes}
-use Rattle.pgm_write.specs.Write.{wroteAs}
+use Rattle.pgm_write.specs.Write.{writeLeaves}
 use Rattle.plain.specs.Plain.{plainHeadOf}
 use Rattle.plain_read.specs.PlainRead.{plainReadAs, plainOf, limitedOf}
 use Rattle.plain_write.specs.PlainWrite.{plainWriteOf}
@@ -45,8 +45,8 @@ plain-read-values run =
     record { bytes = now bytes; target = now target; answer = run .answer; target′ = now target′ }
 
 -- what it is handed
-abbrev pub plain-read-given : PlainReadCall → List ℕ × List ℕ
-plain-read-given r = (r .bytes, r .target)
+abbrev pub plain-read-arguments : PlainReadCall → List ℕ × List ℕ
+plain-read-arguments r = (r .bytes, r .target)
 
 -- read_plain ran with these values
 abbrev pub ReadsPlain : PlainReadCall → Type 0
@@ -67,5 +67,5 @@ plain-write-values run =
 abbrev pub WritesPlain : WriteCall → Type 0
 WritesPlain = Ran plain-write-values
 
-pub plain-write-ends : {c : WriteCall} → WritesPlain c → wroteAs (c .answer) (c .out′) ≡ plainWriteOf (c .pixels) (c .width) (c .height) (c .maxval) (c .out)
+pub plain-write-ends : {c : WriteCall} → WritesPlain c → writeLeaves (c .answer) (c .out′) ≡ plainWriteOf (c .pixels) (c .width) (c .height) (c .maxval) (c .out)
 plain-write-ends ran = rw (ran .named) (ran .run .allowed)

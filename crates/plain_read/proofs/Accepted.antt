@@ -11,7 +11,7 @@ use Rattle.refuse.specs.Refuse.{first, unless}
 use Rattle.refuse.proofs.Walk.{none-first}
 use Rattle.header.specs.declared.Head.{Head}
 use Rattle.header.specs.declared.Head.the-variants as Head
-use Rattle.raster.specs.Raster.{headRows, Within}
+use Rattle.raster.specs.Raster.{headRows, RasterLimits}
 use Rattle.raster.proofs.Tables.{within-none}
 use Rattle.pgm.specs.declared.Sizes.the-variants as Sizes
 use Rattle.plain.specs.declared.Scan.the-variants as Scan
@@ -29,7 +29,7 @@ use Rattle.plain_read.proofs.Tables.{plain-asks, tail-white, samples-do
 pub record PlainFilm (s target left : List ℕ) (w h m : ℕ) : Type 0 where
   pub pic : List ℕ
   pub file : PlainFile s w h m pic
-  pub within : Within w h m
+  pub within : RasterLimits w h m
   pub fitting : w * h ≤ length target
   pub laid : left ≡ onto target pic
 

@@ -100,7 +100,7 @@ module _ (s : List ℕ) (w h m at : ℕ) (target : List ℕ) where
 pub lay-asks : (s : List ℕ) (w h m at room : ℕ) {n : ℕ} → at ≤ length s → n ≡ first (plainRows s w h m at room) → n ≡ 0 → LayAsks (w * h) m s at room
 lay-asks s w h m at room l e z =
     let x = plain-asks s w h m at room (sym e ∙ z) in
-    record { within = l; deep = x .within .brightest; end = x .end; sound = x .sound; fitting = x .fitting }
+    record { within = l; deep = x .within .maxval-most; end = x .end; sound = x .sound; fitting = x .fitting }
 
 -- ---- by the header
 

@@ -12,7 +12,7 @@ use Rattle.refuse.specs.Refuse.{Row, row, shortRow, first, unless}
 use Rattle.header.specs.declared.Head.{Head}
 use Rattle.header.specs.declared.Head.the-variants as Head
 use Rattle.header.specs.Header.{whiteOf}
-use Rattle.raster.specs.Raster.{headRows, Within}
+use Rattle.raster.specs.Raster.{headRows, RasterLimits}
 use Rattle.pgm.specs.declared.Sizes.{Sizes}
 use Rattle.pgm.specs.declared.Sizes.the-variants as Sizes
 use Rattle.plain.specs.declared.Scan.{Scan}
@@ -25,12 +25,12 @@ sampleRows (Scan.Done e) s = row 25 (not (eqb (whiteOf (drop e s) e) (length s))
 sampleRows (Scan.Refused n) s = row n true ∷ []
 
 -- 22 and 23 "as 01 does, then 27, then 24 or 26 at the first sample", and "then 25"
-unfoldable pub plainRows : List ℕ → ℕ → ℕ → ℕ → ℕ → ℕ → List Row
+unfoldable pub plainRows : (s : List ℕ) (w h m at room : ℕ) → List Row
 plainRows s w h m at room = headRows w h m ++ (shortRow room (w * h) ∷ sampleRows (scanOf (w * h) m s at) s)
 
 -- what the rows tell where none applies: samples that are in order, nothing but white space behind them, and room for their greys
 pub record PlainAsks (s : List ℕ) (w h m at room : ℕ) : Type 0 where
-  pub within : Within w h m
+  pub within : RasterLimits w h m
   pub fitting : w * h ≤ room
   pub end : ℕ
   pub sound : scanOf (w * h) m s at ≡ Scan.Done end
@@ -46,7 +46,7 @@ abbrev pub plainReadAs : Sizes → List ℕ → PlainRead
 plainReadAs answer target = record { answer = answer; target = target }
 
 -- a file whose header was found: the first row that applies, and the target as it was; else its sizes, and the greys at the target's front
-unfoldable pub samplesOf : List ℕ → ℕ → ℕ → ℕ → ℕ → List ℕ → PlainRead
+unfoldable pub samplesOf : (s : List ℕ) (w h m at : ℕ) (target : List ℕ) → PlainRead
 samplesOf s w h m at target =
     unless (first (plainRows s w h m at (length target))) (λ n. plainReadAs (Sizes.Refused n) target)
     (plainReadAs (Sizes.Found w h m) (onto target (greysFrom (w * h) m s at)))

@@ -12,39 +12,39 @@ use Rattle.samples.specs.Samples.{isWide, unpacked, noneAbove}
 use Rattle.samples.proofs.Bounds.{length-unpacked}
 use Rattle.pgm.specs.declared.Sizes.the-variants as Sizes
 use Rattle.pgm_greys.specs.declared.Turned.the-variants as Turned
-use Rattle.pgm_greys.specs.Greys.{turnRows, turnedOf, Greyed, greyedAs}
+use Rattle.pgm_greys.specs.Greys.{turnRows, turnedOf, GreysOut, greysLeave}
 use Rattle.pgm_greys.proofs.Tables.{grey-asks}
-use Rattle.pgm_write.specs.Write.{Film}
+use Rattle.pgm_write.specs.Write.{WriteReady}
 use Rattle.plain.proofs.Grammar.{samples-most}
 use Rattle.plain_read.specs.PlainRead.{plainReadAs, plainOf}
 use Rattle.plain_read.proofs.Accepted.{PlainFilm, read-sound}
 
 -- what stands at the target's front is the film that was laid there
-front-film : (target : List ℕ) {left pic : List ℕ} {w h m : ℕ} → left ≡ onto target pic → Film pic w h m → Film (take (w * h) left) w h m
+front-film : (target : List ℕ) {left pic : List ℕ} {w h m : ℕ} → left ≡ onto target pic → WriteReady pic w h m → WriteReady (take (w * h) left) w h m
 front-film target {left} {pic} {w} {h} q f = rw (ap (take (w * h)) q ∙ take-onto target pic (w * h) (f .whole)) f
 
 -- the film of a plain file that was accepted
-pub accepted-film : {s target left : List ℕ} {w h m : ℕ} (x : PlainFilm s target left w h m) → Film (x .pic) w h m
+pub accepted-film : {s target left : List ℕ} {w h m : ℕ} (x : PlainFilm s target left w h m) → WriteReady (x .pic) w h m
 unfolding noneAbove
 accepted-film {m = m} x = record { within = x .within; whole = x .file .count; bounded = samples-most m (x .pic) (x .file .rest) (x .file .samples) }
 
 -- of any plain file that was accepted
-pub plain-left : (s target left : List ℕ) (w h m : ℕ) → plainOf s target ≡ plainReadAs (Sizes.Found w h m) left → Film (take (w * h) left) w h m
+pub plain-left : (s target left : List ℕ) (w h m : ℕ) → plainOf s target ≡ plainReadAs (Sizes.Found w h m) left → WriteReady (take (w * h) left) w h m
 plain-left s target left w h m q = let x = read-sound s target w h m q in front-film target (x .laid) (accepted-film x)
 
 -- of any raster that was turned into greys
-pub raw-left : (s : List ℕ) (start : ℕ) (target left : List ℕ) (w h m : ℕ) → turnedOf s start w h m target ≡ greyedAs Turned.Done left → Film (take (w * h) left) w h m
+pub raw-left : (s : List ℕ) (start : ℕ) (target left : List ℕ) (w h m : ℕ) → turnedOf s start w h m target ≡ greysLeave Turned.Done left → WriteReady (take (w * h) left) w h m
 unfolding turnedOf
 raw-left s start target left w h m q = go (first (turnRows s start w h m (length target))) refl q
   where
     pic : List ℕ
     pic = unpacked (isWide m) (drop start s) (w * h)
 
-    go : (n : ℕ) → first (turnRows s start w h m (length target)) ≡ n → unless n (λ k. greyedAs (Turned.Refused k) target) (greyedAs Turned.Done (onto target pic)) ≡ greyedAs Turned.Done left
-        → Film (take (w * h) left) w h m
+    go : (n : ℕ) → first (turnRows s start w h m (length target)) ≡ n → unless n (λ k. greysLeave (Turned.Refused k) target) (greysLeave Turned.Done (onto target pic)) ≡ greysLeave Turned.Done left
+        → WriteReady (take (w * h) left) w h m
     go zero e q =
         let x = grey-asks s start w h m (length target) e in
-        front-film target (sym (ap (λ (g : Greyed). g .target) q)) (record { within = x .raster .within; whole = length-unpacked (isWide m) (drop start s) (w * h); bounded = x .bounded })
+        front-film target (sym (ap (λ (g : GreysOut). g .target) q)) (record { within = x .raster .within; whole = length-unpacked (isWide m) (drop start s) (w * h); bounded = x .bounded })
     go (suc n) e q =
-        let a : Turned.Refused (suc n) ≡ Turned.Done = ap (λ (g : Greyed). g .answer) q in
+        let a : Turned.Refused (suc n) ≡ Turned.Done = ap (λ (g : GreysOut). g .answer) q in
         absurd (let z : _≡_ {A = ℕ} 0 1 = cc in omega arith)

@@ -12,7 +12,7 @@ use Rattle.header.specs.Header.{headerBytes}
 use Rattle.header.proofs.Writing.{length-header}
 use Rattle.samples.proofs.Bounds.{bound-at}
 use Rattle.raster.proofs.Tables.{part-tail}
-use Rattle.pgm_write.specs.Write.{pictureRows, Film, WriteAsks}
+use Rattle.pgm_write.specs.Write.{filePictureRows, WriteReady, WriteAsks}
 use Rattle.pgm_write.proofs.Tables.{picture-film, written-front, written-fits}
 use Rattle.plain.specs.Plain.{plainHeadBytes, linesOf}
 use Rattle.plain.proofs.Heads.{length-head}
@@ -41,22 +41,22 @@ pub file-room : (e pic : List ℕ) (w h m : ℕ) {at room : ℕ} → WriteAsks p
 file-room e pic w h m {at} {room} t q n = rw (part-tail e at, length-drop) (omega (arith, file-fits t))
 
 -- a film's lines take at most five bytes a sample
-pub film-lines : {pic : List ℕ} {w h m : ℕ} → Film pic w h m → length (linesOf pic) ≤ length pic * 5
-film-lines {pic} {w} {h} {m} f = lines-few pic (λ k l. omega (arith, bound-at m pic (f .bounded) k l, f .within .brightest))
+pub film-lines : {pic : List ℕ} {w h m : ℕ} → WriteReady pic w h m → length (linesOf pic) ≤ length pic * 5
+film-lines {pic} {w} {h} {m} f = lines-few pic (λ k l. omega (arith, bound-at m pic (f .bounded) k l, f .within .maxval-most))
 
 -- and its file at most 18 bytes more
-pub file-most : {pic : List ℕ} {w h m : ℕ} → Film pic w h m → length (plainFileOf pic w h m) ≤ 18 + w * h * 5
+pub file-most : {pic : List ℕ} {w h m : ℕ} → WriteReady pic w h m → length (plainFileOf pic w h m) ≤ 18 + w * h * 5
 file-most {pic} {w} {h} {m} f =
     let t = f .within in
     let a = count-few w (omega (arith, t .widest)) in
     let b = count-few h (omega (arith, t .highest)) in
-    let e = count-few m (omega (arith, t .brightest)) in
+    let e = count-few m (omega (arith, t .maxval-most)) in
     rw (← f .whole) (omega (arith, length-file pic w h m, length-header w h m, film-lines f))
 
 -- with that much room 27 does not apply: the rows of the picture decide
-pub roomy : (pic : List ℕ) (w h m room : ℕ) → 18 + w * h * 5 ≤ room → first (plainWriteRows pic w h m room) ≡ first (pictureRows pic w h m)
-roomy pic w h m room l = go (first (pictureRows pic w h m)) refl
+pub roomy : (pic : List ℕ) (w h m room : ℕ) → 18 + w * h * 5 ≤ room → first (plainWriteRows pic w h m room) ≡ first (filePictureRows pic w h m)
+roomy pic w h m room l = go (first (filePictureRows pic w h m)) refl
   where
-    go : (n : ℕ) → first (pictureRows pic w h m) ≡ n → first (plainWriteRows pic w h m room) ≡ first (pictureRows pic w h m)
+    go : (n : ℕ) → first (filePictureRows pic w h m) ≡ n → first (plainWriteRows pic w h m room) ≡ first (filePictureRows pic w h m)
     go zero e = sym (written-fits pic w h m (plainFileOf pic w h m) room refl e (omega (arith, file-most (picture-film pic w h m e)))) ∙ sym e
     go (suc n) e = sym (written-front pic w h m (plainFileOf pic w h m) room refl (λ z. omega arith))

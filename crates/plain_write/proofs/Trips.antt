@@ -11,7 +11,7 @@ use Rattle.samples.specs.Samples.{noneAbove}
 use Rattle.raster.specs.Raster.{headRows}
 use Rattle.raster.proofs.Tables.{within-none}
 use Rattle.pgm.specs.declared.Sizes.the-variants as Sizes
-use Rattle.pgm_write.specs.Write.{Film}
+use Rattle.pgm_write.specs.Write.{WriteReady}
 use Rattle.plain.specs.Plain.{plainHeadOf, linesOf}
 use Rattle.plain.specs.Grammar.{PlainFile}
 use Rattle.plain.proofs.Heads.{head-complete, plain-header-written}
@@ -21,7 +21,7 @@ use Rattle.plain_read.proofs.Tables.{sizes-found}
 use Rattle.plain_read.proofs.Accepted.{read-complete}
 use Rattle.plain_write.specs.PlainWrite.{plainFileOf}
 
-module _ (pic : List ℕ) (w h m : ℕ) (film : Film pic w h m) where
+module _ (pic : List ℕ) (w h m : ℕ) (film : WriteReady pic w h m) where
   -- the file of a film is of the grammar, with the film's greys
   pub file-written : PlainFile (plainFileOf pic w h m) w h m pic
   unfolding plainFileOf noneAbove all
@@ -29,8 +29,8 @@ module _ (pic : List ℕ) (w h m : ℕ) (film : Film pic w h m) where
       let t = film .within in
       record {
         rest = linesOf pic;
-        header = plain-header-written w h m (linesOf pic) (omega (arith, t .widest)) (omega (arith, t .highest)) (omega (arith, t .brightest));
-        samples = lines-samples m (omega (arith, t .brightest)) pic [] refl (film .bounded);
+        header = plain-header-written w h m (linesOf pic) (omega (arith, t .widest)) (omega (arith, t .highest)) (omega (arith, t .maxval-most));
+        samples = lines-samples m (omega (arith, t .maxval-most)) pic [] refl (film .bounded);
         count = film .whole;
       }
 

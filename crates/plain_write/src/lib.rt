@@ -3,7 +3,7 @@ ghost use mathlib.Core.Path.{_≡_};
 ghost use lib.ListN.{length};
 ghost use Rattle.lists.specs.Lists.{onto};
 ghost use Rattle.refuse.specs.Refuse.{first};
-ghost use Rattle.pgm_write.specs.Write.{WriteAsks, wroteAs};
+ghost use Rattle.pgm_write.specs.Write.{WriteAsks, writeLeaves};
 ghost use Rattle.plain_write.specs.PlainWrite.{plainFileOf, plainWriteRows, plainWriteOf};
 use pgm_write::Written;
 
@@ -38,7 +38,7 @@ fn lay_file(picture: &[u16], width: u32, height: u32, maxval: u32, out: &mut [u8
 
 // Writes a picture as a plain PGM file at the front of out; bytes behind it keep their contents.
 pub fn write_plain(picture: &[u16], width: u32, height: u32, maxval: u32, out: &mut [u8]) -> Written
-    ensures { λ r. ⌜ wroteAs r (now (out .exit)) ≡ plainWriteOf (now (picture .entry)) width height maxval (now (out .entry)) ⌝ }
+    ensures { λ r. ⌜ writeLeaves r (now (out .exit)) ≡ plainWriteOf (now (picture .entry)) width height maxval (now (out .entry)) ⌝ }
 {
     let refusal = write_refusal(picture, width, height, maxval, out.len());
     if refusal != 0 {

@@ -12,10 +12,10 @@ use Rattle.settings.specs.declared.Settings.{Settings}
 use Rattle.settings.specs.declared.Footer.{Footer}
 use Rattle.settings.specs.declared.MapRecord.{MapRecord}
 use Rattle.settings.specs.Settings.{binsOf, recordOf, clipOne, Tiled}
-use Rattle.tiles.specs.Tiles.{mappings, spents, footOf, FilmAsks, Work, ListAsks, TilesDone}
+use Rattle.tiles.specs.Tiles.{mappings, spents, footOf, FilmFooterAsks, Work, MapTilesAsks, TilesDone}
 use Rattle.tiles.proofs.Footers.{film-asks}
 use Rattle.prepare.specs.declared.Prepared.{Prepared}
-use Rattle.prepare.specs.Prepare.{preparedWith, preparedNot, prepareRows, Ended, ending, preparedOf, prepareOf}
+use Rattle.prepare.specs.Prepare.{preparedWith, preparedNot, prepareRows, PrepareOut, prepareLeaves, preparedOf, prepareOf}
 use Rattle.prepare.proofs.Table.{work, table-listed}
 
 -- ---- what the work asks, once none of the rows applies
@@ -30,11 +30,11 @@ module _ (w h : ℕ) (pic : List ℕ) (s : Settings) (room scratch list : ℕ) {
   asks-record = asks-work .ready .tiled
 
   -- the footer
-  pub asks-foot : FilmAsks w h s
+  pub asks-foot : FilmFooterAsks w h s
   asks-foot = film-asks (asks-work .ready)
 
   -- the tiles
-  pub asks-tiles : {o : Bool} → o ≡ clipOne (s .clip) → o ≡ false → ListAsks w h pic s room scratch list
+  pub asks-tiles : {o : Bool} → o ≡ clipOne (s .clip) → o ≡ false → MapTilesAsks w h pic s room scratch list
   asks-tiles q f = record { film = record { work = asks-work; changes = sym q ∙ f }; pairs = table-listed w h pic s room scratch list (sym e ∙ z) }
 
 -- ---- the endings
@@ -42,26 +42,26 @@ module _ (w h : ℕ) (pic : List ℕ) (s : Settings) (room scratch list : ℕ) {
 module _ (film w h : ℕ) (pic : List ℕ) (s : Settings) (m t n : List ℕ) where
   -- a refusal, as it was worked out
   pub ends-refused : {r : ℕ} → r ≡ first (prepareRows w h pic s (length m) (length t) (length n)) → (r ≡ 0 → ⊥)
-      → ending (preparedNot r) m t n ≡ prepareOf film w h pic s m t n
+      → prepareLeaves (preparedNot r) m t n ≡ prepareOf film w h pic s m t n
   unfolding prepareOf
   ends-refused {r} e z =
-      unless-refused r (λ k. ending (preparedNot k) m t n) (preparedOf film w h pic s m t n) z
-      ∙ ap (λ i. unless i (λ k. ending (preparedNot k) m t n) (preparedOf film w h pic s m t n)) e
+      unless-refused r (λ k. prepareLeaves (preparedNot k) m t n) (preparedOf film w h pic s m t n) z
+      ∙ ap (λ i. unless i (λ k. prepareLeaves (preparedNot k) m t n) (preparedOf film w h pic s m t n)) e
 
   -- the same of the answer that `not_prepared` gives
   pub ends-not : {r : ℕ} {p : Prepared} → r ≡ first (prepareRows w h pic s (length m) (length t) (length n)) → (r ≡ 0 → ⊥) → p ≡ preparedNot r
-      → ending p m t n ≡ prepareOf film w h pic s m t n
-  ends-not e z q = ap (λ p. ending p m t n) q ∙ ends-refused e z
+      → prepareLeaves p m t n ≡ prepareOf film w h pic s m t n
+  ends-not e z q = ap (λ p. prepareLeaves p m t n) q ∙ ends-refused e z
 
   -- no refusal
   pub ends-done : {r : ℕ} → r ≡ first (prepareRows w h pic s (length m) (length t) (length n)) → r ≡ 0
       → preparedOf film w h pic s m t n ≡ prepareOf film w h pic s m t n
   unfolding prepareOf
-  ends-done {r} e z = ap (λ i. unless i (λ k. ending (preparedNot k) m t n) (preparedOf film w h pic s m t n)) (sym z ∙ e)
+  ends-done {r} e z = ap (λ i. unless i (λ k. prepareLeaves (preparedNot k) m t n) (preparedOf film w h pic s m t n)) (sym z ∙ e)
 
   -- what it leaves then, from the mappings and the list's entries however they were made
   pub prepared-as : {maps pairs : List ℕ} → maps ≡ mappings w h pic s → pairs ≡ spents w h pic s
-      → _≡_ {A = Ended}
+      → _≡_ {A = PrepareOut}
       record {
         answer = preparedWith (recordOf film w h s) (footOf w h s);
         map = cond (clipOne (s .clip)) m (onto m maps);
@@ -75,7 +75,7 @@ module _ (film w h : ℕ) (pic : List ℕ) (s : Settings) (m t n : List ℕ) whe
   -- at the factor 1.0 the buffers and the list stay
   pub ends-one : {r : ℕ} {kept : MapRecord} {foot : Footer} {o : Bool} → r ≡ first (prepareRows w h pic s (length m) (length t) (length n)) → r ≡ 0
       → foot ≡ footOf w h s → kept ≡ recordOf film w h s → o ≡ clipOne (s .clip) → o ≡ true
-      → ending (preparedWith kept foot) m t n ≡ prepareOf film w h pic s m t n
+      → prepareLeaves (preparedWith kept foot) m t n ≡ prepareOf film w h pic s m t n
   unfolding preparedOf
   ends-one e z f k c y =
       let one : clipOne (s .clip) ≡ true = sym c ∙ y in
@@ -85,7 +85,7 @@ module _ (film w h : ℕ) (pic : List ℕ) (s : Settings) (m t n : List ℕ) whe
   pub ends-well : {r : ℕ} {kept : MapRecord} {foot : Footer} {o : Bool} {m′ t′ n′ : List ℕ} → r ≡ first (prepareRows w h pic s (length m) (length t) (length n)) → r ≡ 0
       → foot ≡ footOf w h s → kept ≡ recordOf film w h s → o ≡ clipOne (s .clip) → o ≡ false
       → TilesDone w h pic s m m′ t t′ n n′
-      → ending (preparedWith kept foot) m′ t′ n′ ≡ prepareOf film w h pic s m t n
+      → prepareLeaves (preparedWith kept foot) m′ t′ n′ ≡ prepareOf film w h pic s m t n
   unfolding preparedOf
   ends-well e z f k c y done =
       let one : clipOne (s .clip) ≡ false = sym c ∙ y in

@@ -18,10 +18,10 @@ use Rattle.settings.specs.declared.Footer.{Footer}
 use Rattle.settings.specs.Settings.{entriesOf, clipOne, Ready}
 use Rattle.render.specs.Render.{renderOf, whole, Mapped, Shown}
 use Rattle.render.proofs.Laws.{render-front, ready-mapped}
-use Rattle.tiles.specs.Tiles.{mappings, footOf, Work, TilesAsk, TilesDone}
+use Rattle.tiles.specs.Tiles.{mappings, footOf, Work, TilesReady, TilesDone}
 use Rattle.tiles.proofs.Films.{length-mappings, mappings-within}
 use Rattle.prepare.specs.declared.Enhanced.the-variants as Enhanced
-use Rattle.prepare.specs.Prepare.{enhanceRows, overing, enhancedOf, enhanceOf}
+use Rattle.prepare.specs.Prepare.{enhanceRows, enhanceLeaves, enhancedOf, enhanceOf}
 use Rattle.prepare.proofs.Table.{over-work}
 
 -- ---- what rendering asks, once the mappings are laid down
@@ -32,7 +32,7 @@ whole-shown {w} {h} {pic} {s} {room} work =
     let ready : Ready w h (length pic) s room = work .ready in
     record { across = omega arith; down = omega arith; size = ready .whole ∙ mul-comm w h; greys = work .greys }
 
-module _ (m : List ℕ) {w h : ℕ} {pic : List ℕ} {s : Settings} {scratch : ℕ} (asks : TilesAsk w h pic s (length m) scratch) where
+module _ (m : List ℕ) {w h : ℕ} {pic : List ℕ} {s : Settings} {scratch : ℕ} (asks : TilesReady w h pic s (length m) scratch) where
   -- the front of the map buffer holds the mappings
   pub laid-front : {n : List ℕ} → n ≡ onto m (mappings w h pic s) → take (entriesOf s) n ≡ mappings w h pic s
   laid-front e = ap (take (entriesOf s)) e ∙ take-onto m (mappings w h pic s) (entriesOf s) (length-mappings w h pic s)
@@ -53,7 +53,7 @@ module _ (m : List ℕ) {w h : ℕ} {pic : List ℕ} {s : Settings} {scratch : �
       all-taken = take-all (entriesOf s) (mappings w h pic s) (omega (arith, length-mappings w h pic s))
 
 -- what `render` asks
-pub asks-render : {w h : ℕ} {pic : List ℕ} {s : Settings} {m t n u l l′ : List ℕ} → TilesAsk w h pic s (length m) (length t) → TilesDone w h pic s m n t u l l′
+pub asks-render : {w h : ℕ} {pic : List ℕ} {s : Settings} {m t n u l l′ : List ℕ} → TilesReady w h pic s (length m) (length t) → TilesDone w h pic s m n t u l l′
     → Mapped w h s n × Shown w h s (whole w h) pic
 asks-render {m = m} asks done = (laid-mapped m asks (done .map), whole-shown (asks .work))
 
@@ -62,21 +62,21 @@ asks-render {m = m} asks done = (laid-mapped m asks (done .map), whole-shown (as
 module _ (w h : ℕ) (pic : List ℕ) (s : Settings) (m t : List ℕ) where
   -- a refusal, as it was worked out
   pub over-refused : {r : ℕ} → r ≡ first (enhanceRows w h pic s (length m) (length t)) → (r ≡ 0 → ⊥)
-      → overing (Enhanced.Refused r) pic m t ≡ enhanceOf w h pic s m t
+      → enhanceLeaves (Enhanced.Refused r) pic m t ≡ enhanceOf w h pic s m t
   unfolding enhanceOf
   over-refused {r} e z =
-      unless-refused r (λ n. overing (Enhanced.Refused n) pic m t) (enhancedOf w h pic s m t) z
-      ∙ ap (λ k. unless k (λ n. overing (Enhanced.Refused n) pic m t) (enhancedOf w h pic s m t)) e
+      unless-refused r (λ n. enhanceLeaves (Enhanced.Refused n) pic m t) (enhancedOf w h pic s m t) z
+      ∙ ap (λ k. unless k (λ n. enhanceLeaves (Enhanced.Refused n) pic m t) (enhancedOf w h pic s m t)) e
 
   -- no refusal
   pub over-done : {r : ℕ} → r ≡ first (enhanceRows w h pic s (length m) (length t)) → r ≡ 0 → enhancedOf w h pic s m t ≡ enhanceOf w h pic s m t
   unfolding enhanceOf
-  over-done {r} e z = ap (λ k. unless k (λ n. overing (Enhanced.Refused n) pic m t) (enhancedOf w h pic s m t)) (sym z ∙ e)
+  over-done {r} e z = ap (λ k. unless k (λ n. enhanceLeaves (Enhanced.Refused n) pic m t) (enhancedOf w h pic s m t)) (sym z ∙ e)
 
   -- "Factor 1.0: nothing changes."
   pub over-one : {r : ℕ} {foot : Footer} {o : Bool} → r ≡ first (enhanceRows w h pic s (length m) (length t)) → r ≡ 0
       → foot ≡ footOf w h s → o ≡ clipOne (s .clip) → o ≡ true
-      → overing (Enhanced.Done foot) pic m t ≡ enhanceOf w h pic s m t
+      → enhanceLeaves (Enhanced.Done foot) pic m t ≡ enhanceOf w h pic s m t
   unfolding enhancedOf
   over-one e z f c y =
       let one : clipOne (s .clip) ≡ true = sym c ∙ y in
@@ -86,9 +86,9 @@ module _ (w h : ℕ) (pic : List ℕ) (s : Settings) (m t : List ℕ) where
   pub over-well : {r : ℕ} {foot : Footer} {o : Bool} {ys m′ t′ n n′ : List ℕ} → r ≡ first (enhanceRows w h pic s (length m) (length t)) → r ≡ 0
       → foot ≡ footOf w h s → o ≡ clipOne (s .clip) → o ≡ false
       → TilesDone w h pic s m m′ t t′ n n′ → ys ≡ renderOf w h s m′ (whole w h) pic
-      → overing (Enhanced.Done foot) ys m′ t′ ≡ enhanceOf w h pic s m t
+      → enhanceLeaves (Enhanced.Done foot) ys m′ t′ ≡ enhanceOf w h pic s m t
   unfolding enhancedOf
   over-well e z f c y done g =
       let one : clipOne (s .clip) ≡ false = sym c ∙ y in
-      let asks : TilesAsk w h pic s (length m) (length t) = record { work = over-work w h pic s (length m) (length t) (sym e ∙ z); changes = one } in
+      let asks : TilesReady w h pic s (length m) (length t) = record { work = over-work w h pic s (length m) (length t) (sym e ∙ z); changes = one } in
       rw (f, laid-render m asks (done .map) g, done .map, done .scratch, one) refl ∙ over-done e z

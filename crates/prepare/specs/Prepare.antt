@@ -28,11 +28,11 @@ unfoldable pub listedRows : List ℕ → Settings → ℕ → ℕ → List Row
 listedRows pic s scratch list = scratchRow scratch (binsOf s) ∷ listRow s list ∷ outsideRow pic s ∷ []
 
 -- "Prepare and enhance: 1 to 14 upward", of which order 2 strikes 14; 31 stands behind 9: enhance, which is lent no list
-unfoldable pub enhanceRows : ℕ → ℕ → List ℕ → Settings → ℕ → ℕ → List Row
+unfoldable pub enhanceRows : (w h : ℕ) (pic : List ℕ) (s : Settings) (room scratch : ℕ) → List Row
 enhanceRows w h pic s room scratch = sharedRows w h (length pic) s room ++ workRows pic s scratch
 
 -- and prepare, with 32
-unfoldable pub prepareRows : ℕ → ℕ → List ℕ → Settings → ℕ → ℕ → ℕ → List Row
+unfoldable pub prepareRows : (w h : ℕ) (pic : List ℕ) (s : Settings) (room scratch list : ℕ) → List Row
 prepareRows w h pic s room scratch list = sharedRows w h (length pic) s room ++ listedRows pic s scratch list
 
 -- ---- what a call leaves in lent memory: "Factor 1.0: .. map and scratch stay as they were", and so does order 7's list
@@ -72,20 +72,20 @@ enhancedSays (Enhanced.Refused n) = refused n
 -- ---- prepare
 
 -- what prepare leaves: its answer, the map buffer, the scratch and the list
-pub record Ended : Type 0 where
+pub record PrepareOut : Type 0 where
   pub answer : Prepared
   pub map : List ℕ
   pub scratch : List ℕ
   pub list : List ℕ
 
 -- the answer, the map buffer, the scratch and the list at the end, as prepare leaves them
-abbrev pub ending : Prepared → List ℕ → List ℕ → List ℕ → Ended
-ending r m t n = record { answer = r; map = m; scratch = t; list = n }
+abbrev pub prepareLeaves : Prepared → List ℕ → List ℕ → List ℕ → PrepareOut
+prepareLeaves r m t n = record { answer = r; map = m; scratch = t; list = n }
 
 -- "the map buffer's first (grid across) x (grid down) x B entries are the mappings ..; the first B scratch entries are zero;
 -- all other entries keep their contents. It returns the map record and a footer record"; "Factor 1.0: .. map and scratch stay as they were";
 -- order 7: "one more lent list, in which each tile in row order has two entries .. at factor 1.0 the list keeps its contents, as do entries behind the last tile"
-unfoldable pub preparedOf : ℕ → ℕ → ℕ → List ℕ → Settings → List ℕ → List ℕ → List ℕ → Ended
+unfoldable pub preparedOf : (film w h : ℕ) (pic : List ℕ) (s : Settings) (m t n : List ℕ) → PrepareOut
 preparedOf film w h pic s m t n =
     record {
       answer = preparedWith (recordOf film w h s) (footOf w h s);
@@ -95,35 +95,35 @@ preparedOf film w h pic s m t n =
     }
 
 -- "The first that applies is given", and all memory stays as it was; where none applies, prepare does its work
-unfoldable pub prepareOf : ℕ → ℕ → ℕ → List ℕ → Settings → List ℕ → List ℕ → List ℕ → Ended
+unfoldable pub prepareOf : (film w h : ℕ) (pic : List ℕ) (s : Settings) (m t n : List ℕ) → PrepareOut
 prepareOf film w h pic s m t n =
-    unless (first (prepareRows w h pic s (length m) (length t) (length n))) (λ k. ending (preparedNot k) m t n) (preparedOf film w h pic s m t n)
+    unless (first (prepareRows w h pic s (length m) (length t) (length n))) (λ k. prepareLeaves (preparedNot k) m t n) (preparedOf film w h pic s m t n)
 
 -- ---- enhance
 
 -- what enhance leaves: its answer, the picture, the map buffer and the scratch
-pub record Over : Type 0 where
+pub record EnhanceOut : Type 0 where
   pub answer : Enhanced
   pub picture : List ℕ
   pub map : List ℕ
   pub scratch : List ℕ
 
 -- the answer, the picture, the map buffer and the scratch at the end, as enhance leaves them
-abbrev pub overing : Enhanced → List ℕ → List ℕ → List ℕ → Over
-overing r pic m t = record { answer = r; picture = pic; map = m; scratch = t }
+abbrev pub enhanceLeaves : Enhanced → List ℕ → List ℕ → List ℕ → EnhanceOut
+enhanceLeaves r pic m t = record { answer = r; picture = pic; map = m; scratch = t }
 
 -- what a call leaves that writes "to a separate picture": the answer, which is enhance's, the target and the scratch
-pub record Painted : Type 0 where
+pub record PaintOut : Type 0 where
   pub answer : Enhanced
   pub target : List ℕ
   pub scratch : List ℕ
 
 -- the answer, the target and the scratch at the end, as such a call leaves them
-abbrev pub painting : Enhanced → List ℕ → List ℕ → Painted
-painting r o t = record { answer = r; target = o; scratch = t }
+abbrev pub paintLeaves : Enhanced → List ℕ → List ℕ → PaintOut
+paintLeaves r o t = record { answer = r; target = o; scratch = t }
 
 -- "the same buffers and footer, and the picture rendered. Factor 1.0: nothing changes."
-unfoldable pub enhancedOf : ℕ → ℕ → List ℕ → Settings → List ℕ → List ℕ → Over
+unfoldable pub enhancedOf : (w h : ℕ) (pic : List ℕ) (s : Settings) (m t : List ℕ) → EnhanceOut
 enhancedOf w h pic s m t =
     record {
       answer = Enhanced.Done (footOf w h s);
@@ -133,6 +133,6 @@ enhancedOf w h pic s m t =
     }
 
 -- the refusals are prepare's but for 32, since enhance is lent no list, and leave the picture and all memory as they were; where none applies, enhance does its work
-unfoldable pub enhanceOf : ℕ → ℕ → List ℕ → Settings → List ℕ → List ℕ → Over
+unfoldable pub enhanceOf : (w h : ℕ) (pic : List ℕ) (s : Settings) (m t : List ℕ) → EnhanceOut
 enhanceOf w h pic s m t =
-    unless (first (enhanceRows w h pic s (length m) (length t))) (λ n. overing (Enhanced.Refused n) pic m t) (enhancedOf w h pic s m t)
+    unless (first (enhanceRows w h pic s (length m) (length t))) (λ n. enhanceLeaves (Enhanced.Refused n) pic m t) (enhancedOf w h pic s m t)

@@ -2,7 +2,7 @@
 ghost use mathlib.Core.Path.{_≡_};
 ghost use Prim.Native.Nat.{_≤_};
 ghost use Rattle.refuse.specs.Refuse.{first};
-ghost use Rattle.prepare.specs.Prepare.{listedRows, prepareRows, prepareOf, enhanceOf, ending, overing, preparedNot};
+ghost use Rattle.prepare.specs.Prepare.{listedRows, prepareRows, prepareOf, enhanceOf, prepareLeaves, enhanceLeaves, preparedNot};
 use settings::Footer;
 use settings::MapRecord;
 use settings::Settings;
@@ -84,7 +84,7 @@ pub fn prepare(
     scratch: &mut [u32],
     list: &mut [u64],
 ) -> Prepared
-    ensures { λ r. ⌜ ending r (now (map .exit)) (now (scratch .exit)) (now (list .exit)) ≡ prepareOf film width height (now (picture .entry)) s (now (map .entry)) (now (scratch .entry)) (now (list .entry)) ⌝ }
+    ensures { λ r. ⌜ prepareLeaves r (now (map .exit)) (now (scratch .exit)) (now (list .exit)) ≡ prepareOf film width height (now (picture .entry)) s (now (map .entry)) (now (scratch .entry)) (now (list .entry)) ⌝ }
 {
     let refused = refusal(
         width,
@@ -124,7 +124,7 @@ pub fn enhance(
     map: &mut [u16],
     scratch: &mut [u32],
 ) -> Enhanced
-    ensures { λ r. ⌜ overing r (now (picture .exit)) (now (map .exit)) (now (scratch .exit)) ≡ enhanceOf width height (now (picture .entry)) s (now (map .entry)) (now (scratch .entry)) ⌝ }
+    ensures { λ r. ⌜ enhanceLeaves r (now (picture .exit)) (now (map .exit)) (now (scratch .exit)) ≡ enhanceOf width height (now (picture .entry)) s (now (map .entry)) (now (scratch .entry)) ⌝ }
 {
     // no list is lent, and none is too short: this one has two entries for each of 16 x 16 tiles
     let mut list = [0u64; 512];

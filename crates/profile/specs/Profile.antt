@@ -26,7 +26,7 @@ profileRows s =
     ∷ []
 
 -- the rows 1 to 9, 31 and 10, then 30, then 11
-unfoldable pub byteRows : ℕ → ℕ → ℕ → Settings → ℕ → List Row
+unfoldable pub byteRows : (w h size : ℕ) (s : Settings) (room : ℕ) → List Row
 byteRows w h size s room = settingRows w h size s ++ (profileRows s ++ roomRows s room)
 
 -- what a call knows of settings inside the profile

@@ -13,14 +13,13 @@ use Rattle.settings.specs.declared.Window.{Window}
 use Rattle.settings.specs.Settings.{recordOf}
 use Rattle.prepare.specs.declared.Enhanced.the-variants as Enhanced
 use Rattle.tiles.specs.Tiles.{footOf, Work}
-use Rattle.prepare.specs.Prepare.{preparedNot, enhanceRows, prepareRows, preparedSays, enhancedSays, Ended, ending, preparedOf, prepareOf, Over, overing, enhancedOf, enhanceOf}
+use Rattle.prepare.specs.Prepare.{preparedNot, enhanceRows, prepareRows, preparedSays, enhancedSays, PrepareOut, prepareLeaves, preparedOf, prepareOf, EnhanceOut, enhanceLeaves, enhancedOf, enhanceOf}
 use Rattle.prepare.proofs.Table.{work, over-work}
 use Rattle.prepare.proofs.Endings.{ends-refused, ends-done}
 use Rattle.prepare.proofs.Renders.{over-refused, over-done}
 use Rattle.draw.specs.declared.Drawn.the-variants as Drawn
-use Rattle.draw.specs.Draw.{drawnPixels, drawRows, drawnSays, Shows, showing, drawOf}
-use Rattle.draw.proofs.Works.{ends-well}
-use Rattle.draw.proofs.Works.{ends-refused as drawn-refused}
+use Rattle.draw.specs.Draw.{drawnPixels, drawRows, drawnSays, DrawOut, drawLeaves, drawOf}
+use Rattle.draw.proofs.Works.{draw-ends-well, draw-ends-refused}
 
 -- ---- any call
 
@@ -95,8 +94,8 @@ module _ {Y A : Type 0} {said : Y → Says A} {n : ℕ} {v : A} {done : Y} {lent
 
 module _ (film w h : ℕ) (pic : List ℕ) (s : Settings) (m t n : List ℕ) where
   -- prepare goes by the rows 1 to 13, 31 and 32
-  pub prepare-table : ByTable (λ (x : Ended). preparedSays (x .answer)) (first (prepareRows w h pic s (length m) (length t) (length n)))
-      (recordOf film w h s, footOf w h s) (preparedOf film w h pic s m t n) (λ k. ending (preparedNot k) m t n) (prepareOf film w h pic s m t n)
+  pub prepare-table : ByTable (λ (x : PrepareOut). preparedSays (x .answer)) (first (prepareRows w h pic s (length m) (length t) (length n)))
+      (recordOf film w h s, footOf w h s) (preparedOf film w h pic s m t n) (λ k. prepareLeaves (preparedNot k) m t n) (prepareOf film w h pic s m t n)
   unfolding preparedOf preparedSays
   prepare-table =
       record {
@@ -131,8 +130,8 @@ module _ (film w h : ℕ) (pic : List ℕ) (s : Settings) (m t n : List ℕ) whe
 
 module _ (w h : ℕ) (pic : List ℕ) (s : Settings) (m t : List ℕ) where
   -- enhance goes by the same rows but 32
-  pub enhance-table : ByTable (λ (x : Over). enhancedSays (x .answer)) (first (enhanceRows w h pic s (length m) (length t)))
-      (footOf w h s) (enhancedOf w h pic s m t) (λ k. overing (Enhanced.Refused k) pic m t) (enhanceOf w h pic s m t)
+  pub enhance-table : ByTable (λ (x : EnhanceOut). enhancedSays (x .answer)) (first (enhanceRows w h pic s (length m) (length t)))
+      (footOf w h s) (enhancedOf w h pic s m t) (λ k. enhanceLeaves (Enhanced.Refused k) pic m t) (enhanceOf w h pic s m t)
   unfolding enhancedOf enhancedSays
   enhance-table =
       record {
@@ -159,14 +158,14 @@ module _ (w h : ℕ) (pic : List ℕ) (s : Settings) (m t : List ℕ) where
 
 module _ (film w h : ℕ) (pic : List ℕ) (s : Settings) (r : MapRecord) (win : Window) (m out : List ℕ) where
   -- draw goes by its own
-  pub draw-table : ByTable (λ (x : Shows). drawnSays (x .answer)) (first (drawRows film w h pic s r win m (length out))) tt
-      (showing Drawn.Done (drawnPixels w h pic s win m))
-      (λ k. showing (Drawn.Refused k) out) (drawOf film w h pic s r win m out)
+  pub draw-table : ByTable (λ (x : DrawOut). drawnSays (x .answer)) (first (drawRows film w h pic s r win m (length out))) tt
+      (drawLeaves Drawn.Done (drawnPixels w h pic s win m))
+      (λ k. drawLeaves (Drawn.Refused k) out) (drawOf film w h pic s r win m out)
   unfolding drawnSays
   draw-table =
       record {
-        when-none = λ z. sym (ends-well film w h pic s r win m out refl z refl);
-        when-some = λ z. sym (drawn-refused film w h pic s r win m out refl z);
+        when-none = λ z. sym (draw-ends-well film w h pic s r win m out refl z refl);
+        when-some = λ z. sym (draw-ends-refused film w h pic s r win m out refl z);
         says-done = refl;
         says-lent = λ k. refl;
       }

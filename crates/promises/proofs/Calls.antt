@@ -17,9 +17,9 @@ use Rattle.settings.specs.Settings.{binsOf, entriesOf, keptOf, clipOne, sameCli
 use Rattle.settings.proofs.Records.{record-film}
 use Rattle.tiles.specs.Tiles.{pixelsIn}
 use Rattle.counting.specs.Counting.{rawCounts}
-use Rattle.prepare.specs.Prepare.{preparedSays, enhancedSays, Ended, prepareOf, Over, overing, enhanceOf}
+use Rattle.prepare.specs.Prepare.{preparedSays, enhancedSays, PrepareOut, prepareOf, EnhanceOut, enhanceLeaves, enhanceOf}
 use Rattle.held.specs.Held.{Held}
-use Rattle.draw.specs.Draw.{drawRows, drawnSays, Shows, showing, drawOf}
+use Rattle.draw.specs.Draw.{drawRows, drawnSays, DrawOut, drawLeaves, drawOf}
 use Rattle.draw.proofs.Laws.{other-field}
 use Rattle.draw.proofs.Tables.{draw-ready}
 use Rattle.rule.specs.Rule.{ruleGrey}
@@ -116,18 +116,18 @@ module _ {e : EnhanceCall} {foot : Footer} (ran : Enhances e) (enhanced : enhanc
   pub enhanced-by-rule : clipOne (e .settings .clip) ≡ false → (i j : ℕ) → i < e .width → j < e .height
       → getD (e .pixels′) (j * e .width + i) 0 ≡ ruleGrey (e .width) (e .height) (e .pixels) (e .settings) i j
   enhanced-by-rule one i j l k =
-      ap (λ (z : Over). getD (z .picture) (j * e .width + i) 0) (enhance-ends ran) ∙ own-rendering _ _ _ _ (e .map) (e .scratch) over one i j l k
+      ap (λ (z : EnhanceOut). getD (z .picture) (j * e .width + i) 0) (enhance-ends ran) ∙ own-rendering _ _ _ _ (e .map) (e .scratch) over one i j l k
 
   -- at the factor 1.0 the film is unchanged
   pub enhanced-as-film : clipOne (e .settings .clip) ≡ true → e .pixels′ ≡ e .pixels
-  enhanced-as-film one = ap (λ (z : Over). z .picture) (enhance-ends ran) ∙ own-pixels _ _ _ _ (e .map) (e .scratch) over one
+  enhanced-as-film one = ap (λ (z : EnhanceOut). z .picture) (enhance-ends ran) ∙ own-pixels _ _ _ _ (e .map) (e .scratch) over one
 
   -- "the same buffers": each tile's own mapping lies in the map buffer
   pub enhanced-mapped-by-rule : clipOne (e .settings .clip) ≡ false → (k b : ℕ) → k < e .settings .across * e .settings .down → b < binsOf (e .settings)
       → getD (e .map′) (k * binsOf (e .settings) + b) 0
       ≡ mappedOf (e .settings .min) (e .settings .max) (dividesIn (e .width) (e .height) (e .pixels) (e .settings) k) (clippedCounts (e .width) (e .height) (e .pixels) (e .settings) k) b
   enhanced-mapped-by-rule one k b l q =
-      ap (λ (z : Over). getD (z .map) (k * binsOf (e .settings) + b) 0) (enhance-ends ran) ∙ own-mapping-enhance _ _ _ _ (e .map) (e .scratch) over one k b l q
+      ap (λ (z : EnhanceOut). getD (z .map) (k * binsOf (e .settings) + b) 0) (enhance-ends ran) ∙ own-mapping-enhance _ _ _ _ (e .map) (e .scratch) over one k b l q
 
   -- order 8, "Clip off .. stay as in 01": in either edition "the raw counts are mapped", over N
   pub enhanced-off-by-rule : e .settings .clip ≡ Off → (k b : ℕ) → k < e .settings .across * e .settings .down → b < binsOf (e .settings)
@@ -140,7 +140,7 @@ module _ {e : EnhanceCall} {foot : Footer} (ran : Enhances e) (enhanced : enhanc
 -- ---- what prepare left
 
 -- what prepare's contract gives of a call's values
-abbrev ended : PrepareCall → Ended
+abbrev ended : PrepareCall → PrepareOut
 ended p = prepareOf (p .film) (p .width) (p .height) (p .pixels) (p .settings) (p .map) (p .scratch) (p .list)
 
 -- a film that prepare accepted, answering the record r
@@ -153,7 +153,7 @@ module _ {p : PrepareCall} {r : MapRecord} {foot : Footer} (ran : Prepares p) (p
       → getD (p .map′) (k * binsOf (p .settings) + b) 0
       ≡ mappedOf (p .settings .min) (p .settings .max) (dividesIn (p .width) (p .height) (p .pixels) (p .settings) k) (clippedCounts (p .width) (p .height) (p .pixels) (p .settings) k) b
   prepared-by-rule one k b l q =
-      ap (λ (z : Ended). getD (z .map) (k * binsOf (p .settings) + b) 0) (prepare-ends ran) ∙ own-mapping _ _ _ _ _ _ _ _ done one k b l q
+      ap (λ (z : PrepareOut). getD (z .map) (k * binsOf (p .settings) + b) 0) (prepare-ends ran) ∙ own-mapping _ _ _ _ _ _ _ _ done one k b l q
 
   -- order 8, "Clip off .. stay as in 01": in either edition "the raw counts are mapped", over N
   pub prepared-off-by-rule : p .settings .clip ≡ Off → (k b : ℕ) → k < p .settings .across * p .settings .down → b < binsOf (p .settings)
@@ -197,10 +197,10 @@ pub record DrawnFrom (p : PrepareCall) (foot : Footer) (d : DrawCall) : Type 0 w
 -- what prepare left, handed to draw, is drawn
 pub drawn-done : {p : PrepareCall} {foot : Footer} {d : DrawCall} → HandedToDraw p foot d → drawnSays (d .answer) ≡ accepted tt
 drawn-done {p} {foot} {d} handed =
-    ap (λ (z : Shows). drawnSays (z .answer)) (draw-ends (handed .draws))
+    ap (λ (z : DrawOut). drawnSays (z .answer)) (draw-ends (handed .draws))
     ∙ rw (handed .film, handed .width, handed .height, handed .pixels)
     (draw-agrees _ _ _ _ _ _ _ _ (done (handed .prepares) (handed .prepared)) _ _ _ (d .out)
-    (subst (λ m. HandedOn (p .width) (p .height) (p .settings) m (d .settings) (d .map) (d .window) (length (d .out))) (ap (λ (z : Ended). z .map) (prepare-ends (handed .prepares))) (handed .rest)))
+    (subst (λ m. HandedOn (p .width) (p .height) (p .settings) m (d .settings) (d .map) (d .window) (length (d .out))) (ap (λ (z : PrepareOut). z .map) (prepare-ends (handed .prepares))) (handed .rest)))
 
 -- so all that follows is said of it
 pub handed-drawn : {p : PrepareCall} {foot : Footer} {d : DrawCall} → HandedToDraw p foot d → DrawnFrom p foot d
@@ -232,14 +232,14 @@ module _ {p : PrepareCall} {foot : Footer} {d : DrawCall} (from : DrawnFrom p fo
   made : preparedSays (ended p .answer) ≡ accepted (d .kept, foot)
   made = done (from .prepares) (from .prepared)
 
-  shows : showing (d .answer) (d .out′) ≡ drawOf (d .film) (d .width) (d .height) (p .pixels) (d .settings) (d .kept) (d .window) (d .map) (d .out)
+  shows : drawLeaves (d .answer) (d .out′) ≡ drawOf (d .film) (d .width) (d .height) (p .pixels) (d .settings) (d .kept) (d .window) (d .map) (d .out)
   shows = draw-ends (from .draws) ∙ rw (from .pixels) refl
 
   accepts : drawnSays (drawOf (d .film) (d .width) (d .height) (p .pixels) (d .settings) (d .kept) (d .window) (d .map) (d .out) .answer) ≡ accepted tt
-  accepts = sym (ap (λ (z : Shows). drawnSays (z .answer)) shows) ∙ from .drawn
+  accepts = sym (ap (λ (z : DrawOut). drawnSays (z .answer)) shows) ∙ from .drawn
 
   entries : clipOne (p .settings .clip) ≡ false → take (entriesOf (p .settings)) (d .map) ≡ take (entriesOf (p .settings)) (ended p .map)
-  entries one = from .mappings one ∙ ap (λ (z : Ended). take (entriesOf (p .settings)) (z .map)) (prepare-ends (from .prepares))
+  entries one = from .mappings one ∙ ap (λ (z : PrepareOut). take (entriesOf (p .settings)) (z .map)) (prepare-ends (from .prepares))
 
   -- the window lies inside the film
   pub drawn-inside : (d .window .left + d .window .width ≤ p .width) × (d .window .top + d .window .height ≤ p .height)
@@ -251,14 +251,14 @@ module _ {p : PrepareCall} {foot : Footer} {d : DrawCall} (from : DrawnFrom p fo
   pub drawn-by-rule : clipOne (p .settings .clip) ≡ false → (j i : ℕ) → j < d .window .height → i < d .window .width
       → drawnGrey d i j ≡ ruleGrey (p .width) (p .height) (p .pixels) (p .settings) (d .window .left + i) (d .window .top + j)
   drawn-by-rule one j i l k =
-      ap (λ (z : Shows). getD (z .out) (j * d .window .width + i) 0) shows
+      ap (λ (z : DrawOut). getD (z .out) (j * d .window .width + i) 0) shows
       ∙ accepted-by-rule (p .film) (p .width) (p .height) (p .pixels) (p .settings) _ _ _ made _ _ _ _ _ (d .window) _ accepts entries one j i l k
 
   -- at the factor 1.0 the film's own pixels
   pub drawn-as-film : clipOne (p .settings .clip) ≡ true → (j i : ℕ) → j < d .window .height → i < d .window .width
       → drawnGrey d i j ≡ getD (p .pixels) ((d .window .top + j) * p .width + (d .window .left + i)) 0
   drawn-as-film one j i l k =
-      ap (λ (z : Shows). getD (z .out) (j * d .window .width + i) 0) shows
+      ap (λ (z : DrawOut). getD (z .out) (j * d .window .width + i) 0) shows
       ∙ accepted-as-film (p .film) (p .width) (p .height) (p .pixels) (p .settings) _ _ _ made _ _ _ _ _ (d .window) _ accepts entries one j i l k
 
   -- "With the record and buffer that prepare left for the film, and the film's pixels as they were then, each drawn pixel is the one in enhance's picture.",
@@ -267,12 +267,12 @@ module _ {p : PrepareCall} {foot : Footer} {d : DrawCall} (from : DrawnFrom p fo
       → (enhancedSays (e .answer) ≡ accepted foot)
       × ((j i : ℕ) → j < d .window .height → i < d .window .width → drawnGrey d i j ≡ getD (e .pixels′) ((d .window .top + j) * p .width + (d .window .left + i)) 0)
   drawn-as-enhanced {e} too =
-      let over : overing (e .answer) (e .pixels′) (e .map′) (e .scratch′) ≡ enhanceOf (p .width) (p .height) (p .pixels) (p .settings) (e .map) (e .scratch) =
+      let over : enhanceLeaves (e .answer) (e .pixels′) (e .map′) (e .scratch′) ≡ enhanceOf (p .width) (p .height) (p .pixels) (p .settings) (e .map) (e .scratch) =
       enhance-ends (too .enhances)
       ∙ rw (too .width, too .height, too .pixels)
       (sym (enhance-kept _ _ _ (e .settings) _ _) ∙ ap (λ s. enhanceOf (p .width) (p .height) (p .pixels) s (e .map) (e .scratch)) (too .like) ∙ enhance-kept _ _ _ (p .settings) _ _) in (
-        ap (λ (z : Over). enhancedSays (z .answer)) over ∙ enhance-agrees (p .film) _ _ _ _ _ _ _ made _ _ (too .map) (too .scratch),
-        λ j i l k. ap (λ (z : Shows). getD (z .out) (j * d .window .width + i) 0) shows
+        ap (λ (z : EnhanceOut). enhancedSays (z .answer)) over ∙ enhance-agrees (p .film) _ _ _ _ _ _ _ made _ _ (too .map) (too .scratch),
+        λ j i l k. ap (λ (z : DrawOut). getD (z .out) (j * d .window .width + i) 0) shows
             ∙ accepted-as-enhanced (p .film) _ _ _ _ _ _ _ made _ _ _ _ _ (d .window) _ accepts entries (e .map) (e .scratch) (too .map) (too .scratch) j i l k
-            ∙ sym (ap (λ (z : Over). getD (z .picture) ((d .window .top + j) * p .width + (d .window .left + i)) 0) over),
+            ∙ sym (ap (λ (z : EnhanceOut). getD (z .picture) ((d .window .top + j) * p .width + (d .window .left + i)) 0) over),
       )

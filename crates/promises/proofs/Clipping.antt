@@ -18,7 +18,7 @@ use Rattle.settings.specs.declared.MapRecord.{MapRecord}
 use Rattle.settings.specs.declared.Footer.{Footer}
 use Rattle.settings.specs.Settings.{binsOf, clipBad}
 use Rattle.tiles.specs.Tiles.{pixelsIn}
-use Rattle.prepare.specs.Prepare.{preparedSays, enhancedSays, Ended, prepareOf, Over, enhanceOf}
+use Rattle.prepare.specs.Prepare.{preparedSays, enhancedSays, PrepareOut, prepareOf, EnhanceOut, enhanceOf}
 use Rattle.prepare.proofs.Table.{table-never-14, over-never-14}
 use Rattle.promises.specs.Films.{ClippingOn, ClipCase, FooterShows, limitIn, FilmSound, LimitFits}
 use Rattle.promises.specs.Older.{FilmOlder}
@@ -44,11 +44,11 @@ module _ {p : PrepareCall} {r : MapRecord} {foot : Footer} (ran : Prepares p) (d
 
   -- "With clipping on (a factor above one), in every tile of a film that prepare .. accepts": with the tile's own limit, and the map entries that prepare left, in our edition
   pub prepared-tiles-sound : {f : Float} → ClippingOn (p .settings .clip) f → p .settings .edition ≡ Ours → FilmSound (p .width) (p .height) (p .pixels) (p .settings) f (p .map′)
-  prepared-tiles-sound on ours = rw (ap (λ (z : Ended). z .map) (prepare-ends ran)) (tiles-sound _ _ _ _ _ (p .map) (p .scratch) (p .list) prepared on ours)
+  prepared-tiles-sound on ours = rw (ap (λ (z : PrepareOut). z .map) (prepare-ends ran)) (tiles-sound _ _ _ _ _ (p .map) (p .scratch) (p .list) prepared on ours)
 
   -- order 8, "Here these facts stand in for demand 3.": in the edition of 1986
   pub prepared-tiles-older : {f : Float} → ClippingOn (p .settings .clip) f → p .settings .edition ≡ Of1986 → FilmOlder (p .width) (p .height) (p .pixels) (p .settings) f (p .map′)
-  prepared-tiles-older on other = rw (ap (λ (z : Ended). z .map) (prepare-ends ran)) (tiles-older _ _ _ _ _ (p .map) (p .scratch) (p .list) prepared on other)
+  prepared-tiles-older on other = rw (ap (λ (z : PrepareOut). z .map) (prepare-ends ran)) (tiles-older _ _ _ _ _ (p .map) (p .scratch) (p .list) prepared on other)
 
   -- L x B is never below N, and L is the least that can hold the tile where the factor would give less: of each tile and its own limit
   pub prepared-limit-fits : {f : Float} → ClippingOn (p .settings .clip) f → (k : ℕ)
@@ -70,11 +70,11 @@ module _ {e : EnhanceCall} {foot : Footer} (ran : Enhances e) (done : enhancedSa
 
   -- "With clipping on (a factor above one), in every tile of a film that .. enhance accepts", in our edition
   pub enhanced-tiles-sound : {f : Float} → ClippingOn (e .settings .clip) f → e .settings .edition ≡ Ours → FilmSound (e .width) (e .height) (e .pixels) (e .settings) f (e .map′)
-  enhanced-tiles-sound on ours = rw (ap (λ (z : Over). z .map) (enhance-ends ran)) (tiles-sound-enhance _ _ _ _ (e .map) (e .scratch) enhanced on ours)
+  enhanced-tiles-sound on ours = rw (ap (λ (z : EnhanceOut). z .map) (enhance-ends ran)) (tiles-sound-enhance _ _ _ _ (e .map) (e .scratch) enhanced on ours)
 
   -- order 8, in that of 1986
   pub enhanced-tiles-older : {f : Float} → ClippingOn (e .settings .clip) f → e .settings .edition ≡ Of1986 → FilmOlder (e .width) (e .height) (e .pixels) (e .settings) f (e .map′)
-  enhanced-tiles-older on other = rw (ap (λ (z : Over). z .map) (enhance-ends ran)) (tiles-older-enhance _ _ _ _ (e .map) (e .scratch) enhanced on other)
+  enhanced-tiles-older on other = rw (ap (λ (z : EnhanceOut). z .map) (enhance-ends ran)) (tiles-older-enhance _ _ _ _ (e .map) (e .scratch) enhanced on other)
 
   -- L x B is never below N, and L is the least that can hold the tile where the factor would give less
   pub enhanced-limit-fits : {f : Float} → ClippingOn (e .settings .clip) f → (k : ℕ)

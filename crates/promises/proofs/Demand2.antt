@@ -27,14 +27,14 @@ use Rattle.settings.specs.Settings.{binsOf, entriesOf, clipOne}
 use Rattle.render.specs.Render.{rectOf, renderedOf, renderOf, whole}
 use Rattle.tally.proofs.Greys.{getD-greys}
 use Rattle.render.proofs.Laws.{render-at, window-law}
-use Rattle.tiles.specs.Tiles.{tileOf, pixelsIn, mappings, Work, TilesAsk}
+use Rattle.tiles.specs.Tiles.{tileOf, pixelsIn, mappings, Work, TilesReady}
 use Rattle.tiles.proofs.Tiles.{length-tile-greys}
 use Rattle.counting.specs.Counting.{rawCounts}
-use Rattle.prepare.specs.Prepare.{preparedSays, enhancedSays, Ended, prepareOf, preparedOf, Over, enhanceOf, enhancedOf}
+use Rattle.prepare.specs.Prepare.{preparedSays, enhancedSays, PrepareOut, prepareOf, preparedOf, EnhanceOut, enhanceOf, enhancedOf}
 use Rattle.prepare.proofs.Table.{rows-any}
 use Rattle.tiles.proofs.Films.{length-mappings, mappings-own}
 use Rattle.prepare.proofs.Renders.{laid-mapped, laid-render}
-use Rattle.draw.specs.Draw.{drawRows, drawnSays, Shows, drawOf}
+use Rattle.draw.specs.Draw.{drawRows, drawnSays, DrawOut, drawOf}
 use Rattle.rule.specs.Rule.{ruleGrey}
 use Rattle.rule.proofs.Rule.{rendered-rule}
 use Rattle.promises.specs.Films.{clippedCounts, dividesIn, HandedOn}
@@ -81,7 +81,7 @@ pub own-mapping : (film w h : ℕ) (pic : List ℕ) (s : Settings) (m t n : List
     → getD (prepareOf film w h pic s m t n .map) (k * binsOf s + b) 0 ≡ mappedOf (s .min) (s .max) (dividesIn w h pic s k) (clippedCounts w h pic s k) b
 unfolding preparedOf
 own-mapping film w h pic s m t n e one k b l q =
-    ap (λ (x : Ended). getD (x .map) (k * binsOf s + b) 0) (prepare-done film w h pic s m t n e)
+    ap (λ (x : PrepareOut). getD (x .map) (k * binsOf s + b) 0) (prepare-done film w h pic s m t n e)
     ∙ ap (λ o. getD (cond o m (onto m (mappings w h pic s))) (k * binsOf s + b) 0) one
     ∙ laid-own w h pic s m k b l q
 
@@ -91,14 +91,14 @@ pub own-mapping-enhance : (w h : ℕ) (pic : List ℕ) (s : Settings) (m t : Lis
     → getD (enhanceOf w h pic s m t .map) (k * binsOf s + b) 0 ≡ mappedOf (s .min) (s .max) (dividesIn w h pic s k) (clippedCounts w h pic s k) b
 unfolding enhancedOf
 own-mapping-enhance w h pic s m t e one k b l q =
-    ap (λ (x : Over). getD (x .map) (k * binsOf s + b) 0) (enhance-done w h pic s m t e)
+    ap (λ (x : EnhanceOut). getD (x .map) (k * binsOf s + b) 0) (enhance-done w h pic s m t e)
     ∙ ap (λ o. getD (cond o m (onto m (mappings w h pic s))) (k * binsOf s + b) 0) one
     ∙ laid-own w h pic s m k b l q
 
 -- ---- the whole film
 
 -- a pixel that is rendered from the mappings as they were laid down
-laid-grey : (m : List ℕ) {w h : ℕ} {pic : List ℕ} {s : Settings} {scratch : ℕ} → TilesAsk w h pic s (length m) scratch → (x y : ℕ) → x < w → y < h
+laid-grey : (m : List ℕ) {w h : ℕ} {pic : List ℕ} {s : Settings} {scratch : ℕ} → TilesReady w h pic s (length m) scratch → (x y : ℕ) → x < w → y < h
     → within (s .min) (s .max) (getD pic (y * w + x) 0) ≡ true
     → renderedOf w h s (onto m (mappings w h pic s)) x y (getD pic (y * w + x) 0) ≡ ruleGrey w h pic s x y
 laid-grey m {w} {h} {pic} {s} asks x y l k g =
@@ -111,7 +111,7 @@ pub own-rendering : (w h : ℕ) (pic : List ℕ) (s : Settings) (m t : List ℕ)
     → getD (enhanceOf w h pic s m t .picture) (y * w + x) 0 ≡ ruleGrey w h pic s x y
 unfolding enhancedOf
 own-rendering w h pic s m t e one x y l k =
-    ap (λ (a : Over). getD (a .picture) (y * w + x) 0) (enhance-done w h pic s m t e)
+    ap (λ (a : EnhanceOut). getD (a .picture) (y * w + x) 0) (enhance-done w h pic s m t e)
     ∙ ap (λ o. getD (cond o pic (renderOf w h s (mappings w h pic s) (whole w h) pic)) (y * w + x) 0) one
     ∙ ap (λ ys. getD ys (y * w + x) 0) (sym (laid-render m asks refl refl))
     ∙ render-at w h s (onto m (mappings w h pic s)) (whole w h) pic k l
@@ -122,7 +122,7 @@ own-rendering w h pic s m t e one x y l k =
     known : Work w h pic s (length m) (length t)
     known = enhance-work w h pic s m t e
 
-    asks : TilesAsk w h pic s (length m) (length t)
+    asks : TilesReady w h pic s (length m) (length t)
     asks = record { work = known; changes = one }
 
 -- at the factor 1.0 enhance changes nothing
@@ -130,7 +130,7 @@ pub own-pixels : (w h : ℕ) (pic : List ℕ) (s : Settings) (m t : List ℕ) {f
     → enhancedSays (enhanceOf w h pic s m t .answer) ≡ accepted foot → clipOne (s .clip) ≡ true → enhanceOf w h pic s m t .picture ≡ pic
 unfolding enhancedOf
 own-pixels w h pic s m t e one =
-    ap (λ (a : Over). a .picture) (enhance-done w h pic s m t e) ∙ ap (λ o. cond o pic (renderOf w h s (mappings w h pic s) (whole w h) pic)) one
+    ap (λ (a : EnhanceOut). a .picture) (enhance-done w h pic s m t e) ∙ ap (λ o. cond o pic (renderOf w h s (mappings w h pic s) (whole w h) pic)) one
 
 -- ---- a window from what prepare left
 
@@ -157,7 +157,7 @@ module _ (film w h : ℕ) (pic : List ℕ) (s : Settings) (m t n : List ℕ) {r 
     -- it accepts a window inside the film, and an output of its area, with the record and the mappings that prepare left
     pub draw-agrees : drawnSays (drawOf film w h pic s′ r win m′ out .answer) ≡ accepted tt
     draw-agrees =
-        ap (λ (x : Shows). drawnSays (x .answer)) draw-same
+        ap (λ (x : DrawOut). drawnSays (x .answer)) draw-same
         ∙ table-says (draw-table film w h pic s r win (prepareOf film w h pic s m t n .map) out)
         ∙ ap (λ n. says n tt) draw-none
 
@@ -165,7 +165,7 @@ module _ (film w h : ℕ) (pic : List ℕ) (s : Settings) (m t n : List ℕ) {r 
     drawn-from : drawOf film w h pic s′ r win m′ out .out
         ≡ cond (clipOne (s .clip)) (greysOf pic w (rectOf win)) (renderOf w h s (prepareOf film w h pic s m t n .map) win (greysOf pic w (rectOf win)))
     drawn-from =
-        ap (λ (x : Shows). x .out) (draw-same ∙ draw-table film w h pic s r win (prepareOf film w h pic s m t n .map) out .when-none draw-none)
+        ap (λ (x : DrawOut). x .out) (draw-same ∙ draw-table film w h pic s r win (prepareOf film w h pic s m t n .map) out .when-none draw-none)
         ∙ drawn-pixels w h pic s win (prepareOf film w h pic s m t n .map)
 
     -- "With the record and buffer that prepare left for the film, and the film's pixels as they were then, each drawn pixel is the one in enhance's picture."
@@ -176,7 +176,7 @@ module _ (film w h : ℕ) (pic : List ℕ) (s : Settings) (m t n : List ℕ) {r 
     drawn-is-enhanced m₂ t₂ room scratch j i l k =
         ap (λ ys. getD ys (j * win .width + i) 0) drawn-from
         ∙ same (clipOne (s .clip)) refl
-        ∙ sym (ap (λ (x : Over). getD (x .picture) ((win .top + j) * w + (win .left + i)) 0) (enhance-done w h pic s m₂ t₂ (enhance-agrees m₂ t₂ room scratch)))
+        ∙ sym (ap (λ (x : EnhanceOut). getD (x .picture) ((win .top + j) * w + (win .left + i)) 0) (enhance-done w h pic s m₂ t₂ (enhance-agrees m₂ t₂ room scratch)))
       where
         same : (b : Bool) → clipOne (s .clip) ≡ b
             → getD (cond b (greysOf pic w (rectOf win)) (renderOf w h s (prepareOf film w h pic s m t n .map) win (greysOf pic w (rectOf win)))) (j * win .width + i) 0

@@ -33,7 +33,7 @@ use Rattle.settings.specs.declared.Settings.{Settings}
 use Rattle.settings.specs.declared.MapRecord.{MapRecord}
 use Rattle.settings.specs.declared.Footer.{Footer}
 use Rattle.settings.specs.Settings.{binsOf, clipBad, clipOne, Tiled}
-use Rattle.tiles.specs.Tiles.{tileOf, pixelsIn, footOf, FilmAsks, FooterAsks, Work, TilesAsk}
+use Rattle.tiles.specs.Tiles.{tileOf, pixelsIn, footOf, FilmFooterAsks, FooterAsks, Work, TilesReady}
 use Rattle.prepare.specs.Prepare.{preparedSays, enhancedSays, prepareOf, enhanceOf}
 use Rattle.tiles.proofs.Footers.{footer-asks, film-asks, footer-off, footer-one, footer-above, foot-is}
 use Rattle.tiles.proofs.Tiles.{tile-area, tile-pixels-some}
@@ -171,7 +171,7 @@ module _ {lo hi b : ℕ} {clip : Clip} {pic : List ℕ} {w : ℕ} {r : Rect} (as
 module _ {w h : ℕ} {pic : List ℕ} {s : Settings} {room scratch : ℕ} (work : Work w h pic s room scratch) {f : Float} (on : ClippingOn (s .clip) f) where
   tile-rect-asks : (k : ℕ) → k < s .across * s .down → RectAsks (s .min) (s .max) (binsOf s) (s .clip) pic w (tileOf w h s k)
   tile-rect-asks k l =
-      let asks : TilesAsk w h pic s room scratch = record { work = work; changes = on-not-one on } in
+      let asks : TilesReady w h pic s room scratch = record { work = work; changes = on-not-one on } in
       record {
         some = rw (tile-area w h (s .across) (s .down) k) (tile-pixels-some (work .ready .tiled) l);
         bins = omega (arith, work .ready .tiled .bins);
@@ -233,7 +233,7 @@ tiles-older-enhance w h pic s m t e on other k l =
 -- ---- the footer
 
 -- the footer that the rules give, in each of the three cases
-pub foot-shows : {w h : ℕ} {s : Settings} → FilmAsks w h s → FooterShows (s .clip) (pixelsIn w h s 0) (binsOf s) (footOf w h s)
+pub foot-shows : {w h : ℕ} {s : Settings} → FilmFooterAsks w h s → FooterShows (s .clip) (pixelsIn w h s 0) (binsOf s) (footOf w h s)
 unfolding ofBits
 foot-shows {w} {h} {s} asks =
     let foot : FooterAsks (s .clip) (pixelsIn w h s 0) (binsOf s) = footer-asks asks refl in

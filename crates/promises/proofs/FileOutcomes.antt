@@ -14,12 +14,12 @@ use Rattle.header.specs.declared.Head.the-variants as Head
 use Rattle.header.specs.Grammar.{Header, Hash}
 use Rattle.raster.specs.Raster.{rasterSize, headRows, rasterRows}
 use Rattle.pgm.specs.Pgm.{readOf, sizesOf, rasterOf, sizesSays}
-use Rattle.pgm_greys.specs.Greys.{turnRows, turnedSays, turnedOf, Greyed}
-use Rattle.pgm_write.specs.Write.{writeRows, writtenSays, fileOf, Wrote, wroteAs, writeOf}
+use Rattle.pgm_greys.specs.Greys.{turnRows, turnedSays, turnedOf, GreysOut}
+use Rattle.pgm_write.specs.Write.{writeRows, writtenSays, fileOf, WriteOut, writeLeaves, writeOf}
 use Rattle.pgm.proofs.Tables.{read-within}
 use Rattle.promises.proofs.Accepted.{table-says, table-kept}
 use Rattle.promises.proofs.Files.{found-says, hash-says, other-says, raster-behind, refused-part, greys-table, write-table, written-none, written-count, written-file, file-sizes, file-greys, file-again, file-pixels}
-use Rattle.promises.proofs.Runs.{SizesCall, ReadsSizes, sizes-ends, RasterCall, ReadsRaster, raster-ends, GreysCall, Greys, greys-given, greys-ends, WriteCall, Writes, write-given, write-ends}
+use Rattle.promises.proofs.Runs.{SizesCall, ReadsSizes, sizes-ends, RasterCall, ReadsRaster, raster-ends, GreysCall, Greys, greys-arguments, greys-ends, WriteCall, Writes, write-arguments, write-ends}
 
 -- ---- any two outcomes are equal
 
@@ -32,16 +32,16 @@ pub raster-determined : {c k : RasterCall} → ReadsRaster c → ReadsRaster k �
 raster-determined x y same = raster-ends x ∙ ap (λ s. rasterOf (readOf s) s) same ∙ sym (raster-ends y)
 
 -- greys: one answer and one target for each raster, numbers and target
-pub greys-determined : {g k : GreysCall} → Greys g → Greys k → greys-given g ≡ greys-given k → (g .answer ≡ k .answer) × (g .target′ ≡ k .target′)
+pub greys-determined : {g k : GreysCall} → Greys g → Greys k → greys-arguments g ≡ greys-arguments k → (g .answer ≡ k .answer) × (g .target′ ≡ k .target′)
 greys-determined x y same =
     let e = greys-ends x ∙ ap (λ g. turnedOf (g .0) (g .1) (g .2) (g .3) (g .4) (g .5)) same ∙ sym (greys-ends y) in
-    (ap (λ (z : Greyed). z .answer) e, ap (λ (z : Greyed). z .target) e)
+    (ap (λ (z : GreysOut). z .answer) e, ap (λ (z : GreysOut). z .target) e)
 
 -- write: one answer and one output for each picture, numbers and output
-pub write-determined : {c k : WriteCall} → Writes c → Writes k → write-given c ≡ write-given k → (c .answer ≡ k .answer) × (c .out′ ≡ k .out′)
+pub write-determined : {c k : WriteCall} → Writes c → Writes k → write-arguments c ≡ write-arguments k → (c .answer ≡ k .answer) × (c .out′ ≡ k .out′)
 write-determined x y same =
     let e = write-ends x ∙ ap (λ g. writeOf (g .0) (g .1) (g .2) (g .3) (g .4)) same ∙ sym (write-ends y) in
-    (ap (λ (z : Wrote). z .answer) e, ap (λ (z : Wrote). z .out) e)
+    (ap (λ (z : WriteOut). z .answer) e, ap (λ (z : WriteOut). z .out) e)
 
 -- ---- what each call says
 
@@ -63,13 +63,13 @@ sizes-says-misfit {c} ran header hash = ap sizesSays (sizes-ends ran) ∙ other-
 -- the same of greys: the first row that applies, "22, 23, 24, 25, 27, 26"; where none does there is no value to hand back
 pub greys-says : {g : GreysCall} → Greys g
     → turnedSays (g .answer) ≡ says (first (turnRows (g .bytes) (g .start) (g .width) (g .height) (g .maxval) (length (g .target)))) tt
-greys-says ran = ap (λ (x : Greyed). turnedSays (x .answer)) (greys-ends ran) ∙ table-says (greys-table _ _ _ _ _ _)
+greys-says ran = ap (λ (x : GreysOut). turnedSays (x .answer)) (greys-ends ran) ∙ table-says (greys-table _ _ _ _ _ _)
 
 -- the same of write: the first row that applies, "22, 23, 2, 26, 27"; where none does it "returns the byte count"
 pub write-says : {c : WriteCall} → Writes c
     → writtenSays (c .answer)
     ≡ says (first (writeRows (c .pixels) (c .width) (c .height) (c .maxval) (length (c .out)))) (length (fileOf (c .pixels) (c .width) (c .height) (c .maxval)))
-write-says ran = ap (λ (x : Wrote). writtenSays (x .answer)) (write-ends ran) ∙ table-says (write-table _ _ _ _ _ _)
+write-says ran = ap (λ (x : WriteOut). writtenSays (x .answer)) (write-ends ran) ∙ table-says (write-table _ _ _ _ _ _)
 
 -- ---- a refusal keeps lent memory
 
@@ -77,13 +77,13 @@ write-says ran = ap (λ (x : Wrote). writtenSays (x .answer)) (write-ends ran) �
 pub greys-refusal-keeps : {g : GreysCall} (n : ℕ) → Greys g → turnedSays (g .answer) ≡ refused n → g .target′ ≡ g .target
 greys-refusal-keeps n ran q =
     let x = greys-ends ran in
-    ap (λ (y : Greyed). y .target) (x ∙ table-kept (greys-table _ _ _ _ _ _) (sym (ap (λ (y : Greyed). turnedSays (y .answer)) x) ∙ q))
+    ap (λ (y : GreysOut). y .target) (x ∙ table-kept (greys-table _ _ _ _ _ _) (sym (ap (λ (y : GreysOut). turnedSays (y .answer)) x) ∙ q))
 
 -- the same of write: the output
 pub write-refusal-keeps : {c : WriteCall} (n : ℕ) → Writes c → writtenSays (c .answer) ≡ refused n → c .out′ ≡ c .out
 write-refusal-keeps n ran q =
     let x = write-ends ran in
-    ap (λ (y : Wrote). y .out) (x ∙ table-kept (write-table _ _ _ _ _ _) (sym (ap (λ (y : Wrote). writtenSays (y .answer)) x) ∙ q))
+    ap (λ (y : WriteOut). y .out) (x ∙ table-kept (write-table _ _ _ _ _ _) (sym (ap (λ (y : WriteOut). writtenSays (y .answer)) x) ∙ q))
 
 -- ---- the raster
 
@@ -137,13 +137,13 @@ whole-handed {k} g ran whole start = rw (whole, start, raster-ends ran) (go (rea
 -- a film that write accepted, laying down n bytes
 module _ {c : WriteCall} {n : ℕ} (ran : Writes c) (written : writtenSays (c .answer) ≡ accepted n) where
   laid : writtenSays (writeOf (c .pixels) (c .width) (c .height) (c .maxval) (c .out) .answer) ≡ accepted n
-  laid = sym (ap (λ (x : Wrote). writtenSays (x .answer)) (write-ends ran)) ∙ written
+  laid = sym (ap (λ (x : WriteOut). writtenSays (x .answer)) (write-ends ran)) ∙ written
 
   none : first (writeRows (c .pixels) (c .width) (c .height) (c .maxval) (length (c .out))) ≡ 0
   none = written-none _ _ _ _ _ _ laid
 
   file : take n (c .out′) ≡ fileOf (c .pixels) (c .width) (c .height) (c .maxval)
-  file = ap (λ (x : Wrote). take n (x .out)) (write-ends ran) ∙ written-file _ _ _ _ _ (c .out) laid
+  file = ap (λ (x : WriteOut). take n (x .out)) (write-ends ran) ∙ written-file _ _ _ _ _ (c .out) laid
 
   -- demand 2, "a film written and read back is the same film": read over those bytes says the film's width, height and maxval
   pub sizes-read-back : {z : SizesCall} → ReadsSizes z → z .bytes ≡ take n (c .out′) → sizesSays (z .answer) ≡ accepted (c .width, c .height, c .maxval)
@@ -177,7 +177,7 @@ module _ {c : WriteCall} {n : ℕ} {z : SizesCall} {k : RasterCall} {g : GreysCa
       let y =
       file-greys (c .pixels) (c .width) (c .height) (c .maxval) (length (c .out)) (none (way .writes) (way .written)) (g .bytes) (g .start) (g .target)
       (way .raster ∙ raster-ends (way .reads .raster) ∙ ap (λ s. rasterOf (readOf s) s) bytes) (rw (← wide, ← high) (way .room)) in
-      (ap (λ (a : Greyed). turnedSays (a .answer)) x ∙ rw (wide, high, deep) (y .0), ap (λ (a : Greyed). a .target) x ∙ rw (wide, high, deep) (y .1))
+      (ap (λ (a : GreysOut). turnedSays (a .answer)) x ∙ rw (wide, high, deep) (y .0), ap (λ (a : GreysOut). a .target) x ∙ rw (wide, high, deep) (y .1))
 
   -- the same from the file's side: those greys, written with the sizes and maxval that read gave into any output with room, are the same bytes
   pub same-bytes : {x : WriteCall} → Writes x → sizesSays (z .answer) ≡ accepted (x .width, x .height, x .maxval) → x .pixels ≡ take (x .width * x .height) (g .target′) → n ≤ length (x .out)
@@ -188,11 +188,11 @@ module _ {c : WriteCall} {n : ℕ} {z : SizesCall} {k : RasterCall} {g : GreysCa
       pixels
       ∙ ap (take (x .width * x .height)) (greys-read-back .1)
       ∙ take-onto (g .target) (c .pixels) (x .width * x .height) (rw (v .0, v .1) (file-pixels (c .pixels) (c .width) (c .height) (c .maxval) (length (c .out)) written)) in
-      let e : wroteAs (x .answer) (x .out′) ≡ writeOf (c .pixels) (c .width) (c .height) (c .maxval) (x .out) = write-ends again ∙ rw (p, v .0, v .1, v .2) refl in
+      let e : writeLeaves (x .answer) (x .out′) ≡ writeOf (c .pixels) (c .width) (c .height) (c .maxval) (x .out) = write-ends again ∙ rw (p, v .0, v .1, v .2) refl in
       let count : length (fileOf (c .pixels) (c .width) (c .height) (c .maxval)) ≡ n = written-count _ _ _ _ _ (c .out) (laid (way .writes) (way .written)) in
       let y = file-again (c .pixels) (c .width) (c .height) (c .maxval) (length (c .out)) written (x .out) (omega arith) in (
-        ap (λ (a : Wrote). writtenSays (a .answer)) e ∙ y .0 ∙ ap accepted count,
-        ap (λ (a : Wrote). a .out) e ∙ y .1 ∙ ap (onto (x .out)) (sym (file (way .writes) (way .written))),
+        ap (λ (a : WriteOut). writtenSays (a .answer)) e ∙ y .0 ∙ ap accepted count,
+        ap (λ (a : WriteOut). a .out) e ∙ y .1 ∙ ap (onto (x .out)) (sym (file (way .writes) (way .written))),
       )
     where
       written : first (writeRows (c .pixels) (c .width) (c .height) (c .maxval) (length (c .out))) ≡ 0

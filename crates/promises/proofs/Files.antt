@@ -21,9 +21,9 @@ use Rattle.samples.specs.Samples.{isWide, unpacked}
 use Rattle.pgm_greys.specs.declared.Turned.the-variants as Turned
 use Rattle.pgm_write.specs.declared.Written.the-variants as Written
 use Rattle.raster.specs.Raster.{rasterSize, headRows, rasterRows}
-use Rattle.pgm.specs.Pgm.{judgedOf, readOf, sizesOf, rasterOf, sizesSays}
-use Rattle.pgm_greys.specs.Greys.{turnRows, turnedSays, Greyed, greyedAs, turnedOf}
-use Rattle.pgm_write.specs.Write.{writtenRows, writeRows, Film, writtenSays, fileOf, Wrote, wroteAs, writtenOf, writeOf}
+use Rattle.pgm.specs.Pgm.{judgedHead, readOf, sizesOf, rasterOf, sizesSays}
+use Rattle.pgm_greys.specs.Greys.{turnRows, turnedSays, GreysOut, greysLeave, turnedOf}
+use Rattle.pgm_write.specs.Write.{writtenRows, writeRows, WriteReady, writtenSays, fileOf, WriteOut, writeLeaves, writtenOf, writeOf}
 use Rattle.raster.proofs.Tables.{limit-numbered}
 use Rattle.pgm.proofs.Tables.{judged-limit, judged-raster, judged-found, read-judged, read-refused, read-header}
 use Rattle.pgm.proofs.Laws.{read-asks}
@@ -46,7 +46,7 @@ found-says s {w} {h} {m} {rest} g =
     at : ℕ
     at = length s - length rest
 
-    read : {x : Head} → x ≡ judgedOf (Head.Found w h m at) (length s) → sizesSays (sizesOf (readOf s)) ≡ sizesSays (sizesOf x)
+    read : {x : Head} → x ≡ judgedHead (Head.Found w h m at) (length s) → sizesSays (sizesOf (readOf s)) ≡ sizesSays (sizesOf x)
     read e = ap (λ y. sizesSays (sizesOf y)) (sym (read-judged s (header-complete g) e))
 
     go : (k : ℕ) → first (headRows w h m) ≡ k → (j : ℕ) → first (rasterRows w h m (length s - at)) ≡ j
@@ -99,8 +99,8 @@ refused-part (Head.Refused k) s e = refl
 
 module _ (s : List ℕ) (start w h m : ℕ) (target : List ℕ) where
   -- greys go by the rows 22 to 27
-  pub greys-table : ByTable (λ (x : Greyed). turnedSays (x .answer)) (first (turnRows s start w h m (length target))) tt
-      (greyedAs Turned.Done (onto target (unpacked (isWide m) (drop start s) (w * h)))) (λ k. greyedAs (Turned.Refused k) target) (turnedOf s start w h m target)
+  pub greys-table : ByTable (λ (x : GreysOut). turnedSays (x .answer)) (first (turnRows s start w h m (length target))) tt
+      (greysLeave Turned.Done (onto target (unpacked (isWide m) (drop start s) (w * h)))) (λ k. greysLeave (Turned.Refused k) target) (turnedOf s start w h m target)
   unfolding turnedSays
   greys-table =
       record {
@@ -114,8 +114,8 @@ module _ (s : List ℕ) (start w h m : ℕ) (target : List ℕ) where
 
 module _ (pic : List ℕ) (w h m : ℕ) (file out : List ℕ) where
   -- write goes by its own, whatever its file's form
-  pub write-table : ByTable (λ (x : Wrote). writtenSays (x .answer)) (first (writtenRows pic w h m file (length out))) (length file)
-      (wroteAs (Written.Bytes (length file)) (onto out file)) (λ k. wroteAs (Written.Refused k) out) (writtenOf pic w h m file out)
+  pub write-table : ByTable (λ (x : WriteOut). writtenSays (x .answer)) (first (writtenRows pic w h m file (length out))) (length file)
+      (writeLeaves (Written.Bytes (length file)) (onto out file)) (λ k. writeLeaves (Written.Refused k) out) (writtenOf pic w h m file out)
   unfolding writtenSays
   write-table =
       record {
@@ -137,13 +137,13 @@ module _ (pic : List ℕ) (w h m : ℕ) (file out : List ℕ) where
 
     -- and the bytes that it counts are the file
     pub written-file : take n (writtenOf pic w h m file out .out) ≡ file
-    written-file = ap (λ (x : Wrote). take n (x .out)) (table-done write-table written) ∙ take-onto out file n written-count
+    written-file = ap (λ (x : WriteOut). take n (x .out)) (table-done write-table written) ∙ take-onto out file n written-count
 
   -- a film is accepted in any output with room for its file
-  pub film-written : Film pic w h m → length file ≤ length out → (writtenSays (writtenOf pic w h m file out .answer) ≡ accepted (length file)) × (writtenOf pic w h m file out .out ≡ onto out file)
+  pub film-written : WriteReady pic w h m → length file ≤ length out → (writtenSays (writtenOf pic w h m file out .answer) ≡ accepted (length file)) × (writtenOf pic w h m file out .out ≡ onto out file)
   film-written film l =
       let none = asks-none pic w h m file (length out) (record { film = film; fitting = l }) in
-      (table-says write-table ∙ ap (λ n. says n (length file)) none, ap (λ (x : Wrote). x .out) (write-table .when-none none))
+      (table-says write-table ∙ ap (λ n. says n (length file)) none, ap (λ (x : WriteOut). x .out) (write-table .when-none none))
 
 -- ---- a file that write made
 
@@ -163,7 +163,7 @@ module _ (pic : List ℕ) (w h m room : ℕ) (ok : first (writeRows pic w h m ro
       ∙ ap (λ x. turnedOf x 0 w h m target) (e ∙ ap (λ x. rasterOf x (fileOf pic w h m)) (written-read pic w h m room ok))
       ∙ turned-part (fileOf pic w h m) (length (headerBytes w h m)) w h m target
       ∙ written-greys pic w h m room ok target l in
-      (ap (λ (y : Greyed). turnedSays (y .answer)) x, ap (λ (y : Greyed). y .target) x)
+      (ap (λ (y : GreysOut). turnedSays (y .answer)) x, ap (λ (y : GreysOut). y .target) x)
 
   -- the same picture is accepted in any output with room for the file
   pub file-again : (out : List ℕ) → length (fileOf pic w h m) ≤ length out

@@ -27,7 +27,7 @@ use Rattle.tiles.specs.Tiles.{tileOf, pixelsIn, footerOf}
 use Rattle.tiles.proofs.Tiles.{tile-area, tile-is}
 use Rattle.tiles.proofs.Films.{mappings-by}
 use Rattle.tiles.proofs.Footers.{foot-is}
-use Rattle.prepare.specs.Prepare.{preparedSays, enhancedSays, Ended, Over, enhancedOf}
+use Rattle.prepare.specs.Prepare.{preparedSays, enhancedSays, PrepareOut, EnhanceOut, enhancedOf}
 use Rattle.rule.proofs.Rule.{rule-from, grey-from}
 use Rattle.promises.specs.Fitted.{Fitted, fitRect, fitPixels, fitAlone, fitBetween, half, fitPlace, fitGrey, fitMappings, fitFoot, AxisAsBefore, FilmAsBefore}
 use Rattle.promises.proofs.Accepted.{prepare-work, prepare-foot, enhance-work, enhance-done, enhance-foot}
@@ -153,7 +153,7 @@ module _ {p : PrepareCall} {r : MapRecord} {foot : Footer} (ran : Prepares p) (p
   pub fitted-prepared : (p .map′ ≡ cond (clipOne (p .settings .clip)) (p .map) (onto (p .map) (fitMappings (p .width) (p .height) (p .pixels) (p .settings))))
       × (foot ≡ fitFoot (p .width) (p .height) (p .settings))
   fitted-prepared = (
-    ap (λ (z : Ended). z .map) (prepare-ends ran)
+    ap (λ (z : PrepareOut). z .map) (prepare-ends ran)
         ∙ left-map _ _ _ _ _ _ _ _ (prepare-accepted ran prepared)
         ∙ ap (λ ys. cond (clipOne (p .settings .clip)) (p .map) (onto (p .map) ys)) (prepared-same .maps),
     sym (prepare-foot _ _ _ _ _ _ _ _ (prepare-accepted ran prepared)) ∙ prepared-same .foot,
@@ -175,7 +175,7 @@ module _ {e : EnhanceCall} {foot : Footer} (ran : Enhances e) (enhanced : enhanc
       × (foot ≡ fitFoot (e .width) (e .height) (e .settings))
   unfolding enhancedOf
   fitted-enhanced-left = (
-    ap (λ (z : Over). z .map) (enhance-ends ran ∙ enhance-done _ _ _ _ _ _ (enhance-accepted ran enhanced))
+    ap (λ (z : EnhanceOut). z .map) (enhance-ends ran ∙ enhance-done _ _ _ _ _ _ (enhance-accepted ran enhanced))
         ∙ ap (λ ys. cond (clipOne (e .settings .clip)) (e .map) (onto (e .map) ys)) (enhanced-same .maps),
     sym (enhance-foot _ _ _ _ _ _ (enhance-accepted ran enhanced)) ∙ enhanced-same .foot,
   )

@@ -35,7 +35,7 @@ use Rattle.settings.proofs.Ready.{shared-numbers}
 use Rattle.tiles.specs.Tiles.{tileOf, pixelsIn, spents, spentEntries}
 use Rattle.tiles.proofs.Spents.{spent-in-from, listed-excess, listed-looks, listed-behind, listed-size}
 use Rattle.counting.specs.Counting.{rawCounts}
-use Rattle.prepare.specs.Prepare.{listedRows, enhanceRows, prepareRows, preparedSays, enhancedSays, Ended, prepareOf, preparedOf}
+use Rattle.prepare.specs.Prepare.{listedRows, enhanceRows, prepareRows, preparedSays, enhancedSays, PrepareOut, prepareOf, preparedOf}
 use Rattle.prepare.proofs.Table.{listed-scratch, listed-short, listed-greys, table-parts, table-shared, table-work, table-listed, over-numbers}
 use Rattle.promises.specs.Films.{ClippingOn, limitIn}
 use Rattle.promises.specs.Looks.{excessAt, looksAt, TileLooks, TilesLooks, FilmLooks, NoLooks, TilesOlderLooks, FilmOlderLooks, ListShort}
@@ -100,7 +100,7 @@ module _ (film w h : ℕ) (pic : List ℕ) (s : Settings) (m t n : List ℕ) {r 
   -- at the factor 1.0 it stays; else the tiles' entries lie in its front
   pub left-list : prepareOf film w h pic s m t n .list ≡ cond (clipOne (s .clip)) n (onto n (spents w h pic s))
   unfolding preparedOf
-  left-list = ap (λ (x : Ended). x .list) (prepare-done film w h pic s m t n done)
+  left-list = ap (λ (x : PrepareOut). x .list) (prepare-done film w h pic s m t n done)
 
   -- by what the clip setting is
   list-by : {b : Bool} → clipOne (s .clip) ≡ b → prepareOf film w h pic s m t n .list ≡ cond b n (onto n (spents w h pic s))
@@ -162,7 +162,7 @@ module _ {p : PrepareCall} {r : MapRecord} {foot : Footer} (ran : Prepares p) (p
   done = prepare-accepted ran prepared
 
   listed : p .list′ ≡ prepareOf (p .film) (p .width) (p .height) (p .pixels) (p .settings) (p .map) (p .scratch) (p .list) .list
-  listed = ap (λ (z : Ended). z .list) (prepare-ends ran)
+  listed = ap (λ (z : PrepareOut). z .list) (prepare-ends ran)
 
   -- "each tile in row order has two entries: E, and the number of looks .. it is 0 when r is 0 and never more than r x B x (B + 1) / 2": of every tile, with a factor above one, in our edition
   pub prepared-looks : {f : Float} → ClippingOn (p .settings .clip) f → p .settings .edition ≡ Ours → FilmLooks (p .width) (p .height) (p .pixels) (p .settings) f (p .list′)

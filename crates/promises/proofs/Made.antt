@@ -12,9 +12,9 @@ use Rattle.settings.specs.declared.MapRecord.{MapRecord}
 use Rattle.settings.specs.declared.Footer.{Footer}
 use Rattle.settings.specs.Settings.{binsOf, entriesOf, keptOf, clipOne}
 use Rattle.settings.proofs.Records.{record-film}
-use Rattle.prepare.specs.Prepare.{preparedSays, enhancedSays, prepareOf, Over, overing, enhanceOf}
+use Rattle.prepare.specs.Prepare.{preparedSays, enhancedSays, prepareOf, EnhanceOut, enhanceLeaves, enhanceOf}
 use Rattle.prepare.proofs.Like.{enhance-kept}
-use Rattle.draw.specs.Draw.{drawnSays, Shows, showing, drawOf}
+use Rattle.draw.specs.Draw.{drawnSays, DrawOut, drawLeaves, drawOf}
 use Rattle.rule.specs.Rule.{ruleGrey}
 use Rattle.promises.specs.Films.{HandedOn}
 use Rattle.promises.proofs.Accepted.{prepare-record}
@@ -45,7 +45,7 @@ module _ {film w h : ℕ} {pic : List ℕ} {s : Settings} {r : MapRecord} {foot 
 
 -- a call to draw ended with these values; so does one to draw on bytes, where the settings are inside the profile
 pub record Shown (d : DrawCall) : Type 0 where
-  pub ends : showing (d .answer) (d .out′) ≡ drawOf (d .film) (d .width) (d .height) (d .pixels) (d .settings) (d .kept) (d .window) (d .map) (d .out)
+  pub ends : drawLeaves (d .answer) (d .out′) ≡ drawOf (d .film) (d .width) (d .height) (d .pixels) (d .settings) (d .kept) (d .window) (d .map) (d .out)
 
 -- every run of draw does
 pub draw-shown : {d : DrawCall} → Draws d → Shown d
@@ -63,7 +63,7 @@ pub record HandedFilm (no w h : ℕ) (pic : List ℕ) (s : Settings) (left : Lis
 pub handed-done : {film w h : ℕ} {pic : List ℕ} {s : Settings} {foot : Footer} {left : List ℕ} {d : DrawCall} → Made film w h pic s (d .kept) foot left → Shown d
     → HandedFilm film w h pic s left d → drawnSays (d .answer) ≡ accepted tt
 handed-done {film} {w} {h} {pic} {s} {foot} {left} {d} made shown handed =
-    ap (λ (z : Shows). drawnSays (z .answer)) (shown .ends)
+    ap (λ (z : DrawOut). drawnSays (z .answer)) (shown .ends)
     ∙ rw (handed .film, handed .width, handed .height, handed .pixels)
     (draw-agrees film w h pic s _ _ _ (made .accepts) (d .settings) (d .map) (d .window) (d .out)
     (subst (λ m. HandedOn w h s m (d .settings) (d .map) (d .window) (length (d .out))) (made .leaves) (handed .rest)))
@@ -71,7 +71,7 @@ handed-done {film} {w} {h} {pic} {s} {foot} {left} {d} made shown handed =
 -- enhance ended with these values; so does enhance on bytes, where the settings are inside the profile
 abbrev pub Rendered : EnhanceCall → Type 0
 Rendered e =
-    overing (e .answer) (e .pixels′) (e .map′) (e .scratch′) ≡ enhanceOf (e .width) (e .height) (e .pixels) (e .settings) (e .map) (e .scratch)
+    enhanceLeaves (e .answer) (e .pixels′) (e .map′) (e .scratch′) ≡ enhanceOf (e .width) (e .height) (e .pixels) (e .settings) (e .map) (e .scratch)
 
 -- enhance was handed this film, settings that are kept as its own, and buffers that are long enough
 pub record EnhancesSame (w h : ℕ) (pic : List ℕ) (s : Settings) (e : EnhanceCall) : Type 0 where
@@ -85,11 +85,11 @@ pub record EnhancesSame (w h : ℕ) (pic : List ℕ) (s : Settings) (e : Enhance
 -- a window that draw accepted, handed the record, the film's pixels and, but at the factor 1.0, the mappings that were left, whatever else
 module _ {film w h : ℕ} {pic : List ℕ} {s : Settings} {foot : Footer} {left : List ℕ} {d : DrawCall} (made : Made film w h pic s (d .kept) foot left) (shown : Shown d)
     (drawn : drawnSays (d .answer) ≡ accepted tt) (pixels : d .pixels ≡ pic) (mappings : clipOne (s .clip) ≡ false → take (entriesOf s) (d .map) ≡ take (entriesOf s) left) where
-  shows : showing (d .answer) (d .out′) ≡ drawOf (d .film) (d .width) (d .height) pic (d .settings) (d .kept) (d .window) (d .map) (d .out)
+  shows : drawLeaves (d .answer) (d .out′) ≡ drawOf (d .film) (d .width) (d .height) pic (d .settings) (d .kept) (d .window) (d .map) (d .out)
   shows = shown .ends ∙ rw pixels refl
 
   accepts : drawnSays (drawOf (d .film) (d .width) (d .height) pic (d .settings) (d .kept) (d .window) (d .map) (d .out) .answer) ≡ accepted tt
-  accepts = sym (ap (λ (z : Shows). drawnSays (z .answer)) shows) ∙ drawn
+  accepts = sym (ap (λ (z : DrawOut). drawnSays (z .answer)) shows) ∙ drawn
 
   entries : clipOne (s .clip) ≡ false → take (entriesOf s) (d .map) ≡ take (entriesOf s) (prepareOf film w h pic s (made .map) (made .scratch) (made .list) .map)
   entries one = mappings one ∙ ap (take (entriesOf s)) (made .leaves)
@@ -104,14 +104,14 @@ module _ {film w h : ℕ} {pic : List ℕ} {s : Settings} {foot : Footer} {left 
   pub shown-by-rule : clipOne (s .clip) ≡ false → (j i : ℕ) → j < d .window .height → i < d .window .width
       → drawnGrey d i j ≡ ruleGrey w h pic s (d .window .left + i) (d .window .top + j)
   shown-by-rule one j i l k =
-      ap (λ (z : Shows). getD (z .out) (j * d .window .width + i) 0) shows
+      ap (λ (z : DrawOut). getD (z .out) (j * d .window .width + i) 0) shows
       ∙ accepted-by-rule film w h pic s _ _ _ (made .accepts) _ _ _ _ _ (d .window) _ accepts entries one j i l k
 
   -- at the factor 1.0 the film's own
   pub shown-as-film : clipOne (s .clip) ≡ true → (j i : ℕ) → j < d .window .height → i < d .window .width
       → drawnGrey d i j ≡ getD pic ((d .window .top + j) * w + (d .window .left + i)) 0
   shown-as-film one j i l k =
-      ap (λ (z : Shows). getD (z .out) (j * d .window .width + i) 0) shows
+      ap (λ (z : DrawOut). getD (z .out) (j * d .window .width + i) 0) shows
       ∙ accepted-as-film film w h pic s _ _ _ (made .accepts) _ _ _ _ _ (d .window) _ accepts entries one j i l k
 
   -- and the one in enhance's picture, which enhance renders with the same footer
@@ -119,12 +119,12 @@ module _ {film w h : ℕ} {pic : List ℕ} {s : Settings} {foot : Footer} {left 
       → (enhancedSays (e .answer) ≡ accepted foot)
       × ((j i : ℕ) → j < d .window .height → i < d .window .width → drawnGrey d i j ≡ getD (e .pixels′) ((d .window .top + j) * w + (d .window .left + i)) 0)
   shown-as-enhanced {e} rendered too =
-      let over : overing (e .answer) (e .pixels′) (e .map′) (e .scratch′) ≡ enhanceOf w h pic s (e .map) (e .scratch) =
+      let over : enhanceLeaves (e .answer) (e .pixels′) (e .map′) (e .scratch′) ≡ enhanceOf w h pic s (e .map) (e .scratch) =
       rendered
       ∙ rw (too .width, too .height, too .pixels)
       (sym (enhance-kept _ _ _ (e .settings) _ _) ∙ ap (λ x. enhanceOf w h pic x (e .map) (e .scratch)) (too .like) ∙ enhance-kept _ _ _ s _ _) in (
-        ap (λ (z : Over). enhancedSays (z .answer)) over ∙ enhance-agrees film w h pic s _ _ _ (made .accepts) _ _ (too .map) (too .scratch),
-        λ j i l k. ap (λ (z : Shows). getD (z .out) (j * d .window .width + i) 0) shows
+        ap (λ (z : EnhanceOut). enhancedSays (z .answer)) over ∙ enhance-agrees film w h pic s _ _ _ (made .accepts) _ _ (too .map) (too .scratch),
+        λ j i l k. ap (λ (z : DrawOut). getD (z .out) (j * d .window .width + i) 0) shows
             ∙ accepted-as-enhanced film w h pic s _ _ _ (made .accepts) _ _ _ _ _ (d .window) _ accepts entries (e .map) (e .scratch) (too .map) (too .scratch) j i l k
-            ∙ sym (ap (λ (z : Over). getD (z .picture) ((d .window .top + j) * w + (d .window .left + i)) 0) over),
+            ∙ sym (ap (λ (z : EnhanceOut). getD (z .picture) ((d .window .top + j) * w + (d .window .left + i)) 0) over),
       )

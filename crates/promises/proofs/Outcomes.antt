@@ -4,11 +4,11 @@
 use mathlib.Core.Path.{_≡_, sym, ap, _∙_}
 use lib.ListN.{take}
 use Rattle.settings.specs.Settings.{entriesOf, keptOf, keptRecord}
-use Rattle.prepare.specs.Prepare.{Ended, prepareOf, Over, enhanceOf}
-use Rattle.draw.specs.Draw.{Shows, drawOf}
+use Rattle.prepare.specs.Prepare.{PrepareOut, prepareOf, EnhanceOut, enhanceOf}
+use Rattle.draw.specs.Draw.{DrawOut, drawOf}
 use Rattle.prepare.proofs.Like.{prepare-kept, enhance-kept}
 use Rattle.draw.proofs.Like.{draw-kept, draw-kept-record, draw-front}
-use Rattle.promises.proofs.Runs.{PrepareCall, Prepares, prepare-given, prepare-read, prepare-ends, EnhanceCall, Enhances, enhance-given, enhance-read, enhance-ends, DrawCall, Draws, draw-given, draw-read, draw-ends}
+use Rattle.promises.proofs.Runs.{PrepareCall, Prepares, prepare-arguments, prepare-read, prepare-ends, EnhanceCall, Enhances, enhance-arguments, enhance-read, enhance-ends, DrawCall, Draws, draw-arguments, draw-read, draw-ends}
 
 -- ---- what is read
 
@@ -22,7 +22,7 @@ prepare-alike {p} {q} x y same =
     ∙ ap (λ g. prepareOf (g .0) (g .1) (g .2) (g .3) (g .4) (g .5) (g .6) (g .7)) same
     ∙ prepare-kept (q .film) (q .width) (q .height) (q .pixels) (q .settings) (q .map) (q .scratch) (q .list)
     ∙ sym (prepare-ends y) in
-    (ap (λ (z : Ended). z .answer) e, ap (λ (z : Ended). z .map) e, ap (λ (z : Ended). z .scratch) e, ap (λ (z : Ended). z .list) e)
+    (ap (λ (z : PrepareOut). z .answer) e, ap (λ (z : PrepareOut). z .map) e, ap (λ (z : PrepareOut). z .scratch) e, ap (λ (z : PrepareOut). z .list) e)
 
 -- and so does enhance
 pub enhance-alike : {e f : EnhanceCall} → Enhances e → Enhances f → enhance-read e ≡ enhance-read f
@@ -34,7 +34,7 @@ enhance-alike {e} {f} x y same =
     ∙ ap (λ g. enhanceOf (g .0) (g .1) (g .2) (g .3) (g .4) (g .5)) same
     ∙ enhance-kept (f .width) (f .height) (f .pixels) (f .settings) (f .map) (f .scratch)
     ∙ sym (enhance-ends y) in
-    (ap (λ (z : Over). z .answer) k, ap (λ (z : Over). z .picture) k, ap (λ (z : Over). z .map) k, ap (λ (z : Over). z .scratch) k)
+    (ap (λ (z : EnhanceOut). z .answer) k, ap (λ (z : EnhanceOut). z .picture) k, ap (λ (z : EnhanceOut). z .map) k, ap (λ (z : EnhanceOut). z .scratch) k)
 
 -- what draw shows is what it shows of what it reads
 shown : (d : DrawCall)
@@ -50,21 +50,21 @@ shown d =
 pub draw-alike : {d f : DrawCall} → Draws d → Draws f → draw-read d ≡ draw-read f → (d .answer ≡ f .answer) × (d .out′ ≡ f .out′)
 draw-alike {d} {f} x y same =
     let e = draw-ends x ∙ sym (shown d) ∙ ap (λ g. drawOf (g .0) (g .1) (g .2) (g .3) (g .4) (g .5) (g .6) (g .7) (g .8)) same ∙ shown f ∙ sym (draw-ends y) in
-    (ap (λ (z : Shows). z .answer) e, ap (λ (z : Shows). z .out) e)
+    (ap (λ (z : DrawOut). z .answer) e, ap (λ (z : DrawOut). z .out) e)
 
 -- ---- any two outcomes are equal
 
 -- prepare: one answer, one map buffer, one scratch and one list at the end
-pub prepare-determined : {p q : PrepareCall} → Prepares p → Prepares q → prepare-given p ≡ prepare-given q
+pub prepare-determined : {p q : PrepareCall} → Prepares p → Prepares q → prepare-arguments p ≡ prepare-arguments q
     → (p .answer ≡ q .answer) × (p .map′ ≡ q .map′) × (p .scratch′ ≡ q .scratch′) × (p .list′ ≡ q .list′)
 prepare-determined x y same = prepare-alike x y (ap (λ g. (g .0, g .1, g .2, g .3, keptOf (g .4), g .5, g .6, g .7)) same)
 
 -- enhance: one answer, one picture, one map buffer and one scratch at the end
-pub enhance-determined : {e f : EnhanceCall} → Enhances e → Enhances f → enhance-given e ≡ enhance-given f
+pub enhance-determined : {e f : EnhanceCall} → Enhances e → Enhances f → enhance-arguments e ≡ enhance-arguments f
     → (e .answer ≡ f .answer) × (e .pixels′ ≡ f .pixels′) × (e .map′ ≡ f .map′) × (e .scratch′ ≡ f .scratch′)
 enhance-determined x y same = enhance-alike x y (ap (λ g. (g .0, g .1, g .2, keptOf (g .3), g .4, g .5)) same)
 
 -- draw: one answer and one output at the end
-pub draw-determined : {d f : DrawCall} → Draws d → Draws f → draw-given d ≡ draw-given f → (d .answer ≡ f .answer) × (d .out′ ≡ f .out′)
+pub draw-determined : {d f : DrawCall} → Draws d → Draws f → draw-arguments d ≡ draw-arguments f → (d .answer ≡ f .answer) × (d .out′ ≡ f .out′)
 draw-determined x y same =
     draw-alike x y (ap (λ g. (g .0, g .1, g .2, g .3, keptOf (g .4), keptRecord (g .5), g .6, take (entriesOf (g .4)) (g .7), g .8)) same)

@@ -21,8 +21,8 @@ use Rattle.settings.specs.Settings.{entriesOf, keptOf, clipOne, sharedRows}
 use Rattle.settings.proofs.Like.{bins-kept, kept-same}
 use Rattle.settings.proofs.Records.{record-settings}
 use Rattle.render.specs.Render.{rectOf}
-use Rattle.tiles.specs.Tiles.{mappings, Work, TilesAsk}
-use Rattle.prepare.specs.Prepare.{preparedSays, Ended, prepareOf, preparedOf}
+use Rattle.tiles.specs.Tiles.{mappings, Work, TilesReady}
+use Rattle.prepare.specs.Prepare.{preparedSays, PrepareOut, prepareOf, preparedOf}
 use Rattle.prepare.proofs.Table.{table-both}
 use Rattle.tiles.proofs.Films.{length-mappings, mappings-within}
 use Rattle.prepare.proofs.Renders.{laid-front}
@@ -46,7 +46,7 @@ module _ (film w h : ℕ) (pic : List ℕ) (s : Settings) (m t n : List ℕ) {r 
   -- at the factor 1.0 the map buffer stays; else it holds the mappings
   pub left-map : prepareOf film w h pic s m t n .map ≡ cond (clipOne (s .clip)) m (onto m (mappings w h pic s))
   unfolding preparedOf
-  left-map = ap (λ (x : Ended). x .map) (prepare-done film w h pic s m t n done)
+  left-map = ap (λ (x : PrepareOut). x .map) (prepare-done film w h pic s m t n done)
 
   -- its length is what it was
   pub left-length : length (prepareOf film w h pic s m t n .map) ≡ length m
@@ -72,7 +72,7 @@ module _ (film w h : ℕ) (pic : List ℕ) (s : Settings) (m t n : List ℕ) {r 
   left-laid one = left-map ∙ ap (λ b. cond b m (onto m (mappings w h pic s))) one
 
   -- so what the tiles ask is met
-  pub left-asks : clipOne (s .clip) ≡ false → TilesAsk w h pic s (length m) (length t)
+  pub left-asks : clipOne (s .clip) ≡ false → TilesReady w h pic s (length m) (length t)
   left-asks one = record { work = prepare-work film w h pic s m t n done; changes = one }
 
   -- neither 13 nor 18 applies

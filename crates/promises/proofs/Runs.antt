@@ -19,21 +19,21 @@ use Rattle.settings.specs.declared.Window.{Window}
 use Rattle.settings.specs.Settings.{entriesOf, keptOf, keptRecord}
 use Rattle.prepare.specs.declared.Prepared.{Prepared}
 use Rattle.prepare.specs.declared.Enhanced.{Enhanced}
-use Rattle.prepare.specs.Prepare.{ending, prepareOf, overing, enhanceOf}
+use Rattle.prepare.specs.Prepare.{prepareLeaves, prepareOf, enhanceLeaves, enhanceOf}
 use Rattle.prepare.proofs.prepare.Kinds as prepare
 use Rattle.prepare.proofs.prepare.Reads as prepare-reads
 use Rattle.prepare.proofs.enhance.Kinds as enhance
 use Rattle.prepare.proofs.enhance.Reads as enhance-reads
 use Rattle.draw.specs.declared.Drawn.{Drawn}
-use Rattle.draw.specs.Draw.{showing, drawOf}
+use Rattle.draw.specs.Draw.{drawLeaves, drawOf}
 use Rattle.draw.proofs.draw.Kinds as draw
 use Rattle.draw.proofs.draw.Reads as draw-reads
 use Rattle.pgm.specs.declared.Sizes.{Sizes}
 use Rattle.pgm_greys.specs.declared.Turned.{Turned}
 use Rattle.pgm_write.specs.declared.Written.{Written}
-use Rattle.pgm.specs.Pgm.{readOf, sizesOf, rasterOf, startOf}
-use Rattle.pgm_greys.specs.Greys.{turnedOf, greyedAs}
-use Rattle.pgm_write.specs.Write.{writeOf, wroteAs}
+use Rattle.pgm.specs.Pgm.{readOf, sizesOf, rasterOf, rasterStart}
+use Rattle.pgm_greys.specs.Greys.{turnedOf, greysLeave}
+use Rattle.pgm_write.specs.Write.{writeOf, writeLeaves}
 use Rattle.pgm.proofs.read_sizes.Kinds as sizes
 use Rattle.pgm.proofs.read_sizes.Reads as sizes-reads
 use Rattle.pgm.proofs.read_raster.Kinds as raster
@@ -66,8 +66,8 @@ prepare-values run =
     record { film = film; width = width; height = height; pixels = now pixels; settings = settings; map = now map; scratch = now scratch; list = now list; answer = run .answer; map′ = now map′; scratch′ = now scratch′; list′ = now list′ }
 
 -- what it is handed
-abbrev pub prepare-given : PrepareCall → ℕ × ℕ × ℕ × List ℕ × Settings × List ℕ × List ℕ × List ℕ
-prepare-given c = (c .film, c .width, c .height, c .pixels, c .settings, c .map, c .scratch, c .list)
+abbrev pub prepare-arguments : PrepareCall → ℕ × ℕ × ℕ × List ℕ × Settings × List ℕ × List ℕ × List ℕ
+prepare-arguments c = (c .film, c .width, c .height, c .pixels, c .settings, c .map, c .scratch, c .list)
 
 -- what it reads of that: the settings "with bins 0 kept as 128"
 abbrev pub prepare-read : PrepareCall → ℕ × ℕ × ℕ × List ℕ × Settings × List ℕ × List ℕ × List ℕ
@@ -78,7 +78,7 @@ abbrev pub Prepares : PrepareCall → Type 0
 Prepares = Ran prepare-values
 
 pub prepare-ends : {p : PrepareCall} → Prepares p
-    → ending (p .answer) (p .map′) (p .scratch′) (p .list′) ≡ prepareOf (p .film) (p .width) (p .height) (p .pixels) (p .settings) (p .map) (p .scratch) (p .list)
+    → prepareLeaves (p .answer) (p .map′) (p .scratch′) (p .list′) ≡ prepareOf (p .film) (p .width) (p .height) (p .pixels) (p .settings) (p .map) (p .scratch) (p .list)
 prepare-ends ran = rw (ran .named) (ran .run .allowed)
 
 -- ---- enhance
@@ -102,8 +102,8 @@ enhance-values run =
     record { width = width; height = height; pixels = now pixels; settings = settings; map = now map; scratch = now scratch; answer = run .answer; pixels′ = now pixels′; map′ = now map′; scratch′ = now scratch′ }
 
 -- what it is handed
-abbrev pub enhance-given : EnhanceCall → ℕ × ℕ × List ℕ × Settings × List ℕ × List ℕ
-enhance-given c = (c .width, c .height, c .pixels, c .settings, c .map, c .scratch)
+abbrev pub enhance-arguments : EnhanceCall → ℕ × ℕ × List ℕ × Settings × List ℕ × List ℕ
+enhance-arguments c = (c .width, c .height, c .pixels, c .settings, c .map, c .scratch)
 
 -- what it reads of that: the settings "with bins 0 kept as 128"
 abbrev pub enhance-read : EnhanceCall → ℕ × ℕ × List ℕ × Settings × List ℕ × List ℕ
@@ -114,7 +114,7 @@ abbrev pub Enhances : EnhanceCall → Type 0
 Enhances = Ran enhance-values
 
 pub enhance-ends : {e : EnhanceCall} → Enhances e
-    → overing (e .answer) (e .pixels′) (e .map′) (e .scratch′) ≡ enhanceOf (e .width) (e .height) (e .pixels) (e .settings) (e .map) (e .scratch)
+    → enhanceLeaves (e .answer) (e .pixels′) (e .map′) (e .scratch′) ≡ enhanceOf (e .width) (e .height) (e .pixels) (e .settings) (e .map) (e .scratch)
 enhance-ends ran = rw (ran .named) (ran .run .allowed)
 
 -- ---- draw
@@ -140,8 +140,8 @@ draw-values run =
     record { film = film; width = width; height = height; pixels = now pixels; settings = settings; kept = kept; window = window; map = now map; out = now out; answer = run .answer; out′ = now out′ }
 
 -- what it is handed
-abbrev pub draw-given : DrawCall → ℕ × ℕ × ℕ × List ℕ × Settings × MapRecord × Window × List ℕ × List ℕ
-draw-given c = (c .film, c .width, c .height, c .pixels, c .settings, c .kept, c .window, c .map, c .out)
+abbrev pub draw-arguments : DrawCall → ℕ × ℕ × ℕ × List ℕ × Settings × MapRecord × Window × List ℕ × List ℕ
+draw-arguments c = (c .film, c .width, c .height, c .pixels, c .settings, c .kept, c .window, c .map, c .out)
 
 -- what it reads of that: "bins 0 read as 128 on both sides", and of the map buffer "the first (grid across) x (grid down) x B map entries"
 abbrev pub draw-read : DrawCall → ℕ × ℕ × ℕ × List ℕ × Settings × MapRecord × Window × List ℕ × List ℕ
@@ -162,7 +162,7 @@ abbrev pub Draws : DrawCall → Type 0
 Draws = Ran draw-values
 
 pub draw-ends : {d : DrawCall} → Draws d
-    → showing (d .answer) (d .out′) ≡ drawOf (d .film) (d .width) (d .height) (d .pixels) (d .settings) (d .kept) (d .window) (d .map) (d .out)
+    → drawLeaves (d .answer) (d .out′) ≡ drawOf (d .film) (d .width) (d .height) (d .pixels) (d .settings) (d .kept) (d .window) (d .map) (d .out)
 draw-ends ran = rw (ran .named) (ran .run .allowed)
 
 -- ---- read, asked for the sizes
@@ -201,7 +201,7 @@ pub raster-ends : {c : RasterCall} → ReadsRaster c → c .part ≡ rasterOf (r
 raster-ends ran = rw (ran .named) (ran .run .allowed .0)
 
 -- "as that part of the caller's bytes": it lies where the raster starts in them
-pub raster-place : {c : RasterCall} → ReadsRaster c → c .at ≡ (c .from .0, startOf (readOf (c .bytes)) + c .from .1)
+pub raster-place : {c : RasterCall} → ReadsRaster c → c .at ≡ (c .from .0, rasterStart (readOf (c .bytes)) + c .from .1)
 raster-place ran = rw (ran .named) (ran .run .allowed .1)
 
 -- ---- greys
@@ -224,14 +224,14 @@ greys-values run =
     record { bytes = now bytes; start = start; width = width; height = height; maxval = maxval; target = now target; answer = run .answer; target′ = now target′ }
 
 -- what it is handed
-abbrev pub greys-given : GreysCall → List ℕ × ℕ × ℕ × ℕ × ℕ × List ℕ
-greys-given c = (c .bytes, c .start, c .width, c .height, c .maxval, c .target)
+abbrev pub greys-arguments : GreysCall → List ℕ × ℕ × ℕ × ℕ × ℕ × List ℕ
+greys-arguments c = (c .bytes, c .start, c .width, c .height, c .maxval, c .target)
 
 -- greys ran with these values
 abbrev pub Greys : GreysCall → Type 0
 Greys = Ran greys-values
 
-pub greys-ends : {g : GreysCall} → Greys g → greyedAs (g .answer) (g .target′) ≡ turnedOf (g .bytes) (g .start) (g .width) (g .height) (g .maxval) (g .target)
+pub greys-ends : {g : GreysCall} → Greys g → greysLeave (g .answer) (g .target′) ≡ turnedOf (g .bytes) (g .start) (g .width) (g .height) (g .maxval) (g .target)
 greys-ends ran = rw (ran .named) (ran .run .allowed)
 
 -- ---- write
@@ -252,14 +252,14 @@ write-values run =
     record { pixels = now pixels; width = width; height = height; maxval = maxval; out = now out; answer = run .answer; out′ = now out′ }
 
 -- what it is handed
-abbrev pub write-given : WriteCall → List ℕ × ℕ × ℕ × ℕ × List ℕ
-write-given c = (c .pixels, c .width, c .height, c .maxval, c .out)
+abbrev pub write-arguments : WriteCall → List ℕ × ℕ × ℕ × ℕ × List ℕ
+write-arguments c = (c .pixels, c .width, c .height, c .maxval, c .out)
 
 -- write ran with these values
 abbrev pub Writes : WriteCall → Type 0
 Writes = Ran write-values
 
-pub write-ends : {c : WriteCall} → Writes c → wroteAs (c .answer) (c .out′) ≡ writeOf (c .pixels) (c .width) (c .height) (c .maxval) (c .out)
+pub write-ends : {c : WriteCall} → Writes c → writeLeaves (c .answer) (c .out′) ≡ writeOf (c .pixels) (c .width) (c .height) (c .maxval) (c .out)
 write-ends ran = rw (ran .named) (ran .run .allowed)
 
 -- ---- the judgement of a clip setting

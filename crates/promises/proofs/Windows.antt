@@ -17,7 +17,7 @@ use Rattle.render.specs.Render.{renderOf, rectOf}
 use Rattle.prepare.specs.Prepare.{preparedSays, prepareOf, enhanceOf}
 use Rattle.draw.specs.declared.Drawn.the-variants.{Done}
 use Rattle.held.specs.Held.{Held}
-use Rattle.draw.specs.Draw.{drawnSays, Shows, showing, drawOf, DrawReady}
+use Rattle.draw.specs.Draw.{drawnSays, DrawOut, drawLeaves, drawOf, DrawReady}
 use Rattle.settings.proofs.Clips.{same-clip-one}
 use Rattle.settings.proofs.Records.{record-width, record-height, record-settings, record-bins}
 use Rattle.render.proofs.Laws.{render-fields}
@@ -84,7 +84,7 @@ module _ (film w h : ℕ) (pic : List ℕ) (s : Settings) (m t n : List ℕ) {r 
   pub accepted-same : drawOf film′ w′ h′ pic s′ r win m′ out ≡ drawOf film w h pic s r win m′ out
   accepted-same =
       table-done (draw-table film′ w′ h′ pic s′ r win m′ out) drawn
-      ∙ ap (showing Done) (drawn-pixels w′ h′ pic s′ win m′ ∙ pixels ∙ sym (drawn-pixels w h pic s win m′))
+      ∙ ap (drawLeaves Done) (drawn-pixels w′ h′ pic s′ win m′ ∙ pixels ∙ sym (drawn-pixels w h pic s win m′))
       ∙ sym (table-done (draw-table film w h pic s r win m′ out) (draw-agrees film w h pic s m t n done s m′ win out accepted-handed))
     where
       greys : List ℕ
@@ -100,16 +100,16 @@ module _ (film w h : ℕ) (pic : List ℕ) (s : Settings) (m t n : List ℕ) {r 
   pub accepted-by-rule : clipOne (s .clip) ≡ false → (j i : ℕ) → j < win .height → i < win .width
       → getD (drawOf film′ w′ h′ pic s′ r win m′ out .out) (j * win .width + i) 0 ≡ ruleGrey w h pic s (win .left + i) (win .top + j)
   accepted-by-rule one j i l k =
-      ap (λ (x : Shows). getD (x .out) (j * win .width + i) 0) accepted-same ∙ own-window film w h pic s m t n done s m′ win out accepted-handed one j i l k
+      ap (λ (x : DrawOut). getD (x .out) (j * win .width + i) 0) accepted-same ∙ own-window film w h pic s m t n done s m′ win out accepted-handed one j i l k
 
   -- at the factor 1.0 the film's own
   pub accepted-as-film : clipOne (s .clip) ≡ true → (j i : ℕ) → j < win .height → i < win .width
       → getD (drawOf film′ w′ h′ pic s′ r win m′ out .out) (j * win .width + i) 0 ≡ getD pic ((win .top + j) * w + (win .left + i)) 0
   accepted-as-film one j i l k =
-      ap (λ (x : Shows). getD (x .out) (j * win .width + i) 0) accepted-same ∙ drawn-is-film film w h pic s m t n done s m′ win out accepted-handed one j i l k
+      ap (λ (x : DrawOut). getD (x .out) (j * win .width + i) 0) accepted-same ∙ drawn-is-film film w h pic s m t n done s m′ win out accepted-handed one j i l k
 
   -- and the one in enhance's picture
   pub accepted-as-enhanced : (m₂ t₂ : List ℕ) → entriesOf s ≤ length m₂ → binsOf s ≤ length t₂ → (j i : ℕ) → j < win .height → i < win .width
       → getD (drawOf film′ w′ h′ pic s′ r win m′ out .out) (j * win .width + i) 0 ≡ getD (enhanceOf w h pic s m₂ t₂ .picture) ((win .top + j) * w + (win .left + i)) 0
   accepted-as-enhanced m₂ t₂ room scratch j i l k =
-      ap (λ (x : Shows). getD (x .out) (j * win .width + i) 0) accepted-same ∙ drawn-is-enhanced film w h pic s m t n done s m′ win out accepted-handed m₂ t₂ room scratch j i l k
+      ap (λ (x : DrawOut). getD (x .out) (j * win .width + i) 0) accepted-same ∙ drawn-is-enhanced film w h pic s m t n done s m′ win out accepted-handed m₂ t₂ room scratch j i l k

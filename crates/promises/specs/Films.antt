@@ -23,17 +23,17 @@ use Rattle.settings.specs.declared.Footer.{Footer}
 use Rattle.settings.specs.declared.Window.{Window}
 use Rattle.settings.specs.Settings.{binsOf, entriesOf, keptOf, clipOne}
 use Rattle.counting.specs.Counting.{rawCounts}
-use Rattle.tiles.specs.Tiles.{tileOf, pixelsIn, none, one}
+use Rattle.tiles.specs.Tiles.{tileOf, pixelsIn, zeroFloat, one}
 use Rattle.rule.specs.Reach.{LiesIn}
 
 -- ---- a tile
 
 -- "the clipped counts" of tile k, the raw ones where the clip is off
-abbrev pub clippedCounts : ℕ → ℕ → List ℕ → Settings → ℕ → List ℕ
+abbrev pub clippedCounts : (w h : ℕ) (pic : List ℕ) (s : Settings) (k : ℕ) → List ℕ
 clippedCounts w h pic s k = tileCounts (s .min) (s .max) (binsOf s) (s .edition) (s .clip) (greysOf pic w (tileOf w h s k))
 
 -- what its mapping divides by: N, its pixels; in the edition of 1986 with a factor "the new total T instead of N"
-abbrev pub dividesIn : ℕ → ℕ → List ℕ → Settings → ℕ → ℕ
+abbrev pub dividesIn : (w h : ℕ) (pic : List ℕ) (s : Settings) (k : ℕ) → ℕ
 dividesIn w h pic s k = tileDivides (s .min) (s .max) (binsOf s) (s .edition) (s .clip) (greysOf pic w (tileOf w h s k))
 
 -- order 6, tiles without gap or overlap: it lies in one tile of the film and in no other
@@ -65,7 +65,7 @@ footer l asked used = record { limit = l; asked = asked; used = used }
 -- what a footer shows of a film with this clip setting, n pixels in its first tile and b bins: order 6, "the footer shows those of tile 0, 0"
 pub record FooterShows (clip : Clip) (n b : ℕ) (foot : Footer) : Type 0 where
   -- "Clip off: L 0, both factors 0.0."
-  pub off : clip ≡ Off → foot ≡ footer 0 none none
+  pub off : clip ≡ Off → foot ≡ footer 0 zeroFloat zeroFloat
   -- "Factor 1.0: L 0, both 1.0"
   pub unchanged : (f : Float) → clip ≡ Factor f → isOne f ≡ true → foot ≡ footer 0 one one
   -- "a footer record with L, the factor asked as f32 and the factor used as f64: L x B and N are each converted exactly and divided once"
@@ -92,7 +92,7 @@ pub record HandedOn (w h : ℕ) (s : Settings) (m : List ℕ) (s′ : Settings) 
 -- ---- demand 3
 
 -- "the limit times the grey range over the tile's pixels, rounded up"
-abbrev pub steepest : ℕ → ℕ → ℕ → ℕ → ℕ
+abbrev pub steepest : (lo hi n l : ℕ) → ℕ
 steepest lo hi n l = (l * (hi - lo) + n - 1) / n
 
 -- a tile, or any rectangle, of n pixels and b bins with the limit l: its raw counts, its clipped counts, and the map entry of each bin
@@ -115,11 +115,11 @@ pub record TileSound (lo hi n b l : ℕ) (raw clipped : List ℕ) (entry : ℕ �
   pub begins : entry 0 ≤ lo + steepest lo hi n l
 
 -- order 6, "N and L are each tile's own": the limit of tile k with the factor f
-abbrev pub limitIn : ℕ → ℕ → Settings → Float → ℕ → ℕ
+abbrev pub limitIn : (w h : ℕ) (s : Settings) (f : Float) (k : ℕ) → ℕ
 limitIn w h s f k = limitOf f (pixelsIn w h s k) (binsOf s)
 
 -- "in every tile of a film", and "Demand 3 reads with each tile's own N and L": all of that of each tile, with the factor f and the map buffer m that holds the tiles' mappings
-abbrev pub FilmSound : ℕ → ℕ → List ℕ → Settings → Float → List ℕ → Type 0
+abbrev pub FilmSound : (w h : ℕ) (pic : List ℕ) (s : Settings) (f : Float) (m : List ℕ) → Type 0
 FilmSound w h pic s f m =
     (k : ℕ) → k < s .across * s .down
     → TileSound (s .min) (s .max) (pixelsIn w h s k) (binsOf s) (limitIn w h s f k) (rawCounts w h pic s k) (clippedCounts w h pic s k) (λ b. getD m (k * binsOf s + b) 0)

@@ -66,7 +66,7 @@ fitPlace tw grid x =
     cond (ltb x (half tw)) (fitAlone tw 0) (cond (eqb (k + 1) grid) (fitAlone tw k) (fitBetween tw k o))
 
 -- the grey of the pixel in column x and row y
-unfoldable pub fitGrey : ℕ → ℕ → List ℕ → Settings → ℕ → ℕ → ℕ
+unfoldable pub fitGrey : (w h : ℕ) (pic : List ℕ) (s : Settings) (x y : ℕ) → ℕ
 fitGrey w h pic s x y =
     greyFrom w pic s (fitRect w h s) (fitPlace (tileWidth w s) (s .across) x) (fitPlace (tileHeight h s) (s .down) y) (getD pic (y * w + x) 0)
 

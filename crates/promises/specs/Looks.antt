@@ -41,7 +41,7 @@ abbrev pub TilesLooks : ℕ → ℕ → Settings → Float → (ℕ → List ℕ
 TilesLooks w h s f counts n = (k : ℕ) → k < s .across * s .down → TileLooks (binsOf s) (limitIn w h s f k) (counts k) (excessAt n k) (looksAt n k)
 
 -- and of a film's, with each tile's own raw counts
-abbrev pub FilmLooks : ℕ → ℕ → List ℕ → Settings → Float → List ℕ → Type 0
+abbrev pub FilmLooks : (w h : ℕ) (pic : List ℕ) (s : Settings) (f : Float) (n : List ℕ) → Type 0
 FilmLooks w h pic s f n = TilesLooks w h s f (rawCounts w h pic s) n
 
 -- "With clip off both are 0": of every tile
@@ -53,7 +53,7 @@ abbrev pub TilesOlderLooks : ℕ → ℕ → Settings → Float → (ℕ → Lis
 TilesOlderLooks w h s f counts n = (k : ℕ) → k < s .across * s .down → (excessAt n k ≡ excess (limitIn w h s f k) (counts k)) × (looksAt n k ≡ 0)
 
 -- and of a film's, with each tile's own raw counts
-abbrev pub FilmOlderLooks : ℕ → ℕ → List ℕ → Settings → Float → List ℕ → Type 0
+abbrev pub FilmOlderLooks : (w h : ℕ) (pic : List ℕ) (s : Settings) (f : Float) (n : List ℕ) → Type 0
 FilmOlderLooks w h pic s f n = TilesOlderLooks w h s f (rawCounts w h pic s) n
 
 -- 32, "this list is shorter than twice the number of tiles, straight after 12": with so many entries of the map buffer, the scratch and the list

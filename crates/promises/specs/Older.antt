@@ -44,7 +44,7 @@ pub record TileOlder (lo hi n b c p : ℕ) (raw new : List ℕ) (entry : ℕ →
   pub ends : entry (b - 1) ≡ hi
 
 -- all of that of each tile, with its own N, C, P and T
-abbrev pub FilmOlder : ℕ → ℕ → List ℕ → Settings → Float → List ℕ → Type 0
+abbrev pub FilmOlder : (w h : ℕ) (pic : List ℕ) (s : Settings) (f : Float) (m : List ℕ) → Type 0
 FilmOlder w h pic s f m =
     (k : ℕ) → k < s .across * s .down
     → TileOlder (s .min) (s .max) (pixelsIn w h s k) (binsOf s) (limitIn w h s f k) (levelOf (limitIn w h s f k) (rawCounts w h pic s k)) (rawCounts w h pic s k) (clippedCounts w h pic s k)

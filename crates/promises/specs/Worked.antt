@@ -24,11 +24,11 @@ use Rattle.rule.specs.Reach.{Weighed, usedTiles}
 -- a worked number: what goes in, and last what the document says comes out
 pub data Worked : Type 0 where
   -- a factor's f32 bits, N and B: L
-  limit : ℕ → ℕ → ℕ → ℕ → Worked
+  limit : (f n b l : ℕ) → Worked
   -- the same: what the factor alone gives
-  floored : ℕ → ℕ → ℕ → ℕ → Worked
+  floored : (f n b l : ℕ) → Worked
   -- L, B and N: the factor used, as its f64 bits
-  factor : ℕ → ℕ → ℕ → ℕ → Worked
+  factor : (l b n bits : ℕ) → Worked
   -- L and counts: the clipped counts
   clip : ℕ → List ℕ → List ℕ → Worked
   -- the same: how many bins the leftover walk looks at
@@ -40,17 +40,17 @@ pub data Worked : Type 0 where
   -- Min, Max, N (or T) and counts: the mapping
   mapping : ℕ → ℕ → ℕ → List ℕ → List ℕ → Worked
   -- Min, Max, B and a grey: its bin
-  bin : ℕ → ℕ → ℕ → ℕ → ℕ → Worked
+  bin : (lo hi b v k : ℕ) → Worked
   -- a side, a grid and i: edge i
-  edge : ℕ → ℕ → ℕ → ℕ → Worked
+  edge : (side grid i e : ℕ) → Worked
   -- the same: centre i
-  centre : ℕ → ℕ → ℕ → ℕ → Worked
+  centre : (side grid i c : ℕ) → Worked
   -- a side, a grid and a column: its place, which is two tiles, a weight for each, and the span
   place : ℕ → ℕ → ℕ → List ℕ → Worked
   -- a side of a square film of 2 by 2 tiles, whose mapped values are 10, 20, 30, 41, and a pixel: its grey
-  grey : ℕ → ℕ → ℕ → ℕ → Worked
+  grey : (side x y v : ℕ) → Worked
   -- order 10: a side and a grid of a square film, and a pixel: the tiles that its rule uses, each with its weight
-  used : ℕ → ℕ → ℕ → ℕ → List ℕ → Worked
+  used : (side grid x y : ℕ) (ns : List ℕ) → Worked
 
 -- the numbers of a place
 abbrev pub numbers : Place → List ℕ
@@ -66,7 +66,7 @@ abbrev pub squareGrid : ℕ → Settings
 squareGrid grid = record { across = grid; down = grid; bins = 2; min = 0; max = 1; clip = Off; edition = Ours }
 
 -- the grey of that pixel
-unfoldable pub greyAt : ℕ → ℕ → ℕ → ℕ
+unfoldable pub greyAt : (side x y : ℕ) → ℕ
 greyAt side x y =
     let column = placeOf side 2 x in
     let row = placeOf side 2 y in

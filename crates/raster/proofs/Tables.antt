@@ -13,8 +13,8 @@ use Rattle.lists.specs.Lists.{all}
 use Rattle.lists.proofs.Orders.{pos}
 use Rattle.refuse.specs.Refuse.{first, None, numbersOf, Numbered}
 use Rattle.refuse.proofs.Walk.{first-none}
-use Rattle.samples.specs.Samples.{isWide, sizeOf}
-use Rattle.raster.specs.Raster.{rasterSize, headRows, rasterRows, Within, RasterAsks}
+use Rattle.samples.specs.Samples.{isWide, sampleBytes}
+use Rattle.raster.specs.Raster.{rasterSize, headRows, rasterRows, RasterLimits, RasterAsks}
 
 -- ---- the numbers
 
@@ -34,7 +34,7 @@ raster-numbered w h m size = refl
 -- ---- 22 and 23
 
 -- none of them applies: size and maxval are in their limits
-pub head-within : (w h m : ℕ) → first (headRows w h m) ≡ 0 → Within w h m
+pub head-within : (w h m : ℕ) → first (headRows w h m) ≡ 0 → RasterLimits w h m
 unfolding headRows
 head-within w h m e =
     let n = first-none _ (limit-numbered w h m) e in
@@ -43,18 +43,18 @@ head-within w h m e =
       widest = ltb-false _ _ (n .1 .0);
       high = pos h (n .1 .1 .0);
       highest = ltb-false _ _ (n .1 .1 .1 .0);
-      lit = pos m (n .1 .1 .1 .1 .0);
-      brightest = ltb-false _ _ (n .1 .1 .1 .1 .1 .0);
+      maxval-some = pos m (n .1 .1 .1 .1 .0);
+      maxval-most = ltb-false _ _ (n .1 .1 .1 .1 .1 .0);
     }
 
 -- and the other way
-pub within-none : (w h m : ℕ) → Within w h m → None (headRows w h m)
+pub within-none : (w h m : ℕ) → RasterLimits w h m → None (headRows w h m)
 unfolding headRows
 within-none w h m t =
     let a : w ≡ 0 → ⊥ = λ e. omega (arith, t .wide) in
     let b : h ≡ 0 → ⊥ = λ e. omega (arith, t .high) in
-    let d : m ≡ 0 → ⊥ = λ e. omega (arith, t .lit) in
-    (ne-eqb w 0 a, (le-ltb 4096 w (t .widest), (ne-eqb h 0 b, (le-ltb 4096 h (t .highest), (ne-eqb m 0 d, (le-ltb 4095 m (t .brightest), tt))))))
+    let d : m ≡ 0 → ⊥ = λ e. omega (arith, t .maxval-some) in
+    (ne-eqb w 0 a, (le-ltb 4096 w (t .widest), (ne-eqb h 0 b, (le-ltb 4096 h (t .highest), (ne-eqb m 0 d, (le-ltb 4095 m (t .maxval-most), tt))))))
 
 -- ---- 24 and 25
 
@@ -95,11 +95,11 @@ module _ (w h m size : ℕ) where
 pub count-small : (w h : ℕ) → w ≤ 4096 → h ≤ 4096 → w * h ≤ 16777216
 count-small w h p q = mul-le-mul p q
 
-size-most : (two : Bool) → sizeOf two ≤ 2
+size-most : (two : Bool) → sampleBytes two ≤ 2
 size-most true = omega arith
 size-most false = omega arith
 
-size-least : (two : Bool) → 1 ≤ sizeOf two
+size-least : (two : Bool) → 1 ≤ sampleBytes two
 size-least true = omega arith
 size-least false = omega arith
 
@@ -117,7 +117,7 @@ raster-some w h m p q = mul-pos (mul-pos p q) (size-least (isWide m))
 pub raster-asks : (bytes : List ℕ) (start w h m : ℕ) {size a b : ℕ} → a ≡ first (headRows w h m) → a ≡ 0 → size ≡ length bytes - start
     → b ≡ first (rasterRows w h m size) → b ≡ 0 → RasterAsks bytes start w h m
 raster-asks bytes start w h m {size} e z q f y =
-    let t : Within w h m = head-within w h m (sym e ∙ z) in
+    let t : RasterLimits w h m = head-within w h m (sym e ∙ z) in
     let x : rasterSize w h m ≡ size = exact w h m size (sym f ∙ y) in
     record { within = t; exact = omega (arith, raster-some w h m (t .wide) (t .high)) }
 

@@ -12,7 +12,7 @@ use Rattle.settings.specs.Settings.{keptOf}
 use Rattle.prepare.specs.Prepare.{enhancedSays}
 use Rattle.tiles.specs.Tiles.{tileOf}
 use Rattle.rule.specs.Rule.{shownGrey}
-use Rattle.rule.specs.Reach.{Alike, DifferIn, Beyond, BeyondTile}
+use Rattle.rule.specs.Reach.{AgreeAt, DifferIn, Beyond, BeyondTile}
 use Rattle.rule.proofs.Rule.{shown-like}
 use Rattle.rule.proofs.Local.{shown-local}
 use Rattle.rule.proofs.Stays.{rect-stays, beyond-tile}
@@ -36,7 +36,7 @@ pub record Twins (f f′ : Film) : Type 0 where
 -- that are alike for the pixel in column x and row y
 pub record Two (f f′ : Film) (x y : ℕ) : Type 0 where
   pub twins : Twins f f′
-  pub alike : Alike (f .width) (f .height) (f .settings) (f .pixels) (f′ .pixels) x y
+  pub alike : AgreeAt (f .width) (f .height) (f .settings) (f .pixels) (f′ .pixels) x y
 
 -- what is shown of a pixel is the same in two films that are alike for it
 pub seen-local : {f f′ : Film} {x y g g′ : ℕ} → Seen f x y g → Seen f′ x y g′ → Two f f′ x y → g ≡ g′

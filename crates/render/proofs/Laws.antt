@@ -23,7 +23,7 @@ use Rattle.settings.specs.Settings.{binsOf, entriesOf, keptOf, Ready}
 use Rattle.settings.proofs.Like.{bins-kept}
 use Rattle.settings.proofs.Records.{tiled-columns, tiled-rows}
 use Rattle.weigh.proofs.Pixels.{corners-by}
-use Rattle.render.specs.Render.{pixelOf, columnPlace, rowPlace, renderedOf, renderOf, whole, rectOf, Mapped, Shown, PixelAsks}
+use Rattle.render.specs.Render.{pixelOf, columnPlace, rowPlace, renderedOf, renderOf, whole, rectOf, Mapped, Shown, RenderPixelAsks}
 use Rattle.render.proofs.Pixels.{pixel-corners, pixel-fields, pixel-bin, pixel-within, pixel-front}
 use Rattle.render.proofs.Rows.{pixel-asks}
 use Rattle.render.proofs.Strips.{strip, length-strip, render-strips}
@@ -136,6 +136,6 @@ pub rendered-by : {w h : ℕ} {s : Settings} {m : List ℕ} → Mapped w h s m �
     (value (rowPlace h s y .upper) (columnPlace w s x .lower)) (value (rowPlace h s y .upper) (columnPlace w s x .upper))
 unfolding renderedOf
 rendered-by {w} {h} {s} {m} mapped value {x} {y} v l k g same =
-    let places : PixelAsks s m (columnPlace w s x) (rowPlace h s y) v = pixel-asks mapped l k g in
+    let places : RenderPixelAsks s m (columnPlace w s x) (rowPlace h s y) v = pixel-asks mapped l k g in
     pixel-corners s m (columnPlace w s x) (rowPlace h s y) v
     ∙ corners-by s m (binOf (s .min) (s .max) (binsOf s) v) value (places .column) (places .row) (λ j i p q. same j i p q (pixel-bin places))

@@ -15,7 +15,7 @@ use Rattle.settings.specs.Settings.{binsOf, entriesOf}
 use Rattle.weigh.specs.Weigh.{cornersOf, CornerAsks}
 pub use Rattle.weigh.proofs.Pixels.{tile-index}
 use Rattle.weigh.proofs.Pixels.{corners-within, corners-fields, corners-front}
-use Rattle.render.specs.Render.{pixelOf, PixelAsks}
+use Rattle.render.specs.Render.{pixelOf, RenderPixelAsks}
 
 -- a pixel is one of its bin
 pub pixel-corners : (s : Settings) (m : List ℕ) (column row : Place) (v : ℕ) → pixelOf s m column row v ≡ cornersOf s m column row (binOf (s .min) (s .max) (binsOf s) v)
@@ -33,20 +33,20 @@ pixel-fields s s′ m column row v across bins min max =
     ∙ sym (pixel-corners s m column row v)
 
 -- which is one of the bins
-pub pixel-bin : {s : Settings} {m : List ℕ} {column row : Place} {v : ℕ} → PixelAsks s m column row v → binOf (s .min) (s .max) (binsOf s) v < binsOf s
+pub pixel-bin : {s : Settings} {m : List ℕ} {column row : Place} {v : ℕ} → RenderPixelAsks s m column row v → binOf (s .min) (s .max) (binsOf s) v < binsOf s
 pixel-bin {s} {m} {column} {row} {v} asks = bin-below (s .min) (s .max) (binsOf s) v (asks .grey) (omega (arith, asks .maps .scale .some))
 
 -- so a pixel asks what one of its bin asks
-pub bin-asks : {s : Settings} {m : List ℕ} {column row : Place} {v : ℕ} → PixelAsks s m column row v → CornerAsks s m column row (binOf (s .min) (s .max) (binsOf s) v)
+pub bin-asks : {s : Settings} {m : List ℕ} {column row : Place} {v : ℕ} → RenderPixelAsks s m column row v → CornerAsks s m column row (binOf (s .min) (s .max) (binsOf s) v)
 bin-asks asks = record { maps = asks .maps; column = asks .column; row = asks .row; bin = pixel-bin asks }
 
 -- a rendered pixel lies in Min to Max
-pub pixel-within : {s : Settings} {m : List ℕ} {column row : Place} {v : ℕ} → PixelAsks s m column row v → within (s .min) (s .max) (pixelOf s m column row v) ≡ true
+pub pixel-within : {s : Settings} {m : List ℕ} {column row : Place} {v : ℕ} → RenderPixelAsks s m column row v → within (s .min) (s .max) (pixelOf s m column row v) ≡ true
 pixel-within {s} {m} {column} {row} {v} asks =
     ap (within (s .min) (s .max)) (pixel-corners s m column row v)
     ∙ corners-within (bin-asks asks)
 
 -- and is the same in map buffers that agree in the mappings' entries
-pub pixel-front : {s : Settings} {m : List ℕ} {column row : Place} {v : ℕ} → PixelAsks s m column row v → (m′ : List ℕ) → take (entriesOf s) m ≡ take (entriesOf s) m′
+pub pixel-front : {s : Settings} {m : List ℕ} {column row : Place} {v : ℕ} → RenderPixelAsks s m column row v → (m′ : List ℕ) → take (entriesOf s) m ≡ take (entriesOf s) m′
     → pixelOf s m column row v ≡ pixelOf s m′ column row v
 pixel-front {s} {m} {column} {row} {v} asks m′ e = pixel-corners s m column row v ∙ corners-front (bin-asks asks) m′ e ∙ sym (pixel-corners s m′ column row v)

@@ -11,15 +11,15 @@ use Rattle.scan.specs.Scan.{within}
 use Rattle.blend.specs.declared.Place.{Place}
 use Rattle.blend.proofs.Places.{place-sound}
 use Rattle.settings.specs.declared.Settings.{Settings}
-use Rattle.render.specs.Render.{columnPlace, rowPlace, Mapped, PixelAsks, RowAsks}
+use Rattle.render.specs.Render.{columnPlace, rowPlace, Mapped, RenderPixelAsks, RenderRowAsks}
 
 -- what a pixel of the film asks
-pub pixel-asks : {w h : ℕ} {s : Settings} {m : List ℕ} → Mapped w h s m → {x y v : ℕ} → x < w → y < h → within (s .min) (s .max) v ≡ true → PixelAsks s m (columnPlace w s x) (rowPlace h s y) v
+pub pixel-asks : {w h : ℕ} {s : Settings} {m : List ℕ} → Mapped w h s m → {x y v : ℕ} → x < w → y < h → within (s .min) (s .max) v ≡ true → RenderPixelAsks s m (columnPlace w s x) (rowPlace h s y) v
 pixel-asks mapped l k g = record { maps = mapped .maps; column = place-sound (mapped .columns) l; row = place-sound (mapped .rows) k; grey = g }
 
 -- and what a pixel of a row asks
-pub grey-asks : {w : ℕ} {s : Settings} {m : List ℕ} {left : ℕ} {row : Place} {vs : List ℕ} → RowAsks w s m left row vs → (i : ℕ) → i < length vs
-    → PixelAsks s m (columnPlace w s (left + i)) row (getD vs i 0)
+pub grey-asks : {w : ℕ} {s : Settings} {m : List ℕ} {left : ℕ} {row : Place} {vs : List ℕ} → RenderRowAsks w s m left row vs → (i : ℕ) → i < length vs
+    → RenderPixelAsks s m (columnPlace w s (left + i)) row (getD vs i 0)
 grey-asks {w} {s} {m} {left} {row} {vs} asks i l =
     record {
       maps = asks .maps;

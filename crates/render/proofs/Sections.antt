@@ -11,7 +11,7 @@ use Rattle.lists.proofs.Steps.{drop-filled, filled-part}
 use Rattle.lists.proofs.Tabs.{tab-cong}
 use Rattle.lists.proofs.Windows.{getD-part, length-part}
 use Rattle.blend.specs.declared.Place.{Place}
-use Rattle.blend.specs.Blend.{placeOf, moved, Run}
+use Rattle.blend.specs.Blend.{placeOf, moved, SameTiles}
 use Rattle.blend.proofs.Places.{run-shorter, run-place}
 use Rattle.render.specs.declared.Section.{Section}
 use Rattle.render.specs.Render.{Sectioned}
@@ -19,7 +19,7 @@ use Rattle.render.specs.Render.{Sectioned}
 -- ---- a section
 
 -- the first run of a row, or what is left of the row where that is less
-pub section-is : {w grid left at n run less : ℕ} {column : Place} → column ≡ placeOf w grid (left + at) → Run w grid (left + at) column run
+pub section-is : {w grid left at n run less : ℕ} {column : Place} → column ≡ placeOf w grid (left + at) → SameTiles w grid (left + at) column run
     → (less ≤ run) × (less ≤ n - at) × (0 < run → 0 < n - at → 0 < less) → at < n → Sectioned w grid left at n record { column = column; end = at + less }
 section-is {w} {grid} {left} {at} {n} {run} {less} e r h l =
     let some : 0 < less = h .2 (r .some) (omega arith) in

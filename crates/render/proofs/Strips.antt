@@ -16,7 +16,7 @@ use Rattle.grid.specs.Grid.{Fits}
 use Rattle.blend.proofs.Places.{place-sound}
 use Rattle.settings.specs.declared.Settings.{Settings}
 use Rattle.settings.specs.declared.Window.{Window}
-use Rattle.render.specs.Render.{renderedOf, rowPlace, rowOf, renderOf, Mapped, Shown, RowAsks}
+use Rattle.render.specs.Render.{renderedOf, rowPlace, rowOf, renderOf, Mapped, Shown, RenderRowAsks}
 
 -- row j of the window, rendered
 abbrev pub strip : ℕ → ℕ → Settings → List ℕ → Window → List ℕ → ℕ → List ℕ
@@ -42,7 +42,7 @@ module _ {w h : ℕ} {s : Settings} {m : List ℕ} {win : Window} {vs : List ℕ
 
   -- what rendering row j asks
   pub strip-asks : {px : List ℕ} {j : ℕ} → px ≡ blocks (win .width) (strip w h s m win vs) vs j → j < win .height
-      → Fits h (s .down) × (win .top + j < h) × RowAsks w s m (win .left) (rowPlace h s (win .top + j)) (block px j (win .width))
+      → Fits h (s .down) × (win .top + j < h) × RenderRowAsks w s m (win .left) (rowPlace h s (win .top + j)) (block px j (win .width))
   strip-asks {px} {j} e l =
       let below : win .top + j < h = omega (arith, asks .1 .down) in
       rw (strip-part j e) (

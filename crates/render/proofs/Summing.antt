@@ -21,7 +21,7 @@ use Rattle.weigh.proofs.Tiles.{weighed-is}
 use Rattle.bins.specs.Bins.{binnedOf}
 use Rattle.bins.proofs.Bins.{bins-length, held-is, held-in}
 use Rattle.render.specs.declared.Section.{Section}
-use Rattle.render.specs.Render.{columnPlace, pixelOf, rowOf, weighedRow, RowAsks, Sectioned, SumRowAsks}
+use Rattle.render.specs.Render.{columnPlace, pixelOf, rowOf, weighedRow, RenderRowAsks, Sectioned, SumRowAsks}
 use Rattle.render.proofs.Pixels.{pixel-corners}
 use Rattle.render.proofs.Sections.{placed, ahead-is, ahead-length, section-next}
 
@@ -85,7 +85,7 @@ parts-end w s m left row ks e l k = filled-end _ _ e l k ∙ filled-whole (weigh
 
 -- ---- a row from its bins is the row
 
-module _ {w : ℕ} {s : Settings} {m : List ℕ} {left : ℕ} {row : Place} {vs : List ℕ} (asks : RowAsks w s m left row vs) {ks : List ℕ} (hk : ks ≡ binnedOf s vs) where
+module _ {w : ℕ} {s : Settings} {m : List ℕ} {left : ℕ} {row : Place} {vs : List ℕ} (asks : RenderRowAsks w s m left row vs) {ks : List ℕ} (hk : ks ≡ binnedOf s vs) where
   -- what its bins ask
   pub row-bins : SumRowAsks w s m left row ks
   row-bins =

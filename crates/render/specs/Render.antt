@@ -12,7 +12,7 @@ use Rattle.binning.specs.Binning.{binOf}
 use Rattle.tally.specs.declared.Rect.{Rect}
 use Rattle.grid.specs.Grid.{Fits}
 use Rattle.blend.specs.declared.Place.{Place}
-use Rattle.blend.specs.Blend.{placeOf, Sound, Run}
+use Rattle.blend.specs.Blend.{placeOf, Sound, SameTiles}
 use Rattle.settings.specs.declared.Settings.{Settings}
 use Rattle.settings.specs.declared.Window.{Window}
 use Rattle.settings.specs.Settings.{binsOf}
@@ -32,23 +32,23 @@ abbrev pub rowPlace : ℕ → Settings → ℕ → Place
 rowPlace h s y = placeOf h (s .down) y
 
 -- the rendered grey of the pixel in column x and row y, whose grey is v
-unfoldable pub renderedOf : ℕ → ℕ → Settings → List ℕ → ℕ → ℕ → ℕ → ℕ
+unfoldable pub renderedOf : (w h : ℕ) (s : Settings) (m : List ℕ) (x y v : ℕ) → ℕ
 renderedOf w h s m x y v = pixelOf s m (columnPlace w s x) (rowPlace h s y) v
 
 -- a row of rendered pixels from column `left` on, at the row's place; vs are their greys
-unfoldable pub rowOf : ℕ → Settings → List ℕ → ℕ → Place → List ℕ → List ℕ
+unfoldable pub rowOf : (w : ℕ) (s : Settings) (m : List ℕ) (left : ℕ) (row : Place) (vs : List ℕ) → List ℕ
 rowOf w s m left row vs = tab (length vs) (λ i. pixelOf s m (columnPlace w s (left + i)) row (getD vs i 0))
 
 -- ---- by bins
 
 -- a row of pixels of bins ks from column `left` on
-unfoldable pub weighedRow : ℕ → Settings → List ℕ → ℕ → Place → List ℕ → List ℕ
+unfoldable pub weighedRow : (w : ℕ) (s : Settings) (m : List ℕ) (left : ℕ) (row : Place) (ks : List ℕ) → List ℕ
 weighedRow w s m left row ks = tab (length ks) (λ i. cornersOf s m (columnPlace w s (left + i)) row (getD ks i 0))
 
 -- ---- a window
 
 -- "the window's pixels row by row": vs are the greys of the window's pixels, row by row
-unfoldable pub renderOf : ℕ → ℕ → Settings → List ℕ → Window → List ℕ → List ℕ
+unfoldable pub renderOf : (w h : ℕ) (s : Settings) (m : List ℕ) (win : Window) (vs : List ℕ) → List ℕ
 renderOf w h s m win vs =
     joined (win .height) (λ j. tab (win .width) (λ i. renderedOf w h s m (win .left + i) (win .top + j) (getD vs (j * win .width + i) 0)))
 
@@ -76,14 +76,14 @@ pub record Shown (w h : ℕ) (s : Settings) (win : Window) (vs : List ℕ) : Typ
   pub greys : all (within (s .min) (s .max)) vs ≡ true
 
 -- what a pixel asks: places among the tiles, and a grey from Min to Max
-pub record PixelAsks (s : Settings) (m : List ℕ) (atcolumn atrow : Place) (v : ℕ) : Type 0 where
+pub record RenderPixelAsks (s : Settings) (m : List ℕ) (atcolumn atrow : Place) (v : ℕ) : Type 0 where
   pub maps : Maps s m
   pub column : Sound (s .across) 2048 atcolumn
   pub row : Sound (s .down) 2048 atrow
   pub grey : within (s .min) (s .max) v ≡ true
 
 -- what a row asks: a place among the tiles, pixels inside the film from column `left` on, and greys from Min to Max
-pub record RowAsks (w : ℕ) (s : Settings) (m : List ℕ) (left : ℕ) (atrow : Place) (vs : List ℕ) : Type 0 where
+pub record RenderRowAsks (w : ℕ) (s : Settings) (m : List ℕ) (left : ℕ) (atrow : Place) (vs : List ℕ) : Type 0 where
   pub maps : Maps s m
   pub columns : Fits w (s .across)
   pub across : left + length vs ≤ w
@@ -95,7 +95,7 @@ pub record Sectioned (w grid left at n : ℕ) (r : Section) : Type 0 where
   pub column : r .column ≡ placeOf w grid (left + at)
   pub start : at < r .end
   pub end : r .end ≤ n
-  pub run : Run w grid (left + at) (r .column) (r .end - at)
+  pub run : SameTiles w grid (left + at) (r .column) (r .end - at)
 
 -- what `sum_row` asks: as a row, of bins
 pub record SumRowAsks (w : ℕ) (s : Settings) (m : List ℕ) (left : ℕ) (atrow : Place) (ks : List ℕ) : Type 0 where

@@ -3,7 +3,7 @@ ghost use mathlib.Core.Path.{_≡_};
 ghost use Prim.Native.Nat.{_+_, _≤_, _<_};
 ghost use lib.ListN.{length};
 ghost use Rattle.grid.specs.Grid.{Fits};
-ghost use Rattle.render.specs.Render.{rowPlace, rowOf, weighedRow, renderOf, Mapped, Shown, RowAsks, Sectioned, SumRowAsks};
+ghost use Rattle.render.specs.Render.{rowPlace, rowOf, weighedRow, renderOf, Mapped, Shown, RenderRowAsks, Sectioned, SumRowAsks};
 use blend::Place;
 use settings::Settings;
 use settings::Window;
@@ -70,7 +70,7 @@ pub fn render_row(
     map: &[u16],
     table: &mut [u64],
 )
-    requires { ⌜ Fits height (s .down) × (y < height) × RowAsks width s (now map) left (rowPlace height s y) (now pixels) ⌝ }
+    requires { ⌜ Fits height (s .down) × (y < height) × RenderRowAsks width s (now map) left (rowPlace height s y) (now pixels) ⌝ }
     ensures { λ _. ⌜ (now (pixels .exit) ≡ rowOf width s (now (map .entry)) left (rowPlace height s y) (now (pixels .entry))) × (length (now (table .exit)) ≡ length (now (table .entry))) ⌝ }
 {
     let row = blend::locate(height, s.down, y);

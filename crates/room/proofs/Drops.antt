@@ -18,7 +18,7 @@ use Rattle.sets.proofs.Holds.{length-held, among-before}
 use Rattle.sets.proofs.Finds.{span-next, span-most, span-whole}
 use Rattle.sets.proofs.Tables.{fit-numbered, fit-few, fit-forty}
 use Rattle.room.specs.declared.Dropped.the-variants as Dropped
-use Rattle.room.specs.Room.{storedRows, dropRows, leaving, droppedOf, dropOf}
+use Rattle.room.specs.Room.{storedRows, dropRows, dropLeaves, droppedOf, dropOf}
 
 -- the number of 38's row, and of both tables, is above 0
 pub stored-numbered : (film : ℕ) (room : Room) → Numbered (storedRows film room)
@@ -91,15 +91,15 @@ drop-moves {room} {film} {size} known {i} q p o n =
 -- ---- the endings
 
 module _ (room : Room) (film : ℕ) (m : List ℕ) {r : ℕ} (e : r ≡ first (dropRows room film (length m))) where
-  pub drop-refused : (r ≡ 0 → ⊥) → leaving (Dropped.Refused r) room m ≡ dropOf room film m
+  pub drop-refused : (r ≡ 0 → ⊥) → dropLeaves (Dropped.Refused r) room m ≡ dropOf room film m
   unfolding dropOf
   drop-refused z =
-      unless-refused r (λ n. leaving (Dropped.Refused n) room m) (droppedOf room film m) z
-      ∙ ap (λ k. unless k (λ n. leaving (Dropped.Refused n) room m) (droppedOf room film m)) e
+      unless-refused r (λ n. dropLeaves (Dropped.Refused n) room m) (droppedOf room film m) z
+      ∙ ap (λ k. unless k (λ n. dropLeaves (Dropped.Refused n) room m) (droppedOf room film m)) e
 
   pub drop-done : r ≡ 0 → {i a b c : ℕ} {left : Room} {m′ : List ℕ} → i ≡ before film (held room) → a ≡ spanOf (take i (held room)) → b ≡ spanOf (take (i + 1) (held room))
-      → c ≡ spanOf (take (room .count) (held room)) → m′ ≡ movedDown m a b c → left ≡ withoutSet room i → leaving Dropped.Done left m′ ≡ dropOf room film m
+      → c ≡ spanOf (take (room .count) (held room)) → m′ ≡ movedDown m a b c → left ≡ withoutSet room i → dropLeaves Dropped.Done left m′ ≡ dropOf room film m
   unfolding dropOf droppedOf
   drop-done z {i} {a} {b} {c} q p o n t s =
       rw (s, t, p, o, n, span-whole room (room .count) (omega arith), q)
-      (ap (λ k. unless k (λ x. leaving (Dropped.Refused x) room m) (droppedOf room film m)) (sym z ∙ e))
+      (ap (λ k. unless k (λ x. dropLeaves (Dropped.Refused x) room m) (droppedOf room film m)) (sym z ∙ e))

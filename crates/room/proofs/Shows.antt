@@ -24,7 +24,7 @@ use Rattle.held.proofs.Tables.{window-numbers, record-numbered}
 use Rattle.held.proofs.Laws.{own-record}
 use Rattle.draw.specs.declared.Drawn.{Drawn}
 use Rattle.draw.specs.declared.Drawn.the-variants as Drawn
-use Rattle.draw.specs.Draw.{pixelRows, drawRows, drawnPixels, Shows, showing, drawOf}
+use Rattle.draw.specs.Draw.{pixelRows, drawRows, drawnPixels, DrawOut, drawLeaves, drawOf}
 use Rattle.draw.proofs.Tables.{pixel-numbers, draw-rows}
 use Rattle.draw.proofs.Like.{pixel-kept, pixels-kept, draw-room}
 use Rattle.sets.specs.declared.Set.{Set}
@@ -77,7 +77,7 @@ module _ (room : Room) (film w h : ℕ) (pic : List ℕ) (s : Settings) (win : W
   pub show-is-draw : showOf room film w h pic s win m out ≡ drawOf film w h pic s (recordOf film w h s) win part out
   unfolding showOf drawOf
   show-is-draw =
-      ap (λ n. unless n (λ k. showing (Drawn.Refused k) out) (showing Drawn.Done (drawnPixels w h pic s win part))) (show-rows ∙ sym draw-rows-so)
+      ap (λ n. unless n (λ k. drawLeaves (Drawn.Refused k) out) (drawLeaves Drawn.Done (drawnPixels w h pic s win part))) (show-rows ∙ sym draw-rows-so)
 
   -- "as if it alone had been prepared": any buffer that begins with the same entries, and at the factor 1.0 any that is long enough
   pub show-as-alone : (m₂ : List ℕ) → entriesOf s ≤ length m₂ → (clipOne (s .clip) ≡ false → take (entriesOf s) part ≡ take (entriesOf s) m₂)
@@ -87,8 +87,8 @@ module _ (room : Room) (film w h : ℕ) (pic : List ℕ) (s : Settings) (win : W
 -- ---- refused before the window is looked at
 
 module _ (room : Room) (film w h : ℕ) (pic : List ℕ) (s : Settings) (win : Window) (m out : List ℕ) where
-  abbrev shown : ℕ → Shows
-  shown n = unless n (λ k. showing (Drawn.Refused k) out) (showing Drawn.Done (drawnPixels w h pic s win (partOf film (held room) m)))
+  abbrev shown : ℕ → DrawOut
+  shown n = unless n (λ k. drawLeaves (Drawn.Refused k) out) (drawLeaves Drawn.Done (drawnPixels w h pic s win (partOf film (held room) m)))
 
   abbrev behindSet : List Row
   behindSet = windowRows w h win (length out) ++ pixelRows w pic s win (partOf film (held room) m)
@@ -97,19 +97,19 @@ module _ (room : Room) (film w h : ℕ) (pic : List ℕ) (s : Settings) (win : W
       ≡ first (dropRows room film (length m) ++ (settingRows w h (length pic) s ++ (setRows w h s (setOf film (held room)) ++ behindSet)))
   show-rows-so = ap first (show-parts room film w h pic s win m (length out))
 
-  ends-no : {x : ℕ} → x ≡ first (showRows room film w h pic s win m (length out)) → (x ≡ 0 → ⊥) → showing (Drawn.Refused x) out ≡ showOf room film w h pic s win m out
+  ends-no : {x : ℕ} → x ≡ first (showRows room film w h pic s win m (length out)) → (x ≡ 0 → ⊥) → drawLeaves (Drawn.Refused x) out ≡ showOf room film w h pic s win m out
   unfolding showOf
-  ends-no {x} e z = unless-refused x (λ k. showing (Drawn.Refused k) out) (showing Drawn.Done (drawnPixels w h pic s win (partOf film (held room) m))) z ∙ ap shown e
+  ends-no {x} e z = unless-refused x (λ k. drawLeaves (Drawn.Refused k) out) (drawLeaves Drawn.Done (drawnPixels w h pic s win (partOf film (held room) m))) z ∙ ap shown e
 
   module _ {r : ℕ} (e : r ≡ first (dropRows room film (length m))) where
-    pub show-stored : (r ≡ 0 → ⊥) → showing (Drawn.Refused r) out ≡ showOf room film w h pic s win m out
+    pub show-stored : (r ≡ 0 → ⊥) → drawLeaves (Drawn.Refused r) out ≡ showOf room film w h pic s win m out
     show-stored z = ends-no (front (dropRows room film (length m)) _ e z ∙ sym show-rows-so) z
 
     module _ (z : r ≡ 0) {o : ℕ} (q : o ≡ first (settingRows w h (length pic) s)) where
-      pub show-own : (o ≡ 0 → ⊥) → showing (Drawn.Refused o) out ≡ showOf room film w h pic s win m out
+      pub show-own : (o ≡ 0 → ⊥) → drawLeaves (Drawn.Refused o) out ≡ showOf room film w h pic s win m out
       show-own y = ends-no (behind (dropRows room film (length m)) _ (drop-numbered room film (length m)) e z (front (settingRows w h (length pic) s) _ q y) ∙ sym show-rows-so) y
 
-      pub show-set : o ≡ 0 → {x : ℕ} → x ≡ first (setRows w h s (setOf film (held room))) → (x ≡ 0 → ⊥) → showing (Drawn.Refused x) out ≡ showOf room film w h pic s win m out
+      pub show-set : o ≡ 0 → {x : ℕ} → x ≡ first (setRows w h s (setOf film (held room))) → (x ≡ 0 → ⊥) → drawLeaves (Drawn.Refused x) out ≡ showOf room film w h pic s win m out
       show-set y {x} f u =
           ends-no (behind (dropRows room film (length m)) _ (drop-numbered room film (length m)) e z (behind (settingRows w h (length pic) s) _ (setting-numbered w h (length pic) s) q y (front (setRows w h s (setOf film (held room))) behindSet f u)) ∙ sym show-rows-so) u
 
@@ -149,7 +149,7 @@ module _ (room : Room) (film w h : ℕ) (pic : List ℕ) (s : Settings) (win : W
   judged : x ≡ first (setRows w h s (setOf film (held room)))
   judged = f ∙ ap (λ k. first (setRows w h s k)) (set-own known p g)
 
-  pub show-differs : (x ≡ 0 → ⊥) → showing (Drawn.Refused x) out ≡ showOf room film w h pic s win m out
+  pub show-differs : (x ≡ 0 → ⊥) → drawLeaves (Drawn.Refused x) out ≡ showOf room film w h pic s win m out
   show-differs u = show-set room film w h pic s win m out e z q y judged u
 
   module _ (u : x ≡ 0) {a b : ℕ} (at : a ≡ spanOf (take i (held room))) (to : b ≡ spanOf (take (i + 1) (held room))) where
@@ -161,7 +161,7 @@ module _ (room : Room) (film w h : ℕ) (pic : List ℕ) (s : Settings) (win : W
         rw (← part-own known p at to m, like, ← size) (omega (arith, length-take-le (b - a) (drop a m) (omega (arith, length-drop a m, lies .0, lies .1))))
 
     pub show-done : {k : MapRecord} → k ≡ recordOf film w h s → {answer : Drawn} {out′ : List ℕ}
-        → showing answer out′ ≡ drawOf film w h pic s k win (take (b - a) (drop a m)) out → showing answer out′ ≡ showOf room film w h pic s win m out
+        → drawLeaves answer out′ ≡ drawOf film w h pic s k win (take (b - a) (drop a m)) out → drawLeaves answer out′ ≡ showOf room film w h pic s win m out
     unfolding dropRows
     show-done {k} made drew =
         let both = first-both (fitRows room (length m)) (storedRows film room) (fit-numbered room (length m)) (sym e ∙ z) in
@@ -223,4 +223,4 @@ unfolding showOf showRows
 show-part room film w h pic s win m m′ out l e =
     ap₂ (λ n p. unless (first (fitRows room n
     ++ (storedRows film room ++ (settingRows w h (length pic) s ++ (setRows w h s (setOf film (held room)) ++ (windowRows w h win (length out) ++ pixelRows w pic s win p))))))
-    (λ k. showing (Drawn.Refused k) out) (showing Drawn.Done (drawnPixels w h pic s win p))) l e
+    (λ k. drawLeaves (Drawn.Refused k) out) (drawLeaves Drawn.Done (drawnPixels w h pic s win p))) l e

@@ -18,12 +18,12 @@ use Rattle.tiles.specs.Tiles.{footOf}
 use Rattle.prepare.specs.declared.Prepared.{Prepared}
 use Rattle.prepare.specs.declared.Made.{Made}
 use Rattle.prepare.specs.declared.Made.the-variants as Made
-use Rattle.prepare.specs.Prepare.{prepareRows, Ended, ending, preparedNot, preparedOf, prepareOf}
+use Rattle.prepare.specs.Prepare.{prepareRows, PrepareOut, prepareLeaves, preparedNot, preparedOf, prepareOf}
 use Rattle.sets.specs.declared.Room.{Room}
 use Rattle.sets.specs.Sets.{setFor, held, spanOf, among, before, fitRows, withSet}
 use Rattle.room.specs.declared.Stored.{Stored}
 use Rattle.room.specs.declared.Stored.the-variants as Stored
-use Rattle.room.specs.Room.{placeRows, enterRows, storeRows, Keeps, keeping, storedOf, storeOf, instead}
+use Rattle.room.specs.Room.{placeRows, enterRows, storeRows, StoreOut, storeLeaves, storedOf, storeOf, instead}
 use Rattle.sets.proofs.Tables.{fit-numbered, fit-few, fit-forty}
 use Rattle.room.proofs.Drops.{there}
 use Rattle.room.proofs.Instead.{first-instead, none-instead}
@@ -124,16 +124,16 @@ numberIn (Made.Done foot) = 0
 numberIn (Made.Refused n) = n
 
 module _ (room : Room) (film w h : ℕ) (pic : List ℕ) (s : Settings) (m t ls : List ℕ) {r : ℕ} (e : r ≡ first (enterRows room film (length m))) where
-  abbrev outcome : ℕ → Keeps
-  outcome n = unless n (λ k. keeping (Stored.Refused k) room m t ls) (storedOf room film w h pic s m t ls)
+  abbrev outcome : ℕ → StoreOut
+  outcome n = unless n (λ k. storeLeaves (Stored.Refused k) room m t ls) (storedOf room film w h pic s m t ls)
 
-  pub store-no : (r ≡ 0 → ⊥) → keeping (Stored.Refused r) room m t ls ≡ storeOf room film w h pic s m t ls
+  pub store-no : (r ≡ 0 → ⊥) → storeLeaves (Stored.Refused r) room m t ls ≡ storeOf room film w h pic s m t ls
   unfolding storeOf storeRows
   store-no z =
-      unless-refused r (λ n. keeping (Stored.Refused n) room m t ls) (storedOf room film w h pic s m t ls) z
+      unless-refused r (λ n. storeLeaves (Stored.Refused n) room m t ls) (storedOf room film w h pic s m t ls) z
       ∙ ap outcome (front (enterRows room film (length m)) _ e z)
 
-  module _ (z : r ≡ 0) {a : ℕ} (at : a ≡ spanOf (held room)) {p : Prepared} {mp t′ ls′ : List ℕ} (made : ending p mp t′ ls′ ≡ prepareOf film w h pic s (drop a m) t ls) where
+  module _ (z : r ≡ 0) {a : ℕ} (at : a ≡ spanOf (held room)) {p : Prepared} {mp t′ ls′ : List ℕ} (made : prepareLeaves p mp t′ ls′ ≡ prepareOf film w h pic s (drop a m) t ls) where
     abbrev n : ℕ
     n = first (prepareRows w h pic s (length (drop a m)) (length t) (length ls))
 
@@ -150,31 +150,31 @@ module _ (room : Room) (film w h : ℕ) (pic : List ℕ) (s : Settings) (m t ls 
     unfolding storeOf
     stores = ap outcome rows
 
-    ends : (k : ℕ) → n ≡ k → ending p mp t′ ls′ ≡ unless k (λ j. ending (preparedNot j) (drop a m) t ls) (preparedOf film w h pic s (drop a m) t ls)
+    ends : (k : ℕ) → n ≡ k → prepareLeaves p mp t′ ls′ ≡ unless k (λ j. prepareLeaves (preparedNot j) (drop a m) t ls) (preparedOf film w h pic s (drop a m) t ls)
     unfolding prepareOf
-    ends k q = made ∙ ap (λ j. unless j (λ j. ending (preparedNot j) (drop a m) t ls) (preparedOf film w h pic s (drop a m) t ls)) q
+    ends k q = made ∙ ap (λ j. unless j (λ j. prepareLeaves (preparedNot j) (drop a m) t ls) (preparedOf film w h pic s (drop a m) t ls)) q
 
     pub store-done : {foot : Footer} {next : Room} {m′ : List ℕ} → p .answer ≡ Made.Done foot → next ≡ withSet room (setFor film w h s) → m′ ≡ take a m ++ mp
-        → keeping (Stored.Done foot) next m′ t′ ls′ ≡ storeOf room film w h pic s m t ls
+        → storeLeaves (Stored.Done foot) next m′ t′ ls′ ≡ storeOf room film w h pic s m t ls
     unfolding storedOf preparedOf
     store-done {foot} {next} {m′} done is back = go n refl
       where
-        go : (k : ℕ) → n ≡ k → keeping (Stored.Done foot) next m′ t′ ls′ ≡ storeOf room film w h pic s m t ls
+        go : (k : ℕ) → n ≡ k → storeLeaves (Stored.Done foot) next m′ t′ ls′ ≡ storeOf room film w h pic s m t ls
         go zero q =
             let x = ends 0 q in
-            let f : foot ≡ footOf w h s = ap (λ z. footIn z foot) (sym done) ∙ ap (λ (y : Ended). footIn (y .answer .answer) foot) x in
-            rw (is, back, f, ap (λ (y : Ended). y .map) x, ap (λ (y : Ended). y .scratch) x, ap (λ (y : Ended). y .list) x, at) (sym (stores ∙ ap (λ j. outcome (cond (eqb j 11) 37 j)) q))
-        go (suc k) q = absurd (omega (arith, ap doneIn (sym done) ∙ ap (λ (y : Ended). doneIn (y .answer .answer)) (ends (suc k) q)))
+            let f : foot ≡ footOf w h s = ap (λ z. footIn z foot) (sym done) ∙ ap (λ (y : PrepareOut). footIn (y .answer .answer) foot) x in
+            rw (is, back, f, ap (λ (y : PrepareOut). y .map) x, ap (λ (y : PrepareOut). y .scratch) x, ap (λ (y : PrepareOut). y .list) x, at) (sym (stores ∙ ap (λ j. outcome (cond (eqb j 11) 37 j)) q))
+        go (suc k) q = absurd (omega (arith, ap doneIn (sym done) ∙ ap (λ (y : PrepareOut). doneIn (y .answer .answer)) (ends (suc k) q)))
 
     pub store-not : {j told : ℕ} {m′ : List ℕ} → p .answer ≡ Made.Refused j → told ≡ cond (eqb j 11) 37 j → m′ ≡ take a m ++ mp
-        → keeping (Stored.Refused told) room m′ t′ ls′ ≡ storeOf room film w h pic s m t ls
+        → storeLeaves (Stored.Refused told) room m′ t′ ls′ ≡ storeOf room film w h pic s m t ls
     unfolding preparedOf
     store-not {j} {told} {m′} refused is back = go n refl
       where
-        go : (k : ℕ) → n ≡ k → keeping (Stored.Refused told) room m′ t′ ls′ ≡ storeOf room film w h pic s m t ls
-        go zero q = absurd (omega (arith, ap doneIn (sym refused) ∙ ap (λ (y : Ended). doneIn (y .answer .answer)) (ends 0 q)))
+        go : (k : ℕ) → n ≡ k → storeLeaves (Stored.Refused told) room m′ t′ ls′ ≡ storeOf room film w h pic s m t ls
+        go zero q = absurd (omega (arith, ap doneIn (sym refused) ∙ ap (λ (y : PrepareOut). doneIn (y .answer .answer)) (ends 0 q)))
         go (suc k) q =
             let x = ends (suc k) q in
-            let f : j ≡ suc k = ap numberIn (sym refused) ∙ ap (λ (y : Ended). numberIn (y .answer .answer)) x in
-            rw (is, back, ap (λ (y : Ended). y .map) x, ap (λ (y : Ended). y .scratch) x, ap (λ (y : Ended). y .list) x, take-append-drop a m, f)
-            (unless-refused (cond (eqb (suc k) 11) 37 (suc k)) (λ n. keeping (Stored.Refused n) room m t ls) (storedOf room film w h pic s m t ls) (told-some k) ∙ sym (stores ∙ ap (λ j. outcome (cond (eqb j 11) 37 j)) q))
+            let f : j ≡ suc k = ap numberIn (sym refused) ∙ ap (λ (y : PrepareOut). numberIn (y .answer .answer)) x in
+            rw (is, back, ap (λ (y : PrepareOut). y .map) x, ap (λ (y : PrepareOut). y .scratch) x, ap (λ (y : PrepareOut). y .list) x, take-append-drop a m, f)
+            (unless-refused (cond (eqb (suc k) 11) 37 (suc k)) (λ n. storeLeaves (Stored.Refused n) room m t ls) (storedOf room film w h pic s m t ls) (told-some k) ∙ sym (stores ∙ ap (λ j. outcome (cond (eqb j 11) 37 j)) q))

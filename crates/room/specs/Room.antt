@@ -13,10 +13,10 @@ use Rattle.settings.specs.declared.Window.{Window}
 use Rattle.settings.specs.declared.Footer.{Footer}
 use Rattle.settings.specs.Settings.{binsOf, sameClip, settingRows}
 use Rattle.tiles.specs.Tiles.{footOf}
-use Rattle.prepare.specs.Prepare.{prepareRows, Ended, preparedOf}
+use Rattle.prepare.specs.Prepare.{prepareRows, PrepareOut, preparedOf}
 use Rattle.held.specs.Held.{sidesRows, keptRows, editionRows, windowRows}
 use Rattle.draw.specs.declared.Drawn.the-variants as Drawn
-use Rattle.draw.specs.Draw.{pixelRows, drawnPixels, Shows, showing}
+use Rattle.draw.specs.Draw.{pixelRows, drawnPixels, DrawOut, drawLeaves}
 use Rattle.sets.specs.declared.Set.{Set}
 use Rattle.sets.specs.declared.Room.{Room}
 use Rattle.sets.specs.Sets.{setFor, held, spanOf, among, before, setOf, startOf, partOf, fitRows, withSet, withoutSet, movedDown}
@@ -41,7 +41,7 @@ instead a b [] = []
 instead a b (row n c ∷ rows) = row (cond (eqb n a) b n) c ∷ instead a b rows
 
 -- "40, 35, 36 .., in this order, stand before the film's own checks, 37 in 11's place"; 37: "the free entries are fewer than the set needs"
-unfoldable pub storeRows : Room → ℕ → ℕ → ℕ → List ℕ → Settings → ℕ → ℕ → ℕ → List Row
+unfoldable pub storeRows : (room : Room) (film w h : ℕ) (pic : List ℕ) (s : Settings) (size scratch list : ℕ) → List Row
 storeRows room film w h pic s size scratch list =
     enterRows room film size ++ instead 11 37 (prepareRows w h pic s (size - spanOf (held room)) scratch list)
 
@@ -51,26 +51,26 @@ storedSays (Stored.Done foot) = accepted foot
 storedSays (Stored.Refused n) = refused n
 
 -- what store leaves: its answer, the room record, the buffer, the scratch and the list
-pub record Keeps : Type 0 where
+pub record StoreOut : Type 0 where
   pub answer : Stored
   pub room : Room
   pub map : List ℕ
   pub scratch : List ℕ
   pub list : List ℕ
 
-abbrev pub keeping : Stored → Room → List ℕ → List ℕ → List ℕ → Keeps
-keeping answer room m t n = record { answer = answer; room = room; map = m; scratch = t; list = n }
+abbrev pub storeLeaves : Stored → Room → List ℕ → List ℕ → List ℕ → StoreOut
+storeLeaves answer room m t n = record { answer = answer; room = room; map = m; scratch = t; list = n }
 
 -- the film's mappings behind the last set, all else as prepare leaves it, and its set behind the last in the record
-unfoldable pub storedOf : Room → ℕ → ℕ → ℕ → List ℕ → Settings → List ℕ → List ℕ → List ℕ → Keeps
+unfoldable pub storedOf : (room : Room) (film w h : ℕ) (pic : List ℕ) (s : Settings) (m t n : List ℕ) → StoreOut
 storedOf room film w h pic s m t n =
     let a = spanOf (held room) in
-    let e : Ended = preparedOf film w h pic s (drop a m) t n in
-    keeping (Stored.Done (footOf w h s)) (withSet room (setFor film w h s)) (take a m ++ e .map) (e .scratch) (e .list)
+    let e : PrepareOut = preparedOf film w h pic s (drop a m) t n in
+    storeLeaves (Stored.Done (footOf w h s)) (withSet room (setFor film w h s)) (take a m ++ e .map) (e .scratch) (e .list)
 
-unfoldable pub storeOf : Room → ℕ → ℕ → ℕ → List ℕ → Settings → List ℕ → List ℕ → List ℕ → Keeps
+unfoldable pub storeOf : (room : Room) (film w h : ℕ) (pic : List ℕ) (s : Settings) (m t n : List ℕ) → StoreOut
 storeOf room film w h pic s m t n =
-    unless (first (storeRows room film w h pic s (length m) (length t) (length n))) (λ k. keeping (Stored.Refused k) room m t n) (storedOf room film w h pic s m t n)
+    unless (first (storeRows room film w h pic s (length m) (length t) (length n))) (λ k. storeLeaves (Stored.Refused k) room m t n) (storedOf room film w h pic s m t n)
 
 -- ---- draw
 
@@ -96,7 +96,7 @@ pub record SetHeld (w h : ℕ) (s : Settings) (r : Set) : Type 0 where
   pub edition : s .edition ≡ r .settings .edition
 
 -- "40 .. and 38, in this order, stand before the film's own checks ..; a room draw gives no 11"
-unfoldable pub showRows : Room → ℕ → ℕ → ℕ → List ℕ → Settings → Window → List ℕ → ℕ → List Row
+unfoldable pub showRows : (room : Room) (film w h : ℕ) (pic : List ℕ) (s : Settings) (win : Window) (m : List ℕ) (size : ℕ) → List Row
 showRows room film w h pic s win m size =
     fitRows room (length m)
     ++ (storedRows film room
@@ -104,10 +104,10 @@ showRows room film w h pic s win m size =
     ++ (setRows w h s (setOf film (held room)) ++ (windowRows w h win size ++ pixelRows w pic s win (partOf film (held room) m)))))
 
 -- "draws as if it alone had been prepared": by draw's own rule from the set's entries
-unfoldable pub showOf : Room → ℕ → ℕ → ℕ → List ℕ → Settings → Window → List ℕ → List ℕ → Shows
+unfoldable pub showOf : (room : Room) (film w h : ℕ) (pic : List ℕ) (s : Settings) (win : Window) (m out : List ℕ) → DrawOut
 showOf room film w h pic s win m out =
-    unless (first (showRows room film w h pic s win m (length out))) (λ n. showing (Drawn.Refused n) out)
-    (showing Drawn.Done (drawnPixels w h pic s win (partOf film (held room) m)))
+    unless (first (showRows room film w h pic s win m (length out))) (λ n. drawLeaves (Drawn.Refused n) out)
+    (drawLeaves Drawn.Done (drawnPixels w h pic s win (partOf film (held room) m)))
 
 -- ---- drop
 
@@ -120,21 +120,21 @@ droppedSays Dropped.Done = accepted tt
 droppedSays (Dropped.Refused n) = refused n
 
 -- what drop leaves: its answer, the room record and the buffer
-pub record Leaves : Type 0 where
+pub record DropOut : Type 0 where
   pub answer : Dropped
   pub room : Room
   pub map : List ℕ
 
-abbrev pub leaving : Dropped → Room → List ℕ → Leaves
-leaving answer room m = record { answer = answer; room = room; map = m }
+abbrev pub dropLeaves : Dropped → Room → List ℕ → DropOut
+dropLeaves answer room m = record { answer = answer; room = room; map = m }
 
 -- "on a drop the later sets move down"
-unfoldable pub droppedOf : Room → ℕ → List ℕ → Leaves
+unfoldable pub droppedOf : Room → ℕ → List ℕ → DropOut
 droppedOf room film m =
     let rs = held room in
     let i = before film rs in
-    leaving Dropped.Done (withoutSet room i) (movedDown m (startOf film rs) (spanOf (take (i + 1) rs)) (spanOf rs))
+    dropLeaves Dropped.Done (withoutSet room i) (movedDown m (startOf film rs) (spanOf (take (i + 1) rs)) (spanOf rs))
 
-unfoldable pub dropOf : Room → ℕ → List ℕ → Leaves
+unfoldable pub dropOf : Room → ℕ → List ℕ → DropOut
 dropOf room film m =
-    unless (first (dropRows room film (length m))) (λ n. leaving (Dropped.Refused n) room m) (droppedOf room film m)
+    unless (first (dropRows room film (length m))) (λ n. dropLeaves (Dropped.Refused n) room m) (droppedOf room film m)

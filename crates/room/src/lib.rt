@@ -3,8 +3,8 @@ ghost use mathlib.Core.Path.{_≡_};
 ghost use Rattle.refuse.specs.Refuse.{first};
 ghost use mathlib.Core.Bool.{cond};
 ghost use lib.Dec.{eqb};
-ghost use Rattle.room.specs.Room.{enterRows, storeOf, keeping, dropRows, dropOf, leaving, setRows, showOf};
-ghost use Rattle.draw.specs.Draw.{showing};
+ghost use Rattle.room.specs.Room.{enterRows, storeOf, storeLeaves, dropRows, dropOf, dropLeaves, setRows, showOf};
+ghost use Rattle.draw.specs.Draw.{drawLeaves};
 use draw::Drawn;
 use prepare::Made;
 use sets::Room;
@@ -55,7 +55,7 @@ fn stored_refusal(room: Room, film: u32, size: usize) -> u32
 
 // Drop: the film's set is taken out, and the later ones move down. A refusal leaves room and buffer as they were.
 pub fn drop_film(room: Room, film: u32, map: &mut [u16]) -> Left
-    ensures { λ r. ⌜ leaving (r .answer) (r .room) (now (map .exit)) ≡ dropOf room film (now (map .entry)) ⌝ }
+    ensures { λ r. ⌜ dropLeaves (r .answer) (r .room) (now (map .exit)) ≡ dropOf room film (now (map .entry)) ⌝ }
 {
     let refused = stored_refusal(room, film, map.len());
     if refused != 0 {
@@ -119,7 +119,7 @@ pub fn store(
     scratch: &mut [u32],
     looks: &mut [u64],
 ) -> Keep
-    ensures { λ r. ⌜ keeping (r .answer) (r .room) (now (map .exit)) (now (scratch .exit)) (now (looks .exit)) ≡ storeOf room film width height (now (picture .entry)) s (now (map .entry)) (now (scratch .entry)) (now (looks .entry)) ⌝ }
+    ensures { λ r. ⌜ storeLeaves (r .answer) (r .room) (now (map .exit)) (now (scratch .exit)) (now (looks .exit)) ≡ storeOf room film width height (now (picture .entry)) s (now (map .entry)) (now (scratch .entry)) (now (looks .entry)) ⌝ }
 {
     let refused = place_refusal(room, film, map.len());
     if refused != 0 {
@@ -191,7 +191,7 @@ pub fn draw(
     map: &[u16],
     out: &mut [u16],
 ) -> Drawn
-    ensures { λ r. ⌜ showing r (now (out .exit)) ≡ showOf room film width height (now (picture .entry)) s win (now (map .entry)) (now (out .entry)) ⌝ }
+    ensures { λ r. ⌜ drawLeaves r (now (out .exit)) ≡ showOf room film width height (now (picture .entry)) s win (now (map .entry)) (now (out .entry)) ⌝ }
 {
     let refused = stored_refusal(room, film, map.len());
     if refused != 0 {

@@ -20,10 +20,10 @@ use Rattle.settings.proofs.Like.{bins-kept}
 use Rattle.settings.proofs.Ready.{shared-both, setting-tiled}
 use Rattle.tiles.specs.Tiles.{mappings, spentEntries}
 use Rattle.tiles.proofs.Films.{length-mappings}
-use Rattle.prepare.specs.Prepare.{Ended, preparedSays, ending, prepareOf}
+use Rattle.prepare.specs.Prepare.{PrepareOut, preparedSays, prepareLeaves, prepareOf}
 use Rattle.prepare.proofs.Table.{table-both}
 use Rattle.prepare.proofs.Like.{prepare-kept}
-use Rattle.draw.specs.Draw.{Shows, showing, drawOf}
+use Rattle.draw.specs.Draw.{DrawOut, drawLeaves, drawOf}
 use Rattle.draw.proofs.Like.{draw-kept}
 use Rattle.sets.specs.declared.Set.{Set}
 use Rattle.sets.specs.declared.Room.{Room}
@@ -39,24 +39,24 @@ use Rattle.promises.proofs.Accepted.{prepare-record}
 use Rattle.promises.proofs.Reuse.{left-laid, left-room}
 use Rattle.promises.proofs.Runs.{PrepareCall, Prepares, prepare-ends, DrawCall, Draws, draw-ends}
 use Rattle.room_promises.proofs.Kept.{FilmGood, filmSpans, Kept, span-films}
-use Rattle.room_promises.specs.Films.{Film, filmSet, filmSize}
+use Rattle.room_promises.specs.Films.{StoredFilm, filmSet, filmSize}
 use Rattle.room_promises.proofs.Runs.{ShowCall, RoomDraws, show-ends}
 use Rattle.room_promises.proofs.Histories.{History, room-kept}
 
 -- the sets up to one, and that one, are no more than all
-spans-at : (fs : List Film) (i : ℕ) (d : Film) → i < length fs → filmSpans (take i fs) + filmSize (getD fs i d) ≤ filmSpans fs
+spans-at : (fs : List StoredFilm) (i : ℕ) (d : StoredFilm) → i < length fs → filmSpans (take i fs) + filmSize (getD fs i d) ≤ filmSpans fs
 unfolding spans
 spans-at [] i d l = absurd (not-suc-le-zero l)
 spans-at (f ∷ fs) zero d l = omega arith
 spans-at (f ∷ fs) (suc i) d l = let q = spans-at fs i d (le-of-suc-le-suc l) in omega (arith, q)
 
-module _ {room : Room} {m : List ℕ} {fs : List Film} (kept : Kept room m fs) where
+module _ {room : Room} {m : List ℕ} {fs : List StoredFilm} (kept : Kept room m fs) where
   -- a room handed on as it was returned is never refused as a record
   pub never-40 : first (fitRows room (length m)) ≡ 0
   never-40 = fit-free room (length m) (kept .few) (kept .numbers) (rw (ap spanOf (kept .sets) ∙ span-films fs) (laid-room filmSize FilmGood (kept .laid)))
 
-  module _ (i : ℕ) (d : Film) (l : i < length fs) where
-    abbrev f : Film
+  module _ (i : ℕ) (d : StoredFilm) (l : i < length fs) where
+    abbrev f : StoredFilm
     f = getD fs i d
 
     inside : i < length (held room)
@@ -112,30 +112,30 @@ module _ {room : Room} {m : List ℕ} {fs : List Film} (kept : Kept room m fs) w
         ∙ sym (front one))
 
 -- a room handed on as it was returned is never refused as a record, with its buffer
-pub room-never-40 : {room : Room} {m : List ℕ} {fs : List Film} → History room m fs → first (fitRows room (length m)) ≡ 0
+pub room-never-40 : {room : Room} {m : List ℕ} {fs : List StoredFilm} → History room m fs → first (fitRows room (length m)) ≡ 0
 room-never-40 history = never-40 (room-kept history)
 
 -- ---- one film of the room
 
 -- f is one of the films stored and not dropped
-pub record Among (f : Film) (fs : List Film) : Type 0 where
+pub record Among (f : StoredFilm) (fs : List StoredFilm) : Type 0 where
   pub place : ℕ
   pub inside : place < length fs
   pub is : getD fs place f ≡ f
 
 -- drawn from the room, and from any buffer that begins with its mappings
-abbrev pub AsAlone : Room → List ℕ → Film → Type 0
+abbrev pub AsAlone : Room → List ℕ → StoredFilm → Type 0
 AsAlone room m f =
     (win : Window) (out m₂ : List ℕ) → entriesOf (f .settings) ≤ length m₂
     → (clipOne (f .settings .clip) ≡ false → take (entriesOf (f .settings)) m₂ ≡ mappings (f .width) (f .height) (f .pixels) (f .settings))
     → showOf room (f .number) (f .width) (f .height) (f .pixels) (f .settings) win m out
     ≡ drawOf (f .number) (f .width) (f .height) (f .pixels) (f .settings) (recordOf (f .number) (f .width) (f .height) (f .settings)) win m₂ out
 
-pub among-alone : {room : Room} {m : List ℕ} {fs : List Film} {f : Film} → Kept room m fs → Among f fs → AsAlone room m f
+pub among-alone : {room : Room} {m : List ℕ} {fs : List StoredFilm} {f : StoredFilm} → Kept room m fs → Among f fs → AsAlone room m f
 among-alone {room} {m} {fs} {f} kept a = subst (AsAlone room m) (a .is) (λ win out m₂ enough front. drawn-as-alone kept (a .place) f (a .inside) win out m₂ enough front)
 
 -- a call is handed the film f: its number, sizes and pixels, and settings that are kept as its own
-pub record OfFilm (f : Film) (n w h : ℕ) (pic : List ℕ) (s : Settings) : Type 0 where
+pub record OfFilm (f : StoredFilm) (n w h : ℕ) (pic : List ℕ) (s : Settings) : Type 0 where
   pub number : n ≡ f .number
   pub width : w ≡ f .width
   pub height : h ≡ f .height
@@ -143,7 +143,7 @@ pub record OfFilm (f : Film) (n w h : ℕ) (pic : List ℕ) (s : Settings) : Typ
   pub like : keptOf s ≡ keptOf (f .settings)
 
 -- so what it makes of them is what it makes of the film's own
-pub of-film : {A : Type 0} {f : Film} {number w h : ℕ} {pic : List ℕ} {s : Settings} (call : ℕ → ℕ → ℕ → List ℕ → Settings → A)
+pub of-film : {A : Type 0} {f : StoredFilm} {number w h : ℕ} {pic : List ℕ} {s : Settings} (call : ℕ → ℕ → ℕ → List ℕ → Settings → A)
     → ((n w h : ℕ) (pic : List ℕ) (s : Settings) → call n w h pic (keptOf s) ≡ call n w h pic s) → OfFilm f number w h pic s
     → call number w h pic s ≡ call (f .number) (f .width) (f .height) (f .pixels) (f .settings)
 of-film {A} {f} {number} {w} {h} {pic} {s} call kept of =
@@ -151,7 +151,7 @@ of-film {A} {f} {number} {w} {h} {pic} {s} call kept of =
     (sym (kept (f .number) (f .width) (f .height) (f .pixels) s) ∙ ap (call (f .number) (f .width) (f .height) (f .pixels)) (of .like) ∙ kept (f .number) (f .width) (f .height) (f .pixels) (f .settings))
 
 -- the film f prepared alone, in any buffers, and accepted, and then drawn with the record that prepare answered and the map buffer that it left
-pub record Alone (f : Film) (p : PrepareCall) (foot : Footer) (d : DrawCall) : Type 0 where
+pub record Alone (f : StoredFilm) (p : PrepareCall) (foot : Footer) (d : DrawCall) : Type 0 where
   pub prepares : Prepares p
   pub film : OfFilm f (p .film) (p .width) (p .height) (p .pixels) (p .settings)
   pub prepared : preparedSays (p .answer) ≡ accepted (d .kept, foot)
@@ -159,20 +159,20 @@ pub record Alone (f : Film) (p : PrepareCall) (foot : Footer) (d : DrawCall) : T
   pub drawn : OfFilm f (d .film) (d .width) (d .height) (d .pixels) (d .settings)
   pub map : d .map ≡ p .map′
 
-module _ {f : Film} {p : PrepareCall} {foot : Footer} {d : DrawCall} (alone : Alone f p foot d) where
-  abbrev left : Ended
+module _ {f : StoredFilm} {p : PrepareCall} {foot : Footer} {d : DrawCall} (alone : Alone f p foot d) where
+  abbrev left : PrepareOut
   left = prepareOf (f .number) (f .width) (f .height) (f .pixels) (f .settings) (p .map) (p .scratch) (p .list)
 
-  ended : ending (p .answer) (p .map′) (p .scratch′) (p .list′) ≡ left
+  ended : prepareLeaves (p .answer) (p .map′) (p .scratch′) (p .list′) ≡ left
   ended = prepare-ends (alone .prepares) ∙ of-film (λ n w h pic s. prepareOf n w h pic s (p .map) (p .scratch) (p .list)) (λ n w h pic s. prepare-kept n w h pic s (p .map) (p .scratch) (p .list)) (alone .film)
 
   done : preparedSays (left .answer) ≡ accepted (d .kept, foot)
-  done = ap (λ (z : Ended). preparedSays (z .answer)) (sym ended) ∙ alone .prepared
+  done = ap (λ (z : PrepareOut). preparedSays (z .answer)) (sym ended) ∙ alone .prepared
 
   left-is : d .map ≡ left .map
-  left-is = alone .map ∙ ap (λ (z : Ended). z .map) ended
+  left-is = alone .map ∙ ap (λ (z : PrepareOut). z .map) ended
 
-  drawn-ends : showing (d .answer) (d .out′)
+  drawn-ends : drawLeaves (d .answer) (d .out′)
       ≡ drawOf (f .number) (f .width) (f .height) (f .pixels) (f .settings) (recordOf (f .number) (f .width) (f .height) (f .settings)) (d .window) (left .map) (d .out)
   drawn-ends =
       draw-ends (alone .draws)
@@ -186,20 +186,20 @@ module _ {f : Film} {p : PrepareCall} {foot : Footer} {d : DrawCall} (alone : Al
       ∙ take-onto (p .map) (mappings (f .width) (f .height) (f .pixels) (f .settings)) (entriesOf (f .settings)) (length-mappings (f .width) (f .height) (f .pixels) (f .settings))
 
   -- what a room that holds the film shows of it is what that draw left
-  pub alone-shows : {room : Room} {m : List ℕ} {fs : List Film} → Kept room m fs → Among f fs
-      → showOf room (f .number) (f .width) (f .height) (f .pixels) (f .settings) (d .window) m (d .out) ≡ showing (d .answer) (d .out′)
+  pub alone-shows : {room : Room} {m : List ℕ} {fs : List StoredFilm} → Kept room m fs → Among f fs
+      → showOf room (f .number) (f .width) (f .height) (f .pixels) (f .settings) (d .window) m (d .out) ≡ drawLeaves (d .answer) (d .out′)
   alone-shows kept among =
       among-alone kept among (d .window) (d .out) (left .map)
       (left-room (f .number) (f .width) (f .height) (f .pixels) (f .settings) (p .map) (p .scratch) (p .list) done) left-front
       ∙ sym drawn-ends
 
   -- "each film stored and not dropped, its pixels unchanged since, draws as if it alone had been prepared": the same answer, with whatever window and output, and the same output
-  pub room-as-alone : {room : Room} {m : List ℕ} {fs : List Film} → History room m fs → Among f fs
+  pub room-as-alone : {room : Room} {m : List ℕ} {fs : List StoredFilm} → History room m fs → Among f fs
       → (c : ShowCall) → RoomDraws c → c .room ≡ room → c .map ≡ m → OfFilm f (c .film) (c .width) (c .height) (c .pixels) (c .settings)
       → c .window ≡ d .window → c .out ≡ d .out → (c .answer ≡ d .answer) × (c .out′ ≡ d .out′)
   room-as-alone {room} {m} {fs} history among c ran same-room same-map of same-window same-out =
-      let shown : showing (c .answer) (c .out′) ≡ showing (d .answer) (d .out′) =
+      let shown : drawLeaves (c .answer) (c .out′) ≡ drawLeaves (d .answer) (d .out′) =
       show-ends ran
       ∙ of-film (λ n w h pic s. showOf (c .room) n w h pic s (c .window) (c .map) (c .out)) (λ n w h pic s. show-kept (c .room) n w h pic s (c .window) (c .map) (c .out)) of
       ∙ rw (same-room, same-map, same-window, same-out) (alone-shows (room-kept history) among) in
-      (ap (λ (z : Shows). z .answer) shown, ap (λ (z : Shows). z .out) shown)
+      (ap (λ (z : DrawOut). z .answer) shown, ap (λ (z : DrawOut). z .out) shown)

@@ -26,24 +26,24 @@ use Rattle.sets.specs.Sets.{held, spanOf, twice, before, withSet, withoutSet, m
 use Rattle.sets.proofs.Laid.{Laid, spans, laid-room, laid-front, laid-more, laid-less, less, past, later}
 use Rattle.sets.proofs.Moves.{moved-over}
 use Rattle.sets.proofs.Holds.{length-held, held-more, twice-more, held-less, twice-less, before-cons, span-map}
-use Rattle.room.specs.Room.{storeRows, Keeps, storedOf, storeOf, dropRows, droppedOf, dropOf}
+use Rattle.room.specs.Room.{storeRows, StoreOut, storedOf, storeOf, dropRows, droppedOf, dropOf}
 use Rattle.room.proofs.Stores.{Storing, storing}
 use Rattle.room.proofs.Drops.{dropping}
-use Rattle.room_promises.specs.Films.{Film, filmSet, filmSize, without, storedAs, droppedAs}
+use Rattle.room_promises.specs.Films.{StoredFilm, filmSet, filmSize, without, filmsAfterStore, filmsAfterDrop}
 
 -- ---- the films
 
 -- entries that are good for a film: it is one that prepare accepts, and they are its mappings; at the factor 1.0 whatever stood there
-pub record FilmGood (f : Film) (block : List ℕ) : Type 0 where
+pub record FilmGood (f : StoredFilm) (block : List ℕ) : Type 0 where
   pub accepts : first (prepareRows (f .width) (f .height) (f .pixels) (f .settings) (entriesOf (f .settings)) (binsOf (f .settings)) (spentEntries (f .settings))) ≡ 0
   pub mapped : clipOne (f .settings .clip) ≡ false → block ≡ mappings (f .width) (f .height) (f .pixels) (f .settings)
 
 -- the films' sets, end to end
-abbrev pub filmSpans : List Film → ℕ
+abbrev pub filmSpans : List StoredFilm → ℕ
 filmSpans = spans filmSize FilmGood
 
 -- what the room holds of these films
-pub record Kept (room : Room) (m : List ℕ) (fs : List Film) : Type 0 where
+pub record Kept (room : Room) (m : List ℕ) (fs : List StoredFilm) : Type 0 where
   pub sets : held room ≡ map filmSet fs
   pub laid : Laid filmSize FilmGood fs m
   pub numbers : twice (held room) ≡ false
@@ -52,28 +52,28 @@ pub record Kept (room : Room) (m : List ℕ) (fs : List Film) : Type 0 where
 
 -- ---- sets and films
 
-pub span-films : (fs : List Film) → spanOf (map filmSet fs) ≡ filmSpans fs
+pub span-films : (fs : List StoredFilm) → spanOf (map filmSet fs) ≡ filmSpans fs
 span-films = span-map filmSize FilmGood filmSet (λ f. ap (λ b. f .settings .across * f .settings .down * b) (bins-kept (f .settings)))
 
-less-map : (i : ℕ) (fs : List Film) → less i (map filmSet fs) ≡ map filmSet (less i fs)
+less-map : (i : ℕ) (fs : List StoredFilm) → less i (map filmSet fs) ≡ map filmSet (less i fs)
 unfolding less
 less-map i [] = refl
 less-map zero (f ∷ fs) = refl
 less-map (suc i) (f ∷ fs) = ap (λ t. filmSet f ∷ t) (less-map i fs)
 
-past-is : (i : ℕ) (fs : List Film) → past filmSize FilmGood i fs ≡ filmSpans (take (suc i) fs)
+past-is : (i : ℕ) (fs : List StoredFilm) → past filmSize FilmGood i fs ≡ filmSpans (take (suc i) fs)
 unfolding past spans
 past-is i [] = refl
 past-is zero (f ∷ fs) = omega arith
 past-is (suc i) (f ∷ fs) = ap (λ n. filmSize f + n) (past-is i fs)
 
-later-is : (i : ℕ) (fs : List Film) → past filmSize FilmGood i fs + later filmSize FilmGood i fs ≡ filmSpans fs
+later-is : (i : ℕ) (fs : List StoredFilm) → past filmSize FilmGood i fs + later filmSize FilmGood i fs ≡ filmSpans fs
 unfolding past later spans
 later-is i [] = refl
 later-is zero (f ∷ fs) = refl
 later-is (suc i) (f ∷ fs) = omega (arith, later-is i fs)
 
-without-is : (n : ℕ) (fs : List Film) → less (before n (map filmSet fs)) fs ≡ without n fs
+without-is : (n : ℕ) (fs : List StoredFilm) → less (before n (map filmSet fs)) fs ≡ without n fs
 unfolding without less
 without-is n [] = refl
 without-is n (f ∷ fs) = ap (λ i. less i (f ∷ fs)) (before-cons n (filmSet f) (map filmSet fs)) ∙ go (eqb (f .number) n) refl (without-is n fs)
@@ -84,7 +84,7 @@ without-is n (f ∷ fs) = ap (λ i. less i (f ∷ fs)) (before-cons n (filmSet f
 
 -- ---- store
 
-module _ {room : Room} {m : List ℕ} {fs : List Film} (kept : Kept room m fs) (f : Film) (t ls : List ℕ)
+module _ {room : Room} {m : List ℕ} {fs : List StoredFilm} (kept : Kept room m fs) (f : StoredFilm) (t ls : List ℕ)
     (free : first (storeRows room (f .number) (f .width) (f .height) (f .pixels) (f .settings) (length m) (length t) (length ls)) ≡ 0) where
   known : Storing room (f .number) (f .width) (f .height) (f .pixels) (f .settings) (length m) (length t) (length ls)
   known = storing room (f .number) (f .width) (f .height) (f .pixels) (f .settings) (length m) (length t) (length ls) free
@@ -158,7 +158,7 @@ module _ {room : Room} {m : List ℕ} {fs : List Film} (kept : Kept room m fs) (
 
 -- ---- drop
 
-module _ {room : Room} {m : List ℕ} {fs : List Film} (kept : Kept room m fs) (n : ℕ) (free : first (dropRows room n (length m)) ≡ 0) where
+module _ {room : Room} {m : List ℕ} {fs : List StoredFilm} (kept : Kept room m fs) (n : ℕ) (free : first (dropRows room n (length m)) ≡ 0) where
   abbrev i : ℕ
   i = before n (held room)
 
@@ -206,24 +206,24 @@ module _ {room : Room} {m : List ℕ} {fs : List Film} (kept : Kept room m fs) (
 -- ---- the two calls that change a room
 
 -- what store makes of a room
-abbrev pub storesOf : Room → Film → List ℕ → List ℕ → List ℕ → Keeps
+abbrev pub storesOf : Room → StoredFilm → List ℕ → List ℕ → List ℕ → StoreOut
 storesOf room f m t ls = storeOf room (f .number) (f .width) (f .height) (f .pixels) (f .settings) m t ls
 
-pub store-keeps : {room : Room} {m : List ℕ} {fs : List Film} → Kept room m fs → (f : Film) (t ls : List ℕ)
-    → Kept (storesOf room f m t ls .room) (storesOf room f m t ls .map) (storedAs (storesOf room f m t ls .answer) f fs)
+pub store-keeps : {room : Room} {m : List ℕ} {fs : List StoredFilm} → Kept room m fs → (f : StoredFilm) (t ls : List ℕ)
+    → Kept (storesOf room f m t ls .room) (storesOf room f m t ls .map) (filmsAfterStore (storesOf room f m t ls .answer) f fs)
 unfolding storeOf storedOf
 store-keeps {room} {m} {fs} kept f t ls = go (first (storeRows room (f .number) (f .width) (f .height) (f .pixels) (f .settings) (length m) (length t) (length ls))) refl
   where
     go : (n : ℕ) → first (storeRows room (f .number) (f .width) (f .height) (f .pixels) (f .settings) (length m) (length t) (length ls)) ≡ n
-        → Kept (storesOf room f m t ls .room) (storesOf room f m t ls .map) (storedAs (storesOf room f m t ls .answer) f fs)
+        → Kept (storesOf room f m t ls .room) (storesOf room f m t ls .map) (filmsAfterStore (storesOf room f m t ls .answer) f fs)
     go zero e = rw e (store-kept kept f t ls e)
     go (suc n) e = rw e kept
 
-pub drop-keeps : {room : Room} {m : List ℕ} {fs : List Film} → Kept room m fs → (n : ℕ)
-    → Kept (dropOf room n m .room) (dropOf room n m .map) (droppedAs (dropOf room n m .answer) n fs)
+pub drop-keeps : {room : Room} {m : List ℕ} {fs : List StoredFilm} → Kept room m fs → (n : ℕ)
+    → Kept (dropOf room n m .room) (dropOf room n m .map) (filmsAfterDrop (dropOf room n m .answer) n fs)
 unfolding dropOf droppedOf
 drop-keeps {room} {m} {fs} kept n = go (first (dropRows room n (length m))) refl
   where
-    go : (k : ℕ) → first (dropRows room n (length m)) ≡ k → Kept (dropOf room n m .room) (dropOf room n m .map) (droppedAs (dropOf room n m .answer) n fs)
+    go : (k : ℕ) → first (dropRows room n (length m)) ≡ k → Kept (dropOf room n m .room) (dropOf room n m .map) (filmsAfterDrop (dropOf room n m .answer) n fs)
     go zero e = rw e (drop-kept kept n e)
     go (suc k) e = rw e kept

@@ -22,7 +22,7 @@ use Rattle.tiles.specs.Tiles.{footOf, mappings}
 use Rattle.tiles.proofs.Films.{length-mappings}
 use Rattle.prepare.specs.Prepare.{preparedOf}
 use Rattle.draw.specs.declared.Drawn.the-variants as Drawn
-use Rattle.draw.specs.Draw.{drawnPixels, drawnSays, Shows, showing}
+use Rattle.draw.specs.Draw.{drawnPixels, drawnSays, DrawOut, drawLeaves}
 use Rattle.sets.specs.declared.Room.{Room}
 use Rattle.sets.specs.Sets.{setFor, held, spanOf, among, before, setOf, startOf, partOf, fitRows, withSet, withoutSet, movedDown}
 use Rattle.sets.proofs.Moves.{down-front, down-here, down-rest}
@@ -30,50 +30,50 @@ use Rattle.sets.proofs.Holds.{number-own}
 use Rattle.sets.proofs.Finds.{span-whole}
 use Rattle.room.specs.declared.Stored.the-variants as Stored
 use Rattle.room.specs.declared.Dropped.the-variants as Dropped
-use Rattle.room.specs.Room.{storeRows, storedSays, Keeps, keeping, storedOf, storeOf, SetHeld, showRows, showOf, dropRows, droppedSays, Leaves, leaving, droppedOf, dropOf}
+use Rattle.room.specs.Room.{storeRows, storedSays, StoreOut, storeLeaves, storedOf, storeOf, SetHeld, showRows, showOf, dropRows, droppedSays, DropOut, dropLeaves, droppedOf, dropOf}
 use Rattle.room.proofs.Drops.{dropping, dropping-among, drop-38, drop-40, drop-moves}
 use Rattle.room.proofs.Stores.{storing, store-40}
 use Rattle.room.proofs.Shows.{show-stored, show-none-11, show-known, show-part}
 use Rattle.promises.proofs.Accepted.{says-refused, ByTable, table-says, table-accepted, table-done, table-kept}
-use Rattle.room_promises.proofs.Runs.{StoreCall, Stores, store-given, store-ends, ShowCall, RoomDraws, show-given, show-rest, show-ends, DropCall, Drops, drop-given, drop-ends}
+use Rattle.room_promises.proofs.Runs.{StoreCall, Stores, store-arguments, store-ends, ShowCall, RoomDraws, show-arguments, show-rest, show-ends, DropCall, Drops, drop-arguments, drop-ends}
 
 -- ---- by their tables
 
 -- store: "40, 35, 36 .., in this order, stand before the film's own checks, 37 in 11's place"
 pub store-table : (room : Room) (film w h : ℕ) (pic : List ℕ) (s : Settings) (m t ls : List ℕ)
-    → ByTable (λ (x : Keeps). storedSays (x .answer)) (first (storeRows room film w h pic s (length m) (length t) (length ls))) (footOf w h s) (storedOf room film w h pic s m t ls)
-    (λ k. keeping (Stored.Refused k) room m t ls) (storeOf room film w h pic s m t ls)
+    → ByTable (λ (x : StoreOut). storedSays (x .answer)) (first (storeRows room film w h pic s (length m) (length t) (length ls))) (footOf w h s) (storedOf room film w h pic s m t ls)
+    (λ k. storeLeaves (Stored.Refused k) room m t ls) (storeOf room film w h pic s m t ls)
 unfolding storeOf storedOf storedSays
 store-table room film w h pic s m t ls =
     record {
-      when-none = λ z. ap (λ n. unless n (λ k. keeping (Stored.Refused k) room m t ls) (storedOf room film w h pic s m t ls)) z;
-      when-some = λ z. sym (unless-refused (first (storeRows room film w h pic s (length m) (length t) (length ls))) (λ k. keeping (Stored.Refused k) room m t ls) (storedOf room film w h pic s m t ls) z);
+      when-none = λ z. ap (λ n. unless n (λ k. storeLeaves (Stored.Refused k) room m t ls) (storedOf room film w h pic s m t ls)) z;
+      when-some = λ z. sym (unless-refused (first (storeRows room film w h pic s (length m) (length t) (length ls))) (λ k. storeLeaves (Stored.Refused k) room m t ls) (storedOf room film w h pic s m t ls) z);
       says-done = refl;
       says-lent = λ k. refl;
     }
 
 -- draw: "40 .. and 38, in this order, stand before the film's own checks"
 pub show-table : (room : Room) (film w h : ℕ) (pic : List ℕ) (s : Settings) (win : Window) (m out : List ℕ)
-    → ByTable (λ (x : Shows). drawnSays (x .answer)) (first (showRows room film w h pic s win m (length out))) tt
-    (showing Drawn.Done (drawnPixels w h pic s win (partOf film (held room) m))) (λ k. showing (Drawn.Refused k) out) (showOf room film w h pic s win m out)
+    → ByTable (λ (x : DrawOut). drawnSays (x .answer)) (first (showRows room film w h pic s win m (length out))) tt
+    (drawLeaves Drawn.Done (drawnPixels w h pic s win (partOf film (held room) m))) (λ k. drawLeaves (Drawn.Refused k) out) (showOf room film w h pic s win m out)
 unfolding showOf drawnSays
 show-table room film w h pic s win m out =
     record {
-      when-none = λ z. ap (λ n. unless n (λ k. showing (Drawn.Refused k) out) (showing Drawn.Done (drawnPixels w h pic s win (partOf film (held room) m)))) z;
-      when-some = λ z. sym (unless-refused (first (showRows room film w h pic s win m (length out))) (λ k. showing (Drawn.Refused k) out) (showing Drawn.Done (drawnPixels w h pic s win (partOf film (held room) m))) z);
+      when-none = λ z. ap (λ n. unless n (λ k. drawLeaves (Drawn.Refused k) out) (drawLeaves Drawn.Done (drawnPixels w h pic s win (partOf film (held room) m)))) z;
+      when-some = λ z. sym (unless-refused (first (showRows room film w h pic s win m (length out))) (λ k. drawLeaves (Drawn.Refused k) out) (drawLeaves Drawn.Done (drawnPixels w h pic s win (partOf film (held room) m))) z);
       says-done = refl;
       says-lent = λ k. refl;
     }
 
 -- drop: 40 and 38
 pub drop-table : (room : Room) (film : ℕ) (m : List ℕ)
-    → ByTable (λ (x : Leaves). droppedSays (x .answer)) (first (dropRows room film (length m))) tt (droppedOf room film m)
-    (λ k. leaving (Dropped.Refused k) room m) (dropOf room film m)
+    → ByTable (λ (x : DropOut). droppedSays (x .answer)) (first (dropRows room film (length m))) tt (droppedOf room film m)
+    (λ k. dropLeaves (Dropped.Refused k) room m) (dropOf room film m)
 unfolding dropOf droppedOf droppedSays
 drop-table room film m =
     record {
-      when-none = λ z. ap (λ n. unless n (λ k. leaving (Dropped.Refused k) room m) (droppedOf room film m)) z;
-      when-some = λ z. sym (unless-refused (first (dropRows room film (length m))) (λ k. leaving (Dropped.Refused k) room m) (droppedOf room film m) z);
+      when-none = λ z. ap (λ n. unless n (λ k. dropLeaves (Dropped.Refused k) room m) (droppedOf room film m)) z;
+      when-some = λ z. sym (unless-refused (first (dropRows room film (length m))) (λ k. dropLeaves (Dropped.Refused k) room m) (droppedOf room film m) z);
       says-done = refl;
       says-lent = λ k. refl;
     }
@@ -82,51 +82,51 @@ drop-table room film m =
 
 pub store-says : {c : StoreCall} → Stores c
     → storedSays (c .answer) ≡ says (first (storeRows (c .room) (c .film) (c .width) (c .height) (c .pixels) (c .settings) (length (c .map)) (length (c .scratch)) (length (c .list)))) (footOf (c .width) (c .height) (c .settings))
-store-says ran = ap (λ (y : Keeps). storedSays (y .answer)) (store-ends ran) ∙ table-says (store-table _ _ _ _ _ _ _ _ _)
+store-says ran = ap (λ (y : StoreOut). storedSays (y .answer)) (store-ends ran) ∙ table-says (store-table _ _ _ _ _ _ _ _ _)
 
 pub show-says : {c : ShowCall} → RoomDraws c
     → drawnSays (c .answer) ≡ says (first (showRows (c .room) (c .film) (c .width) (c .height) (c .pixels) (c .settings) (c .window) (c .map) (length (c .out)))) tt
-show-says ran = ap (λ (y : Shows). drawnSays (y .answer)) (show-ends ran) ∙ table-says (show-table _ _ _ _ _ _ _ _ _)
+show-says ran = ap (λ (y : DrawOut). drawnSays (y .answer)) (show-ends ran) ∙ table-says (show-table _ _ _ _ _ _ _ _ _)
 
 pub drop-says : {c : DropCall} → Drops c → droppedSays (c .answer) ≡ says (first (dropRows (c .room) (c .film) (length (c .map)))) tt
-drop-says ran = ap (λ (y : Leaves). droppedSays (y .answer)) (drop-ends ran) ∙ table-says (drop-table _ _ _)
+drop-says ran = ap (λ (y : DropOut). droppedSays (y .answer)) (drop-ends ran) ∙ table-says (drop-table _ _ _)
 
 -- ---- a refusal keeps all that was lent, and the room
 
 pub store-refusal-keeps : {c : StoreCall} (n : ℕ) → Stores c → storedSays (c .answer) ≡ refused n → (c .room′ ≡ c .room) × (c .map′ ≡ c .map) × (c .scratch′ ≡ c .scratch) × (c .list′ ≡ c .list)
 store-refusal-keeps n ran q =
     let x = store-ends ran in
-    let e = x ∙ table-kept (store-table _ _ _ _ _ _ _ _ _) (sym (ap (λ (y : Keeps). storedSays (y .answer)) x) ∙ q) in
-    (ap (λ (y : Keeps). y .room) e, ap (λ (y : Keeps). y .map) e, ap (λ (y : Keeps). y .scratch) e, ap (λ (y : Keeps). y .list) e)
+    let e = x ∙ table-kept (store-table _ _ _ _ _ _ _ _ _) (sym (ap (λ (y : StoreOut). storedSays (y .answer)) x) ∙ q) in
+    (ap (λ (y : StoreOut). y .room) e, ap (λ (y : StoreOut). y .map) e, ap (λ (y : StoreOut). y .scratch) e, ap (λ (y : StoreOut). y .list) e)
 
 pub show-refusal-keeps : {c : ShowCall} (n : ℕ) → RoomDraws c → drawnSays (c .answer) ≡ refused n → c .out′ ≡ c .out
 show-refusal-keeps n ran q =
     let x = show-ends ran in
-    ap (λ (y : Shows). y .out) (x ∙ table-kept (show-table _ _ _ _ _ _ _ _ _) (sym (ap (λ (y : Shows). drawnSays (y .answer)) x) ∙ q))
+    ap (λ (y : DrawOut). y .out) (x ∙ table-kept (show-table _ _ _ _ _ _ _ _ _) (sym (ap (λ (y : DrawOut). drawnSays (y .answer)) x) ∙ q))
 
 pub drop-refusal-keeps : {c : DropCall} (n : ℕ) → Drops c → droppedSays (c .answer) ≡ refused n → (c .room′ ≡ c .room) × (c .map′ ≡ c .map)
 drop-refusal-keeps n ran q =
     let x = drop-ends ran in
-    let e = x ∙ table-kept (drop-table _ _ _) (sym (ap (λ (y : Leaves). droppedSays (y .answer)) x) ∙ q) in
-    (ap (λ (y : Leaves). y .room) e, ap (λ (y : Leaves). y .map) e)
+    let e = x ∙ table-kept (drop-table _ _ _) (sym (ap (λ (y : DropOut). droppedSays (y .answer)) x) ∙ q) in
+    (ap (λ (y : DropOut). y .room) e, ap (λ (y : DropOut). y .map) e)
 
 -- ---- one outcome only
 
-pub store-determined : {c d : StoreCall} → Stores c → Stores d → store-given c ≡ store-given d
+pub store-determined : {c d : StoreCall} → Stores c → Stores d → store-arguments c ≡ store-arguments d
     → (c .answer ≡ d .answer) × (c .room′ ≡ d .room′) × (c .map′ ≡ d .map′) × (c .scratch′ ≡ d .scratch′) × (c .list′ ≡ d .list′)
 store-determined x y same =
     let e = store-ends x ∙ ap (λ g. storeOf (g .0) (g .1) (g .2) (g .3) (g .4) (g .5) (g .6) (g .7) (g .8)) same ∙ sym (store-ends y) in
-    (ap (λ (z : Keeps). z .answer) e, ap (λ (z : Keeps). z .room) e, ap (λ (z : Keeps). z .map) e, ap (λ (z : Keeps). z .scratch) e, ap (λ (z : Keeps). z .list) e)
+    (ap (λ (z : StoreOut). z .answer) e, ap (λ (z : StoreOut). z .room) e, ap (λ (z : StoreOut). z .map) e, ap (λ (z : StoreOut). z .scratch) e, ap (λ (z : StoreOut). z .list) e)
 
-pub show-determined : {c d : ShowCall} → RoomDraws c → RoomDraws d → show-given c ≡ show-given d → (c .answer ≡ d .answer) × (c .out′ ≡ d .out′)
+pub show-determined : {c d : ShowCall} → RoomDraws c → RoomDraws d → show-arguments c ≡ show-arguments d → (c .answer ≡ d .answer) × (c .out′ ≡ d .out′)
 show-determined x y same =
     let e = show-ends x ∙ ap (λ g. showOf (g .0) (g .1) (g .2) (g .3) (g .4) (g .5) (g .6) (g .7) (g .8)) same ∙ sym (show-ends y) in
-    (ap (λ (z : Shows). z .answer) e, ap (λ (z : Shows). z .out) e)
+    (ap (λ (z : DrawOut). z .answer) e, ap (λ (z : DrawOut). z .out) e)
 
-pub drop-determined : {c d : DropCall} → Drops c → Drops d → drop-given c ≡ drop-given d → (c .answer ≡ d .answer) × (c .room′ ≡ d .room′) × (c .map′ ≡ d .map′)
+pub drop-determined : {c d : DropCall} → Drops c → Drops d → drop-arguments c ≡ drop-arguments d → (c .answer ≡ d .answer) × (c .room′ ≡ d .room′) × (c .map′ ≡ d .map′)
 drop-determined x y same =
     let e = drop-ends x ∙ ap (λ g. dropOf (g .0) (g .1) (g .2)) same ∙ sym (drop-ends y) in
-    (ap (λ (z : Leaves). z .answer) e, ap (λ (z : Leaves). z .room) e, ap (λ (z : Leaves). z .map) e)
+    (ap (λ (z : DropOut). z .answer) e, ap (λ (z : DropOut). z .room) e, ap (λ (z : DropOut). z .map) e)
 
 -- ---- "a room draw gives no 11"
 
@@ -143,7 +143,7 @@ pub room-number : {c : ShowCall} → RoomDraws c → drawnSays (c .answer) ≡ a
     → (before (c .film) (held (c .room)) < c .room .count) × (setOf (c .film) (held (c .room)) .film ≡ c .film)
     × SetHeld (c .width) (c .height) (c .settings) (setOf (c .film) (held (c .room)))
 room-number {c} ran done =
-    let e = table-accepted (show-table (c .room) (c .film) (c .width) (c .height) (c .pixels) (c .settings) (c .window) (c .map) (c .out)) (sym (ap (λ (y : Shows). drawnSays (y .answer)) (show-ends ran)) ∙ done) .0 in
+    let e = table-accepted (show-table (c .room) (c .film) (c .width) (c .height) (c .pixels) (c .settings) (c .window) (c .map) (c .out)) (sym (ap (λ (y : DrawOut). drawnSays (y .answer)) (show-ends ran)) ∙ done) .0 in
     let known = show-known (c .room) (c .film) (c .width) (c .height) (c .pixels) (c .settings) (c .window) (c .map) (length (c .out)) e in
     (known .0 .here, number-own (c .film) (held (c .room)) (dropping-among (known .0)), known .1)
 
@@ -152,12 +152,12 @@ pub room-own-entries : {c d : ShowCall} → RoomDraws c → RoomDraws d
     → show-rest c ≡ show-rest d → length (c .map) ≡ length (d .map) → partOf (c .film) (held (c .room)) (c .map) ≡ partOf (c .film) (held (c .room)) (d .map)
     → (c .answer ≡ d .answer) × (c .out′ ≡ d .out′)
 room-own-entries {c} {d} x y same long part =
-    let e : showing (c .answer) (c .out′) ≡ showing (d .answer) (d .out′) =
+    let e : drawLeaves (c .answer) (c .out′) ≡ drawLeaves (d .answer) (d .out′) =
     show-ends x
     ∙ show-part (c .room) (c .film) (c .width) (c .height) (c .pixels) (c .settings) (c .window) (c .map) (d .map) (c .out) long part
     ∙ ap (λ g. showOf (g .0) (g .1) (g .2) (g .3) (g .4) (g .5) (g .6) (d .map) (g .7)) same
     ∙ sym (show-ends y) in
-    (ap (λ (z : Shows). z .answer) e, ap (λ (z : Shows). z .out) e)
+    (ap (λ (z : DrawOut). z .answer) e, ap (λ (z : DrawOut). z .out) e)
 
 -- ---- 40 and 38
 
@@ -166,7 +166,7 @@ module _ {c : ShowCall} (ran : RoomDraws c) where
   unfolding drawnSays
   told {n} e z =
       let q = show-ends ran ∙ sym (show-stored (c .room) (c .film) (c .width) (c .height) (c .pixels) (c .settings) (c .window) (c .map) (c .out) e z) in
-      (ap (λ (y : Shows). drawnSays (y .answer)) q, ap (λ (y : Shows). y .out) q)
+      (ap (λ (y : DrawOut). drawnSays (y .answer)) q, ap (λ (y : DrawOut). y .out) q)
 
   -- a draw of a number that is not stored is refused with 38, whatever else is handed to it
   pub room-not-stored : first (fitRows (c .room) (length (c .map))) ≡ 0 → among (c .film) (held (c .room)) ≡ false → (drawnSays (c .answer) ≡ refused 38) × (c .out′ ≡ c .out)
@@ -202,14 +202,14 @@ unfolding storedOf preparedOf
 store-leaves {c} ran done =
     let x = store-ends ran in
     let table = store-table (c .room) (c .film) (c .width) (c .height) (c .pixels) (c .settings) (c .map) (c .scratch) (c .list) in
-    let said = sym (ap (λ (y : Keeps). storedSays (y .answer)) x) ∙ done in
+    let said = sym (ap (λ (y : StoreOut). storedSays (y .answer)) x) ∙ done in
     let e = x ∙ table-done table said in
     let fits =
     storing (c .room) (c .film) (c .width) (c .height) (c .pixels) (c .settings) (length (c .map)) (length (c .scratch)) (length (c .list)) (table-accepted table said .0) .enters .fits in
     let at = length-take-le a (c .map) fits in (
-      ap (λ (y : Keeps). y .room) e,
-      ap (λ (y : Keeps). take a (y .map)) e ∙ take-at (take a (c .map)) maps a at,
-      ap (λ (y : Keeps). drop (a + n) (y .map)) e
+      ap (λ (y : StoreOut). y .room) e,
+      ap (λ (y : StoreOut). take a (y .map)) e ∙ take-at (take a (c .map)) maps a at,
+      ap (λ (y : StoreOut). drop (a + n) (y .map)) e
           ∙ sym (drop-drop n a (take a (c .map) ++ maps))
           ∙ ap (drop n) (drop-at (take a (c .map)) maps a at)
           ∙ go (clipOne (c .settings .clip))
@@ -244,12 +244,12 @@ unfolding droppedOf
 drop-leaves {c} ran done a b e begins ends last =
     let x = drop-ends ran in
     let table = drop-table (c .room) (c .film) (c .map) in
-    let said = sym (ap (λ (y : Leaves). droppedSays (y .answer)) x) ∙ done in
+    let said = sym (ap (λ (y : DropOut). droppedSays (y .answer)) x) ∙ done in
     let q = x ∙ table-done table said in
     let known = dropping (c .room) (c .film) (length (c .map)) refl (table-accepted table said .0) in
     let lies = drop-moves known refl begins ends (last ∙ sym (span-whole (c .room) (c .room .count) (omega arith))) in
-    let moved : c .map′ ≡ movedDown (c .map) a b e = ap (λ (y : Leaves). y .map) q ∙ rw (begins, ends, last) refl in (
-      ap (λ (y : Leaves). y .room) q,
+    let moved : c .map′ ≡ movedDown (c .map) a b e = ap (λ (y : DropOut). y .map) q ∙ rw (begins, ends, last) refl in (
+      ap (λ (y : DropOut). y .room) q,
       ap (take a) moved ∙ down-front (c .map) a b e (lies .0) (lies .1) (lies .2),
       ap (λ z. take (e - b) (drop a z)) moved ∙ down-here (c .map) a b e (lies .0) (lies .1) (lies .2),
       ap (drop (a + (e - b))) moved ∙ down-rest (c .map) a b e (lies .0) (lies .1) (lies .2),

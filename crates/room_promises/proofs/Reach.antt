@@ -12,19 +12,19 @@ use Rattle.rule.specs.Reach.{DifferIn, BeyondTile}
 use Rattle.rule.proofs.Rule.{shown-by, shown-like}
 use Rattle.rule.proofs.Local.{shown-local}
 use Rattle.rule.proofs.Stays.{rect-stays, beyond-tile}
-use Rattle.reach_promises.proofs.Rendered.{Film as Picture, Rendered}
+use Rattle.reach_promises.proofs.Rendered.{Film, Rendered}
 use Rattle.reach_promises.proofs.Shown.{Seen, rendered-seen}
 use Rattle.reach_promises.proofs.Reach.{Twins, Two, tileIn}
-use Rattle.room_promises.specs.Films.{Film}
+use Rattle.room_promises.specs.Films.{StoredFilm}
 use Rattle.room_promises.proofs.Runs.{ShowCall}
 use Rattle.room_promises.proofs.Rules.{DrawnFromRoom, roomGrey, room-inside, room-by-rule, room-as-film}
 
 -- a film of the room without its number
-abbrev pub pictureOf : Film → Picture
+abbrev pub pictureOf : StoredFilm → Film
 pictureOf f = record { width = f .width; height = f .height; settings = f .settings; pixels = f .pixels }
 
 -- a room draw that is done
-module _ {f : Film} {c : ShowCall} (from : DrawnFromRoom f c) (done : drawnSays (c .answer) ≡ accepted tt) (i j : ℕ) (l : i < c .window .width) (k : j < c .window .height) where
+module _ {f : StoredFilm} {c : ShowCall} (from : DrawnFromRoom f c) (done : drawnSays (c .answer) ≡ accepted tt) (i j : ℕ) (l : i < c .window .width) (k : j < c .window .height) where
   -- shows the film: by the rule, and at the factor 1.0 its own grey
   pub room-shows : roomGrey c i j ≡ shownGrey (f .width) (f .height) (f .pixels) (f .settings) (c .window .left + i) (c .window .top + j)
   room-shows =
@@ -36,8 +36,8 @@ module _ {f : Film} {c : ShowCall} (from : DrawnFromRoom f c) (done : drawnSays 
       record { tiled = inside .0; column = omega (arith, inside .1); row = omega (arith, inside .2); shows = room-shows }
 
 -- two greys that are shown of films that are alike for the pixel are one
-pub seen-local : {f f′ : Picture} {x y g g′ : ℕ} → Seen f x y g → Seen f′ x y g′ → Two f f′ x y → g ≡ g′
-seen-local {f} {f′} {x} {y} a b two =
+pub room-seen-local : {f f′ : Film} {x y g g′ : ℕ} → Seen f x y g → Seen f′ x y g′ → Two f f′ x y → g ≡ g′
+room-seen-local {f} {f′} {x} {y} a b two =
     a .shows
     ∙ shown-local (f .width) (f .height) (f .pixels) (f′ .pixels) (f .settings) x y (two .alike)
     ∙ shown-like (f .width) (f .height) (f′ .pixels) (f .settings) (f′ .settings) x y (sym (two .twins .settings))
@@ -45,19 +45,19 @@ seen-local {f} {f′} {x} {y} a b two =
     ∙ sym (b .shows)
 
 -- "then the rendered grey is the same in both": drawn from two rooms; the pixel in column i and row j of the first window is the one in column i′ and row j′ of the second
-pub room-local : {f f′ : Film} {c c′ : ShowCall} → DrawnFromRoom f c → drawnSays (c .answer) ≡ accepted tt → DrawnFromRoom f′ c′ → drawnSays (c′ .answer) ≡ accepted tt → (i j i′ j′ : ℕ)
+pub room-local : {f f′ : StoredFilm} {c c′ : ShowCall} → DrawnFromRoom f c → drawnSays (c .answer) ≡ accepted tt → DrawnFromRoom f′ c′ → drawnSays (c′ .answer) ≡ accepted tt → (i j i′ j′ : ℕ)
     → i < c .window .width → j < c .window .height → i′ < c′ .window .width → j′ < c′ .window .height
     → c′ .window .left + i′ ≡ c .window .left + i → c′ .window .top + j′ ≡ c .window .top + j
     → Two (pictureOf f) (pictureOf f′) (c .window .left + i) (c .window .top + j) → roomGrey c i j ≡ roomGrey c′ i′ j′
-room-local from done from′ done′ i j i′ j′ l k l′ k′ across down two = seen-local (room-seen from done i j l k) (rw (← across, ← down) (room-seen from′ done′ i′ j′ l′ k′)) two
+room-local from done from′ done′ i j i′ j′ l k l′ k′ across down two = room-seen-local (room-seen from done i j l k) (rw (← across, ← down) (room-seen from′ done′ i′ j′ l′ k′)) two
 
 -- one from a room, the other by whichever way
-pub room-rendered-local : {f : Film} {p : Picture} {c : ShowCall} {g : ℕ} → DrawnFromRoom f c → drawnSays (c .answer) ≡ accepted tt → (i j : ℕ) → i < c .window .width → j < c .window .height
+pub room-rendered-local : {f : StoredFilm} {p : Film} {c : ShowCall} {g : ℕ} → DrawnFromRoom f c → drawnSays (c .answer) ≡ accepted tt → (i j : ℕ) → i < c .window .width → j < c .window .height
     → Rendered p (c .window .left + i) (c .window .top + j) g → Two (pictureOf f) p (c .window .left + i) (c .window .top + j) → roomGrey c i j ≡ g
-room-rendered-local from done i j l k other two = seen-local (room-seen from done i j l k) (rendered-seen other) two
+room-rendered-local from done i j l k other two = room-seen-local (room-seen from done i j l k) (rendered-seen other) two
 
 -- a scratch: the films differ in the tile in column a and row b alone, and the grey of every pixel beyond the neighbouring tiles' centres is the same in both
-pub room-stays : {f f′ : Film} {c c′ : ShowCall} → DrawnFromRoom f c → drawnSays (c .answer) ≡ accepted tt → DrawnFromRoom f′ c′ → drawnSays (c′ .answer) ≡ accepted tt → (i j i′ j′ : ℕ)
+pub room-stays : {f f′ : StoredFilm} {c c′ : ShowCall} → DrawnFromRoom f c → drawnSays (c .answer) ≡ accepted tt → DrawnFromRoom f′ c′ → drawnSays (c′ .answer) ≡ accepted tt → (i j i′ j′ : ℕ)
     → i < c .window .width → j < c .window .height → i′ < c′ .window .width → j′ < c′ .window .height
     → c′ .window .left + i′ ≡ c .window .left + i → c′ .window .top + j′ ≡ c .window .top + j
     → Twins (pictureOf f) (pictureOf f′) → (a b : ℕ) → a < f .settings .across → DifferIn (f .width) (f .height) (f .pixels) (f′ .pixels) (tileIn (pictureOf f) a b)

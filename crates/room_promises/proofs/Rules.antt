@@ -14,9 +14,9 @@ use Rattle.refuse.specs.Refuse.{first, says, accepted}
 use Rattle.settings.specs.Settings.{binsOf, entriesOf, recordOf, clipOne, Tiled}
 use Rattle.tiles.specs.Tiles.{mappings, spentEntries, footOf}
 use Rattle.tiles.proofs.Films.{length-mappings}
-use Rattle.prepare.specs.Prepare.{prepareRows, preparedSays, Ended, prepareOf, enhancedSays, Over, overing, enhanceOf}
+use Rattle.prepare.specs.Prepare.{prepareRows, preparedSays, PrepareOut, prepareOf, enhancedSays, EnhanceOut, enhanceLeaves, enhanceOf}
 use Rattle.prepare.proofs.Like.{enhance-kept}
-use Rattle.draw.specs.Draw.{drawnSays, Shows, showing, drawOf}
+use Rattle.draw.specs.Draw.{drawnSays, DrawOut, drawLeaves, drawOf}
 use Rattle.rule.specs.Rule.{ruleGrey}
 use Rattle.promises.proofs.Accepted.{table-says, prepare-table, prepare-work}
 use Rattle.promises.proofs.Reuse.{left-laid, left-room}
@@ -28,16 +28,16 @@ use Rattle.sets.proofs.Laid.{laid-at}
 use Rattle.room.specs.Room.{showOf}
 use Rattle.room.proofs.Shows.{show-kept}
 use Rattle.room_promises.proofs.Kept.{FilmGood, Kept}
-use Rattle.room_promises.specs.Films.{Film, filmSize}
+use Rattle.room_promises.specs.Films.{StoredFilm, filmSize}
 use Rattle.room_promises.proofs.Runs.{ShowCall, RoomDraws, show-ends}
 use Rattle.room_promises.proofs.Histories.{History, room-kept}
 use Rattle.room_promises.proofs.Alone.{Among, among-alone, OfFilm, of-film}
 
 -- a draw from the room, as it was left, of a film that is stored and not dropped: its number, sizes and pixels, and settings that are kept as its own
-pub record DrawnFromRoom (f : Film) (c : ShowCall) : Type 0 where
+pub record DrawnFromRoom (f : StoredFilm) (c : ShowCall) : Type 0 where
   pub room : Room
   pub map : List ℕ
-  pub films : List Film
+  pub films : List StoredFilm
   pub history : History room map films
   pub among : Among f films
   pub draws : RoomDraws c
@@ -49,14 +49,14 @@ pub record DrawnFromRoom (f : Film) (c : ShowCall) : Type 0 where
 abbrev pub roomGrey : ShowCall → ℕ → ℕ → ℕ
 roomGrey c i j = getD (c .out′) (j * c .window .width + i) 0
 
-module _ {f : Film} {c : ShowCall} (from : DrawnFromRoom f c) where
+module _ {f : StoredFilm} {c : ShowCall} (from : DrawnFromRoom f c) where
   kept : Kept (from .room) (from .map) (from .films)
   kept = room-kept (from .history)
 
   -- prepare accepts the film alone, in buffers that are just long enough
   good : first (prepareRows (f .width) (f .height) (f .pixels) (f .settings) (entriesOf (f .settings)) (binsOf (f .settings)) (spentEntries (f .settings))) ≡ 0
   good =
-      subst (λ (g : Film). first (prepareRows (g .width) (g .height) (g .pixels) (g .settings) (entriesOf (g .settings)) (binsOf (g .settings)) (spentEntries (g .settings))) ≡ 0) (from .among .is)
+      subst (λ (g : StoredFilm). first (prepareRows (g .width) (g .height) (g .pixels) (g .settings) (entriesOf (g .settings)) (binsOf (g .settings)) (spentEntries (g .settings))) ≡ 0) (from .among .is)
       (laid-at filmSize FilmGood (kept .laid) (from .among .place) f (from .among .inside) .accepts)
 
   abbrev m : List ℕ
@@ -68,7 +68,7 @@ module _ {f : Film} {c : ShowCall} (from : DrawnFromRoom f c) where
   abbrev n : List ℕ
   n = tab (spentEntries (f .settings)) (λ k. 0)
 
-  abbrev left : Ended
+  abbrev left : PrepareOut
   left = prepareOf (f .number) (f .width) (f .height) (f .pixels) (f .settings) m t n
 
   done : preparedSays (left .answer) ≡ accepted (recordOf (f .number) (f .width) (f .height) (f .settings), footOf (f .width) (f .height) (f .settings))
@@ -87,10 +87,10 @@ module _ {f : Film} {c : ShowCall} (from : DrawnFromRoom f c) where
       ap (take (entriesOf (f .settings))) (left-laid (f .number) (f .width) (f .height) (f .pixels) (f .settings) m t n done changes)
       ∙ take-onto m (mappings (f .width) (f .height) (f .pixels) (f .settings)) (entriesOf (f .settings)) (length-mappings (f .width) (f .height) (f .pixels) (f .settings))
 
-  abbrev drawn : Shows
+  abbrev drawn : DrawOut
   drawn = drawOf (f .number) (f .width) (f .height) (f .pixels) (f .settings) (recordOf (f .number) (f .width) (f .height) (f .settings)) (c .window) (left .map) (c .out)
 
-  shows : showing (c .answer) (c .out′) ≡ drawn
+  shows : drawLeaves (c .answer) (c .out′) ≡ drawn
   shows =
       show-ends (from .draws)
       ∙ of-film (λ n w h pic s. showOf (c .room) n w h pic s (c .window) (c .map) (c .out)) (λ n w h pic s. show-kept (c .room) n w h pic s (c .window) (c .map) (c .out)) (from .film)
@@ -100,14 +100,14 @@ module _ {f : Film} {c : ShowCall} (from : DrawnFromRoom f c) where
   pub room-accepts : 0 < c .window .width → 0 < c .window .height → c .window .left + c .window .width ≤ f .width → c .window .top + c .window .height ≤ f .height
       → length (c .out) ≡ c .window .height * c .window .width → drawnSays (c .answer) ≡ accepted tt
   room-accepts wide high across down area =
-      ap (λ (z : Shows). drawnSays (z .answer)) shows
+      ap (λ (z : DrawOut). drawnSays (z .answer)) shows
       ∙ draw-agrees (f .number) (f .width) (f .height) (f .pixels) (f .settings) m t n done (f .settings) (left .map) (c .window) (c .out)
       record { like = refl; long = enough; front = λ changes. refl; wide = wide; high = high; across = across; down = down; area = area }
 
   -- a room draw that is done
   module _ (answered : drawnSays (c .answer) ≡ accepted tt) where
     accepts : drawnSays (drawn .answer) ≡ accepted tt
-    accepts = ap (λ (z : Shows). drawnSays (z .answer)) (sym shows) ∙ answered
+    accepts = ap (λ (z : DrawOut). drawnSays (z .answer)) (sym shows) ∙ answered
 
     -- the film is one that a call accepts, and the window lies inside it
     pub room-inside : Tiled (f .width) (f .height) (f .settings) × (c .window .left + c .window .width ≤ f .width) × (c .window .top + c .window .height ≤ f .height)
@@ -120,14 +120,14 @@ module _ {f : Film} {c : ShowCall} (from : DrawnFromRoom f c) where
     pub room-by-rule : clipOne (f .settings .clip) ≡ false → (j i : ℕ) → j < c .window .height → i < c .window .width
         → roomGrey c i j ≡ ruleGrey (f .width) (f .height) (f .pixels) (f .settings) (c .window .left + i) (c .window .top + j)
     room-by-rule changes j i l k =
-        ap (λ (z : Shows). getD (z .out) (j * c .window .width + i) 0) shows
+        ap (λ (z : DrawOut). getD (z .out) (j * c .window .width + i) 0) shows
         ∙ accepted-by-rule (f .number) (f .width) (f .height) (f .pixels) (f .settings) m t n done (f .number) (f .width) (f .height) (f .settings) (left .map) (c .window) (c .out) accepts (λ q. refl) changes j i l k
 
     -- at the factor 1.0 the film's own
     pub room-as-film : clipOne (f .settings .clip) ≡ true → (j i : ℕ) → j < c .window .height → i < c .window .width
         → roomGrey c i j ≡ getD (f .pixels) ((c .window .top + j) * f .width + (c .window .left + i)) 0
     room-as-film unchanged j i l k =
-        ap (λ (z : Shows). getD (z .out) (j * c .window .width + i) 0) shows
+        ap (λ (z : DrawOut). getD (z .out) (j * c .window .width + i) 0) shows
         ∙ accepted-as-film (f .number) (f .width) (f .height) (f .pixels) (f .settings) m t n done (f .number) (f .width) (f .height) (f .settings) (left .map) (c .window) (c .out) accepts (λ q. refl) unchanged j i l k
 
     -- and the one in enhance's picture, of the same film in buffers that are long enough, which enhance renders
@@ -136,10 +136,10 @@ module _ {f : Film} {c : ShowCall} (from : DrawnFromRoom f c) where
         → (enhancedSays (e .answer) ≡ accepted (footOf (f .width) (f .height) (f .settings)))
         × ((j i : ℕ) → j < c .window .height → i < c .window .width → roomGrey c i j ≡ getD (e .pixels′) ((c .window .top + j) * f .width + (c .window .left + i)) 0)
     room-as-enhanced e ran of map scratch =
-        let over : overing (e .answer) (e .pixels′) (e .map′) (e .scratch′) ≡ enhanceOf (f .width) (f .height) (f .pixels) (f .settings) (e .map) (e .scratch) =
+        let over : enhanceLeaves (e .answer) (e .pixels′) (e .map′) (e .scratch′) ≡ enhanceOf (f .width) (f .height) (f .pixels) (f .settings) (e .map) (e .scratch) =
         enhance-ends ran ∙ of-film (λ n w h pic s. enhanceOf w h pic s (e .map) (e .scratch)) (λ n w h pic s. enhance-kept w h pic s (e .map) (e .scratch)) of in (
-          ap (λ (z : Over). enhancedSays (z .answer)) over ∙ enhance-agrees (f .number) (f .width) (f .height) (f .pixels) (f .settings) m t n done (e .map) (e .scratch) map scratch,
-          λ j i l k. ap (λ (z : Shows). getD (z .out) (j * c .window .width + i) 0) shows
+          ap (λ (z : EnhanceOut). enhancedSays (z .answer)) over ∙ enhance-agrees (f .number) (f .width) (f .height) (f .pixels) (f .settings) m t n done (e .map) (e .scratch) map scratch,
+          λ j i l k. ap (λ (z : DrawOut). getD (z .out) (j * c .window .width + i) 0) shows
               ∙ accepted-as-enhanced (f .number) (f .width) (f .height) (f .pixels) (f .settings) m t n done (f .number) (f .width) (f .height) (f .settings) (left .map) (c .window) (c .out) accepts (λ q. refl) (e .map) (e .scratch) map scratch j i l k
-              ∙ sym (ap (λ (z : Over). getD (z .picture) ((c .window .top + j) * f .width + (c .window .left + i)) 0) over),
+              ∙ sym (ap (λ (z : EnhanceOut). getD (z .picture) ((c .window .top + j) * f .width + (c .window .left + i)) 0) over),
         )

@@ -9,11 +9,11 @@ use Rattle.refuse.specs.Run.{Run, Ran}
 use Rattle.settings.specs.declared.Settings.{Settings}
 use Rattle.settings.specs.declared.Window.{Window}
 use Rattle.draw.specs.declared.Drawn.{Drawn}
-use Rattle.draw.specs.Draw.{showing}
+use Rattle.draw.specs.Draw.{drawLeaves}
 use Rattle.sets.specs.declared.Room.{Room}
 use Rattle.room.specs.declared.Stored.{Stored}
 use Rattle.room.specs.declared.Dropped.{Dropped}
-use Rattle.room.specs.Room.{keeping, storeOf, showOf, leaving, dropOf}
+use Rattle.room.specs.Room.{storeLeaves, storeOf, showOf, dropLeaves, dropOf}
 use Rattle.room.proofs.store.Kinds as store
 use Rattle.room.proofs.store.Reads as store-reads
 use Rattle.room.proofs.draw.Kinds as draw
@@ -46,15 +46,15 @@ store-values run =
     record { room = room; film = film; width = width; height = height; pixels = now pixels; settings = settings; map = now map; scratch = now scratch; list = now list; answer = run .answer .answer; room′ = run .answer .room; map′ = now map′; scratch′ = now scratch′; list′ = now list′ }
 
 -- what it is handed
-abbrev pub store-given : StoreCall → Room × ℕ × ℕ × ℕ × List ℕ × Settings × List ℕ × List ℕ × List ℕ
-store-given c = (c .room, c .film, c .width, c .height, c .pixels, c .settings, c .map, c .scratch, c .list)
+abbrev pub store-arguments : StoreCall → Room × ℕ × ℕ × ℕ × List ℕ × Settings × List ℕ × List ℕ × List ℕ
+store-arguments c = (c .room, c .film, c .width, c .height, c .pixels, c .settings, c .map, c .scratch, c .list)
 
 -- store ran with these values
 abbrev pub Stores : StoreCall → Type 0
 Stores = Ran store-values
 
 pub store-ends : {c : StoreCall} → Stores c
-    → keeping (c .answer) (c .room′) (c .map′) (c .scratch′) (c .list′) ≡ storeOf (c .room) (c .film) (c .width) (c .height) (c .pixels) (c .settings) (c .map) (c .scratch) (c .list)
+    → storeLeaves (c .answer) (c .room′) (c .map′) (c .scratch′) (c .list′) ≡ storeOf (c .room) (c .film) (c .width) (c .height) (c .pixels) (c .settings) (c .map) (c .scratch) (c .list)
 store-ends ran = rw (ran .named) (ran .run .allowed)
 
 -- ---- draw: the buffer is lent to be read, and no room is handed back
@@ -79,8 +79,8 @@ show-values run =
     record { room = room; film = film; width = width; height = height; pixels = now pixels; settings = settings; window = window; map = now map; out = now out; answer = run .answer; out′ = now out′ }
 
 -- what it is handed
-abbrev pub show-given : ShowCall → Room × ℕ × ℕ × ℕ × List ℕ × Settings × Window × List ℕ × List ℕ
-show-given c = (c .room, c .film, c .width, c .height, c .pixels, c .settings, c .window, c .map, c .out)
+abbrev pub show-arguments : ShowCall → Room × ℕ × ℕ × ℕ × List ℕ × Settings × Window × List ℕ × List ℕ
+show-arguments c = (c .room, c .film, c .width, c .height, c .pixels, c .settings, c .window, c .map, c .out)
 
 -- all of that but the buffer
 abbrev pub show-rest : ShowCall → Room × ℕ × ℕ × ℕ × List ℕ × Settings × Window × List ℕ
@@ -91,7 +91,7 @@ abbrev pub RoomDraws : ShowCall → Type 0
 RoomDraws = Ran show-values
 
 pub show-ends : {c : ShowCall} → RoomDraws c
-    → showing (c .answer) (c .out′) ≡ showOf (c .room) (c .film) (c .width) (c .height) (c .pixels) (c .settings) (c .window) (c .map) (c .out)
+    → drawLeaves (c .answer) (c .out′) ≡ showOf (c .room) (c .film) (c .width) (c .height) (c .pixels) (c .settings) (c .window) (c .map) (c .out)
 show-ends ran = rw (ran .named) (ran .run .allowed)
 
 -- ---- drop
@@ -111,12 +111,12 @@ drop-values run =
     record { room = room; film = film; map = now map; answer = run .answer .answer; room′ = run .answer .room; map′ = now map′ }
 
 -- what it is handed
-abbrev pub drop-given : DropCall → Room × ℕ × List ℕ
-drop-given c = (c .room, c .film, c .map)
+abbrev pub drop-arguments : DropCall → Room × ℕ × List ℕ
+drop-arguments c = (c .room, c .film, c .map)
 
 -- drop ran with these values
 abbrev pub Drops : DropCall → Type 0
 Drops = Ran drop-values
 
-pub drop-ends : {c : DropCall} → Drops c → leaving (c .answer) (c .room′) (c .map′) ≡ dropOf (c .room) (c .film) (c .map)
+pub drop-ends : {c : DropCall} → Drops c → dropLeaves (c .answer) (c .room′) (c .map′) ≡ dropOf (c .room) (c .film) (c .map)
 drop-ends ran = rw (ran .named) (ran .run .allowed)

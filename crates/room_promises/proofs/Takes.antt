@@ -18,15 +18,15 @@ use Rattle.tiles.specs.Tiles.{footOf, mappings}
 use Rattle.tiles.proofs.Films.{length-mappings}
 use Rattle.prepare.specs.Prepare.{prepareRows, preparedOf}
 use Rattle.sets.specs.declared.Room.{Room}
-use Rattle.sets.specs.Sets.{setFor, held, sizeOf, spanOf, among, before, setOf}
+use Rattle.sets.specs.Sets.{setFor, held, setSize, spanOf, among, before, setOf}
 use Rattle.sets.proofs.Laid.{less}
 use Rattle.sets.proofs.Finds.{span-append}
 use Rattle.sets.proofs.Holds.{length-held, held-more, held-less, span-less}
-use Rattle.room.specs.Room.{storeRows, storedSays, Keeps, storedOf, storeOf, droppedSays, Leaves}
+use Rattle.room.specs.Room.{storeRows, storedSays, StoreOut, storedOf, storeOf, droppedSays, DropOut}
 use Rattle.room.proofs.Drops.{dropping}
 use Rattle.room.proofs.Stores.{Entering, storing, store-free}
 use Rattle.promises.proofs.Accepted.{table-accepted, table-done}
-use Rattle.room_promises.specs.Films.{Film, filmSet}
+use Rattle.room_promises.specs.Films.{StoredFilm, filmSet}
 use Rattle.room_promises.proofs.Runs.{StoreCall, Stores, store-ends, DropCall, Drops, drop-ends}
 use Rattle.room_promises.proofs.Kept.{filmSpans, span-films}
 use Rattle.room_promises.proofs.Histories.{History, room-kept}
@@ -44,7 +44,7 @@ module _ {c : StoreCall} {foot : Footer} (ran : Stores c) (done : storedSays (c 
   own = mappings (c .width) (c .height) (c .pixels) (c .settings)
 
   said : storedSays (storeOf (c .room) (c .film) (c .width) (c .height) (c .pixels) (c .settings) (c .map) (c .scratch) (c .list) .answer) ≡ accepted foot
-  said = sym (ap (λ (y : Keeps). storedSays (y .answer)) (store-ends ran)) ∙ done
+  said = sym (ap (λ (y : StoreOut). storedSays (y .answer)) (store-ends ran)) ∙ done
 
   enters : Entering (c .room) (c .film) (length (c .map))
   enters =
@@ -55,7 +55,7 @@ module _ {c : StoreCall} {foot : Footer} (ran : Stores c) (done : storedSays (c 
   -- the buffer that it leaves
   left : c .map′ ≡ take a (c .map) ++ cond (clipOne (c .settings .clip)) (drop a (c .map)) (onto (drop a (c .map)) own)
   unfolding storedOf preparedOf
-  left = ap (λ (y : Keeps). y .map) (store-ends ran ∙ table-done (store-table (c .room) (c .film) (c .width) (c .height) (c .pixels) (c .settings) (c .map) (c .scratch) (c .list)) said)
+  left = ap (λ (y : StoreOut). y .map) (store-ends ran ∙ table-done (store-table (c .room) (c .film) (c .width) (c .height) (c .pixels) (c .settings) (c .map) (c .scratch) (c .list)) said)
 
   -- "A set takes tiles times bins entries", whatever the factor: the sets take as many more. The room record holds eight places, as the type of its array says
   pub store-takes : length (c .room .sets) ≡ 8 → spanOf (held (c .room′)) ≡ spanOf (held (c .room)) + entriesOf (c .settings)
@@ -79,22 +79,22 @@ module _ {c : StoreCall} {foot : Footer} (ran : Stores c) (done : storedSays (c 
 -- ---- a drop, of any record
 
 -- a drop that is done frees the set's entries: the sets take as many less, and all behind them is free
-pub drop-frees : {c : DropCall} → Drops c → droppedSays (c .answer) ≡ accepted tt → spanOf (held (c .room′)) + sizeOf (setOf (c .film) (held (c .room))) ≡ spanOf (held (c .room))
+pub drop-frees : {c : DropCall} → Drops c → droppedSays (c .answer) ≡ accepted tt → spanOf (held (c .room′)) + setSize (setOf (c .film) (held (c .room))) ≡ spanOf (held (c .room))
 drop-frees {c} ran done =
-    let said = sym (ap (λ (y : Leaves). droppedSays (y .answer)) (drop-ends ran)) ∙ done in
+    let said = sym (ap (λ (y : DropOut). droppedSays (y .answer)) (drop-ends ran)) ∙ done in
     let known = dropping (c .room) (c .film) (length (c .map)) refl (table-accepted (drop-table (c .room) (c .film) (c .map)) said .0) in
     let i : ℕ = before (c .film) (held (c .room)) in
     let gone : held (c .room′) ≡ less i (held (c .room)) = ap held (drop-leaves ran done _ _ _ refl refl refl .0) ∙ held-less (c .room) i (known .here) (known .few) in
-    ap (λ rs. spanOf rs + sizeOf (setOf (c .film) (held (c .room)))) gone ∙ span-less (held (c .room)) i (rw (length-held (c .room)) (known .here))
+    ap (λ rs. spanOf rs + setSize (setOf (c .film) (held (c .room)))) gone ∙ span-less (held (c .room)) i (rw (length-held (c .room)) (known .here))
 
 -- ---- the free room
 
 -- "all free room is at the end and is used again": the sets take the entries of the films that are stored and not dropped, whatever was stored and dropped in between
-pub room-spans : {room : Room} {m : List ℕ} {fs : List Film} → History room m fs → spanOf (held room) ≡ filmSpans fs
+pub room-spans : {room : Room} {m : List ℕ} {fs : List StoredFilm} → History room m fs → spanOf (held room) ≡ filmSpans fs
 room-spans {room} {m} {fs} history = ap spanOf (room-kept history .sets) ∙ span-films fs
 
 -- and a film that prepare accepts in as many entries as are left is stored, as long as there are fewer than eight and none of its number
-pub room-takes : {room : Room} {m : List ℕ} {fs : List Film} → History room m fs → (c : StoreCall) → Stores c → c .room ≡ room → c .map ≡ m → length fs < 8
+pub room-takes : {room : Room} {m : List ℕ} {fs : List StoredFilm} → History room m fs → (c : StoreCall) → Stores c → c .room ≡ room → c .map ≡ m → length fs < 8
     → among (c .film) (map filmSet fs) ≡ false
     → first (prepareRows (c .width) (c .height) (c .pixels) (c .settings) (length m - filmSpans fs) (length (c .scratch)) (length (c .list))) ≡ 0
     → storedSays (c .answer) ≡ accepted (footOf (c .width) (c .height) (c .settings))

@@ -20,7 +20,7 @@ use Rattle.blend.proofs.Moves.{sides-are}
 use Rattle.render.specs.Render.{columnPlace, rowPlace}
 use Rattle.tiles.specs.Tiles.{tileOf}
 use Rattle.rule.specs.Rule.{tileValue, greyFrom, ruleGrey, shownGrey}
-use Rattle.rule.specs.Reach.{AgreeOn, Weighed, cornerTiles, inUse, usedTiles, AgreeTiles, Alike}
+use Rattle.rule.specs.Reach.{AgreeOn, Weighed, cornerTiles, inUse, usedTiles, AgreeTiles, AgreeAt}
 
 -- ---- the tiles that are used
 
@@ -101,7 +101,7 @@ spread column row a b c d =
     (rw (mul-add (row .lowerweight) (column .lowerweight * a) (column .upperweight * b), mul-add (row .upperweight) (column .lowerweight * c) (column .upperweight * d), mul-assoc, mul-assoc, mul-assoc, mul-assoc) refl)
 
 -- the rule's grey speaks of the pixel's own grey and of at most four tiles
-pub rule-local : (w h : ℕ) (pic pic′ : List ℕ) (s : Settings) (x y : ℕ) → Alike w h s pic pic′ x y → ruleGrey w h pic s x y ≡ ruleGrey w h pic′ s x y
+pub rule-local : (w h : ℕ) (pic pic′ : List ℕ) (s : Settings) (x y : ℕ) → AgreeAt w h s pic pic′ x y → ruleGrey w h pic s x y ≡ ruleGrey w h pic′ s x y
 unfolding ruleGrey greyFrom cornerTiles
 rule-local w h pic pic′ s x y alike =
     ap (λ v. greyOf column row (old v (row .lower) (column .lower)) (old v (row .lower) (column .upper)) (old v (row .upper) (column .lower)) (old v (row .upper) (column .upper))) (alike .grey)
@@ -133,6 +133,6 @@ rule-local w h pic pic′ s x y alike =
     each j i n same = weighed-local w pic pic′ s (tileOf w h s (j * s .across + i)) v n same
 
 -- and so does what is shown, at the factor 1.0 too, where no tile is used
-pub shown-local : (w h : ℕ) (pic pic′ : List ℕ) (s : Settings) (x y : ℕ) → Alike w h s pic pic′ x y → shownGrey w h pic s x y ≡ shownGrey w h pic′ s x y
+pub shown-local : (w h : ℕ) (pic pic′ : List ℕ) (s : Settings) (x y : ℕ) → AgreeAt w h s pic pic′ x y → shownGrey w h pic s x y ≡ shownGrey w h pic′ s x y
 unfolding shownGrey
 shown-local w h pic pic′ s x y alike = ap₂ (λ a b. cond (clipOne (s .clip)) a b) (alike .grey) (rule-local w h pic pic′ s x y alike)

@@ -21,7 +21,7 @@ use Rattle.blend.proofs.Places.{by-cases, place-sound}
 use Rattle.render.specs.Render.{columnPlace, rowPlace}
 use Rattle.tiles.specs.Tiles.{tileOf}
 use Rattle.tiles.proofs.Tiles.{tile-left, tile-top, tile-width, tile-height}
-use Rattle.rule.specs.Reach.{LiesIn, AgreeOn, cornerTiles, Alike, DifferIn, Past, before, behind, Beyond, aside, along, BeyondTile, left-of, right-of, above, below}
+use Rattle.rule.specs.Reach.{LiesIn, AgreeOn, cornerTiles, AgreeAt, DifferIn, Past, before, behind, Beyond, aside, along, BeyondTile, left-of, right-of, above, below}
 use Rattle.rule.proofs.Local.{AgreeWeighed, used-agree}
 
 -- ---- columns, and rows alike
@@ -169,7 +169,7 @@ module _ {w h : ℕ} {s : Settings} (tiled : Tiled w h s) (pic pic′ : List ℕ
         (misses c d left right top bottom)
 
     -- and are alike for every pixel beyond it
-    pub rect-stays : Beyond w h s r x y → Alike w h s pic pic′ x y
+    pub rect-stays : Beyond w h s r x y → AgreeAt w h s pic pic′ x y
     rect-stays (aside past) =
         record {
           grey = differ x y inx iny (λ lies. past-own (tiled-columns tiled) past (lies .left) (lies .right));

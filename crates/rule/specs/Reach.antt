@@ -21,7 +21,7 @@ pub record LiesIn (x y : ℕ) (r : Rect) : Type 0 where
   pub bottom : y < r .top + r .height
 
 -- "a pixel that has one grey in both", the one in column x and row y
-abbrev pub SameAt : ℕ → List ℕ → List ℕ → ℕ → ℕ → Type 0
+abbrev pub SameAt : (w : ℕ) (pic pic′ : List ℕ) (x y : ℕ) → Type 0
 SameAt w pic pic′ x y = getD pic (y * w + x) 0 ≡ getD pic′ (y * w + x) 0
 
 -- "the films agree on all pixels" of a rectangle
@@ -36,7 +36,7 @@ pub record Weighed : Type 0 where
   pub tile : ℕ
 
 -- the four corners of a pixel's two places: upper left, upper right, lower left, lower right
-unfoldable pub cornerTiles : ℕ → ℕ → Settings → ℕ → ℕ → List Weighed
+unfoldable pub cornerTiles : (w h : ℕ) (s : Settings) (x y : ℕ) → List Weighed
 cornerTiles w h s x y =
     let column = columnPlace w s x in
     let row = rowPlace h s y in
@@ -52,23 +52,23 @@ inUse [] = []
 inUse (t ∷ ts) = cond (ltb 0 (t .weight)) (t ∷ inUse ts) (inUse ts)
 
 -- "the tiles that this pixel's rule uses, at most four"
-unfoldable pub usedTiles : ℕ → ℕ → Settings → ℕ → ℕ → List Weighed
+unfoldable pub usedTiles : (w h : ℕ) (s : Settings) (x y : ℕ) → List Weighed
 usedTiles w h s x y = inUse (cornerTiles w h s x y)
 
 -- "the films agree on all pixels of the tiles" in a list
-abbrev pub AgreeTiles : ℕ → ℕ → Settings → List ℕ → List ℕ → List Weighed → Type 0
+abbrev pub AgreeTiles : (w h : ℕ) (s : Settings) (pic pic′ : List ℕ) (ts : List Weighed) → Type 0
 AgreeTiles w h s pic pic′ [] = Unit {0}
 AgreeTiles w h s pic pic′ (t ∷ ts) = AgreeOn w pic pic′ (tileOf w h s (t .tile)) × AgreeTiles w h s pic pic′ ts
 
 -- "a pixel that has one grey in both. If the films agree on all pixels of the tiles that this pixel's rule uses"
-pub record Alike (w h : ℕ) (s : Settings) (pic pic′ : List ℕ) (x y : ℕ) : Type 0 where
+pub record AgreeAt (w h : ℕ) (s : Settings) (pic pic′ : List ℕ) (x y : ℕ) : Type 0 where
   pub grey : SameAt w pic pic′ x y
   pub tiles : AgreeTiles w h s pic pic′ (usedTiles w h s x y)
 
 -- ---- a scratch
 
 -- the films differ in a rectangle alone, where the scratch lies: they agree on all other pixels
-abbrev pub DifferIn : ℕ → ℕ → List ℕ → List ℕ → Rect → Type 0
+abbrev pub DifferIn : (w h : ℕ) (pic pic′ : List ℕ) (r : Rect) → Type 0
 DifferIn w h pic pic′ r = (x y : ℕ) → x < w → y < h → (LiesIn x y r → ⊥) → SameAt w pic pic′ x y
 
 -- a column (or row) x beyond a scratch that begins at `from` and ends before `upto`: on or before the centre of a tile that has ended where the scratch begins,

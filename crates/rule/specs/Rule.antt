@@ -31,9 +31,9 @@ greyFrom w pic s tile column row v =
     greyOf column row (value (row .lower) (column .lower)) (value (row .lower) (column .upper)) (value (row .upper) (column .lower)) (value (row .upper) (column .upper))
 
 -- the grey of the pixel in column x and row y by "the integer rule of document 01 .. for that film's own pixels and settings", with the tiles and places of order 6
-unfoldable pub ruleGrey : ℕ → ℕ → List ℕ → Settings → ℕ → ℕ → ℕ
+unfoldable pub ruleGrey : (w h : ℕ) (pic : List ℕ) (s : Settings) (x y : ℕ) → ℕ
 ruleGrey w h pic s x y = greyFrom w pic s (tileOf w h s) (columnPlace w s x) (rowPlace h s y) (getD pic (y * w + x) 0)
 
 -- the grey that is shown of it: "exactly 1.0 returns the film unchanged", else the rule's
-unfoldable pub shownGrey : ℕ → ℕ → List ℕ → Settings → ℕ → ℕ → ℕ
+unfoldable pub shownGrey : (w h : ℕ) (pic : List ℕ) (s : Settings) (x y : ℕ) → ℕ
 shownGrey w h pic s x y = cond (clipOne (s .clip)) (getD pic (y * w + x) 0) (ruleGrey w h pic s x y)

@@ -5,10 +5,10 @@ use mathlib.Core.Bool.{Bool, true, false}
 use mathlib.Core.Path.{_≡_, refl}
 use lib.ListN.{length}
 use native.Mathlib.Omega.{arith}
-use Rattle.samples.specs.Samples.{sizeOf, bytesOf, UnpackAsks}
+use Rattle.samples.specs.Samples.{sampleBytes, bytesOf, UnpackAsks}
 
 -- a sample laid down has as many bytes as a sample takes
-pub length-bytes : (two : Bool) (v : ℕ) → length (bytesOf two v) ≡ sizeOf two
+pub length-bytes : (two : Bool) (v : ℕ) → length (bytesOf two v) ≡ sampleBytes two
 length-bytes false v = refl
 length-bytes true v = refl
 

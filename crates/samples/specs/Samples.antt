@@ -13,9 +13,9 @@ unfoldable pub isWide : ℕ → Bool
 isWide maxval = leb 256 maxval
 
 -- the bytes of a sample
-abbrev pub sizeOf : Bool → ℕ
-sizeOf false = 1
-sizeOf true = 2
+abbrev pub sampleBytes : Bool → ℕ
+sampleBytes false = 1
+sampleBytes true = 2
 
 -- a sample laid down: "high byte first"
 abbrev pub bytesOf : Bool → ℕ → List ℕ
@@ -41,10 +41,10 @@ noneAbove maxval vs = all (λ v. leb v maxval) vs
 
 -- what turning `count` samples into greys asks: a raster of exactly that many, neither too short (24) nor with bytes behind it (25), and room in the target (27)
 pub record UnpackAsks (two : Bool) (count bytes target : ℕ) : Type 0 where
-  pub exact : count * sizeOf two ≡ bytes
+  pub exact : count * sampleBytes two ≡ bytes
   pub room : count ≤ target
 
 -- what laying greys down asks: none above maxval (26), and room for all of them (27)
 pub record PackAsks (maxval : ℕ) (greys : List ℕ) (out : ℕ) : Type 0 where
   pub bounded : noneAbove maxval greys ≡ true
-  pub room : length greys * sizeOf (isWide maxval) ≤ out
+  pub room : length greys * sampleBytes (isWide maxval) ≤ out

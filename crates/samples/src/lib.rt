@@ -4,7 +4,7 @@ ghost use mathlib.Core.Path.{_≡_};
 ghost use Prim.Native.Nat.{_+_, _*_, _≤_};
 ghost use lib.ListN.{length, getD};
 ghost use Rattle.lists.specs.Lists.{onto};
-ghost use Rattle.samples.specs.Samples.{isWide, sizeOf, sampleAt, packed, unpacked, noneAbove, UnpackAsks, PackAsks};
+ghost use Rattle.samples.specs.Samples.{isWide, sampleBytes, sampleAt, packed, unpacked, noneAbove, UnpackAsks, PackAsks};
 
 // Whether a sample takes two bytes: one if maxval is below 256, else two.
 pub fn is_wide(maxval: u32) -> bool
@@ -70,7 +70,7 @@ pub fn unpack(bytes: &[u8], wide: bool, count: usize, target: &mut [u16])
 
 // Whether none of a raster's samples of one byte is above maxval: the greatest of them is not. No sample is asked by itself, and none at all where no byte can be above.
 fn bytes_none_above(bytes: &[u8], count: usize, maxval: u32) -> bool
-    requires { ⌜ count * sizeOf false ≡ length (now bytes) ⌝ }
+    requires { ⌜ count * sampleBytes false ≡ length (now bytes) ⌝ }
     ensures { λ r. ⌜ r ≡ noneAbove maxval (unpacked false (now (bytes .entry)) count) ⌝ }
 {
     if 255 <= maxval {
@@ -87,7 +87,7 @@ fn bytes_none_above(bytes: &[u8], count: usize, maxval: u32) -> bool
 
 // The same for samples of two bytes.
 fn pairs_none_above(bytes: &[u8], count: usize, maxval: u32) -> bool
-    requires { ⌜ count * sizeOf true ≡ length (now bytes) ⌝ }
+    requires { ⌜ count * sampleBytes true ≡ length (now bytes) ⌝ }
     ensures { λ r. ⌜ r ≡ noneAbove maxval (unpacked true (now (bytes .entry)) count) ⌝ }
 {
     let mut high: u16 = 0;
@@ -101,7 +101,7 @@ fn pairs_none_above(bytes: &[u8], count: usize, maxval: u32) -> bool
 
 // Whether none of the raster's samples is above maxval.
 pub fn none_above(bytes: &[u8], wide: bool, count: usize, maxval: u32) -> bool
-    requires { ⌜ count * sizeOf wide ≡ length (now bytes) ⌝ }
+    requires { ⌜ count * sampleBytes wide ≡ length (now bytes) ⌝ }
     ensures { λ r. ⌜ r ≡ noneAbove maxval (unpacked wide (now (bytes .entry)) count) ⌝ }
 {
     if !wide {
@@ -131,7 +131,7 @@ fn pack_bytes(greys: &[u16], out: &mut [u8])
 
 // The same with two bytes each, high byte first.
 fn pack_pairs(greys: &[u16], out: &mut [u8])
-    requires { ⌜ length (now greys) * sizeOf true ≤ length (now out) ⌝ }
+    requires { ⌜ length (now greys) * sampleBytes true ≤ length (now out) ⌝ }
     ensures { λ _. ⌜ now (out .exit) ≡ onto (now (out .entry)) (packed true (now (greys .entry))) ⌝ }
 {
     let mut k = 0;

@@ -15,7 +15,7 @@ use native.Mathlib.Numerals.{add-one}
 use Rattle.lists.proofs.Tabs.{length-tab, tab-suc, tab-cong, tab-all, getD-tab}
 use Rattle.sets.specs.declared.Set.{Set}
 use Rattle.sets.specs.declared.Room.{Room}
-use Rattle.sets.specs.Sets.{noSet, sizeOf, held, spanOf, among, twice, before, withSet, withoutSet, movedFrom}
+use Rattle.sets.specs.Sets.{noSet, setSize, held, spanOf, among, twice, before, withSet, withoutSet, movedFrom}
 use Rattle.sets.proofs.Laid.{less, spans}
 
 -- ---- two truths
@@ -211,14 +211,14 @@ unfolding before
 before-cons n r rs = refl
 
 -- one set less
-pub span-less : (rs : List Set) (i : ℕ) → i < length rs → spanOf (less i rs) + sizeOf (getD rs i noSet) ≡ spanOf rs
+pub span-less : (rs : List Set) (i : ℕ) → i < length rs → spanOf (less i rs) + setSize (getD rs i noSet) ≡ spanOf rs
 unfolding spanOf less
 span-less [] i l = absurd (not-suc-le-zero l)
 span-less (r ∷ rs) zero l = omega arith
 span-less (r ∷ rs) (suc i) l = let q = span-less rs i (le-of-suc-le-suc l) in omega (arith, q)
 
 -- the entries of the sets of some films, each of the film's own size
-pub span-map : {A : Type 0} (size : A → ℕ) (Good : A → List ℕ → Type 0) (g : A → Set) → ((x : A) → sizeOf (g x) ≡ size x) → (xs : List A) → spanOf (map g xs) ≡ spans size Good xs
+pub span-map : {A : Type 0} (size : A → ℕ) (Good : A → List ℕ → Type 0) (g : A → Set) → ((x : A) → setSize (g x) ≡ size x) → (xs : List A) → spanOf (map g xs) ≡ spans size Good xs
 unfolding spanOf spans
 span-map size Good g same [] = refl
 span-map size Good g same (x ∷ xs) = ap₂ (λ a b. a + b) (same x) (span-map size Good g same xs)

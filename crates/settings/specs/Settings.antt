@@ -126,7 +126,7 @@ unfoldable pub settingRows : ℕ → ℕ → ℕ → Settings → List Row
 settingRows w h size s = sizeRows w h size ++ (gridRows w h s ++ greyRows s)
 
 -- the rows 1 to 9, 31, 10 and 11
-unfoldable pub sharedRows : ℕ → ℕ → ℕ → Settings → ℕ → List Row
+unfoldable pub sharedRows : (w h size : ℕ) (s : Settings) (room : ℕ) → List Row
 sharedRows w h size s room = settingRows w h size s ++ roomRows s room
 
 -- what a call knows of a film's tiles once none of the rows of sides, grid and range applies

@@ -15,7 +15,7 @@ use Rattle.tally.proofs.Counts.{added-none, getD-added, length-added}
 use Rattle.lists.proofs.Steps.{drop-filled}
 use Rattle.lists.proofs.Tallies.{times-le}
 use Rattle.tally.proofs.Greys.{rowOf, greys-rows, greys-all, length-greys}
-use Rattle.slide.specs.Slide.{firstOf, endOf, strip, regionRect, lostOf, gainedOf, takenOf, RectAsks, RegionAsks, StripAsks, SlideAsks, GainAsks, Slid}
+use Rattle.slide.specs.Slide.{firstOf, endOf, strip, regionRect, lostOf, gainedOf, takenOf, TakeRectAsks, RegionAsks, StripAsks, SlideAsks, GainAsks, Slid}
 use Rattle.slide.proofs.Taken.{taken-none, length-taken, getD-taken}
 use Rattle.slide.proofs.Moves.{strip-parts}
 
@@ -112,7 +112,7 @@ module _ {pic : List ℕ} {w h side x y lo hi b factor : ℕ} {cs : List ℕ} (a
     lost-is = is ∙ ap₂ (λ m n. strip h side y m n) p q
 
     -- the column lies inside the film, and the counts hold it
-    pub lost-asks : (a ≡ e → ⊥) → RectAsks pic w r lo hi b factor cs
+    pub lost-asks : (a ≡ e → ⊥) → TakeRectAsks pic w r lo hi b factor cs
     unfolding regionRect
     lost-asks other = rw lost-is record { inside = inside; asks = record { by = asks .by; most = asks .scale .most; some = omega (arith, asks .scale .some); room = asks .room; greys = greys-all (within lo hi) pic w (lostOf h side x y) (inside .across) (inside .down) (asks .greys); holds = λ k l. omega (arith, asks .front k l, strip-parts (binOf lo hi b) pic w k h side y (firstOf side x) (firstOf side (x + 1)) (endOf side w x) (first-steps side x .0) (next-end side w x (asks .region .across))) } }
       where

@@ -3,7 +3,7 @@ ghost use mathlib.Core.Path.{_≡_};
 ghost use mathlib.Core.List.{[], _∷_};
 ghost use Prim.Native.Nat.{_≤_, _<_};
 ghost use Rattle.tally.specs.Tally.{greysOf, addedOf, AddAsks};
-ghost use Rattle.slide.specs.Slide.{firstOf, endOf, strip, regionRect, lostOf, gainedOf, takenOf, TakeAsks, RectAsks, RegionAsks, StripAsks, SlideAsks, GainAsks, Slid};
+ghost use Rattle.slide.specs.Slide.{firstOf, endOf, strip, regionRect, lostOf, gainedOf, takenOf, TakeAsks, TakeRectAsks, RegionAsks, StripAsks, SlideAsks, GainAsks, Slid};
 use tally::Rect;
 
 // The first column (or row) of the region around x.
@@ -61,7 +61,7 @@ fn take_rect(
     factor: u32,
     counts: &mut [u32],
 )
-    requires { ⌜ RectAsks (now picture) stride rect min max bins factor (now counts) ⌝ }
+    requires { ⌜ TakeRectAsks (now picture) stride rect min max bins factor (now counts) ⌝ }
     ensures { λ _. ⌜ now (counts .exit) ≡ takenOf min max bins (now (counts .entry)) (greysOf (now (picture .entry)) stride rect) ⌝ }
 {
     let mut y = 0;

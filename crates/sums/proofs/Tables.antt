@@ -13,13 +13,13 @@ use Rattle.blend.specs.declared.Place.{Place}
 use Rattle.blend.specs.Blend.{pairOf, Sound}
 use Rattle.blend.proofs.Laws.{pair-most}
 use Rattle.sums.proofs.Patches.{patch-next, patch-end, patch-same}
-use Rattle.sums.specs.Sums.{patchOf, sideAt, startOf, stepOf, entryOf, Tiles, Scaled}
+use Rattle.sums.specs.Sums.{patchOf, sideAt, startSum, stepOf, entryOf, Tiles, Scaled}
 
 -- ---- entries
 
 module _ (by : ℕ) (column row : Place) (a b c d : List ℕ) (k v : ℕ) where
   -- entry 2k is the start of bin k
-  pub entry-start : entryOf by column row a b c d (2 * k) v ≡ startOf by column (sideAt row a c k)
+  pub entry-start : entryOf by column row a b c d (2 * k) v ≡ startSum by column (sideAt row a c k)
   unfolding entryOf
   entry-start =
       let e : 2 * k % 2 ≡ 0 = omega arith in
@@ -88,7 +88,7 @@ module _ {by : ℕ} {column row : Place} (sc : Scaled by column row) where
     pair-under e = omega (arith, e, pair-scaled by row x y, mul-le-mul-left by pair-fits, mul-comm (row .span * 4095) by)
 
     -- and the sum at the centre
-    pub start-is : {v : ℕ} → v ≡ row .lowerweight * by * x + row .upperweight * by * y → column .span * v ≡ startOf by column (pairOf row x y)
+    pub start-is : {v : ℕ} → v ≡ row .lowerweight * by * x + row .upperweight * by * y → column .span * v ≡ startSum by column (pairOf row x y)
     start-is e = ap (λ t. column .span * t) (e ∙ pair-scaled by row x y) ∙ mul-left-comm (column .span) by (pairOf row x y)
 
     pub start-room : {v : ℕ} → v ≡ row .lowerweight * by * x + row .upperweight * by * y → column .span * v < 4611686018427387904

@@ -17,7 +17,7 @@ use Rattle.blend.specs.declared.Place.{Place}
 use Rattle.blend.specs.Blend.{sidesOf, moved}
 use Rattle.blend.proofs.Laws.{mean-most, sides-grey}
 use Rattle.sums.proofs.Patches.{patch-read, patch-next, patch-end, patch-none, patch-fills}
-use Rattle.sums.specs.Sums.{patchOf, blendedAt, blendedRun, sideAt, startOf, stepOf, entryOf, sumAt, movedAt, movedBy, movedRun, Scaled, Moves, MoveAsks, RunAsks, Within}
+use Rattle.sums.specs.Sums.{patchOf, blendedAt, blendedRun, sideAt, startSum, stepOf, entryOf, sumAt, movedAt, movedBy, movedRun, Scaled, Moves, MoveAsks, RunAsks, Within}
 use Rattle.sums.proofs.Tables.{entry-start, entry-step, pair-fits, sum-moved}
 
 -- ---- patches
@@ -170,7 +170,7 @@ module _ {column row : Place} {a b c d : List ℕ} {n : ℕ} {ks : List ℕ} (as
     abbrev m : ℕ
     m = row .span * 4095
 
-    start : getD t (2 * k) 0 ≡ startOf by column l
+    start : getD t (2 * k) 0 ≡ startSum by column l
     start = ap (λ s. getD s (2 * k) 0) e ∙ patch-at (entryOf by column row a b c d) u (omega arith) (omega arith) ∙ entry-start by column row a b c d k (getD u (2 * k) 0)
 
     step : getD t (2 * k + 1) 0 ≡ stepOf by row l r

@@ -22,11 +22,11 @@ patchOf f d at end = filled (λ i. cond (ltb i at) (getD d i 0) (f i (getD d i 0
 -- ---- a run from its four tiles
 
 -- the grey of pixel i of a run, of bin k
-abbrev pub blendedAt : Place → Place → List ℕ → List ℕ → List ℕ → List ℕ → ℕ → ℕ → ℕ
+abbrev pub blendedAt : (column row : Place) (a b c d : List ℕ) (i k : ℕ) → ℕ
 blendedAt column row a b c d i k = greyOf (moved column i) row (getD a k 0) (getD b k 0) (getD c k 0) (getD d k 0)
 
 -- the run
-unfoldable pub blendedRun : Place → Place → List ℕ → List ℕ → List ℕ → List ℕ → List ℕ → List ℕ
+unfoldable pub blendedRun : (column row : Place) (a b c d ks : List ℕ) → List ℕ
 blendedRun column row a b c d ks = tab (length ks) (λ i. blendedAt column row a b c d i (getD ks i 0))
 
 -- ---- the tables
@@ -36,32 +36,32 @@ abbrev pub sideAt : Place → List ℕ → List ℕ → ℕ → ℕ
 sideAt row above below k = pairOf row (getD above k 0) (getD below k 0)
 
 -- the weighted sum at the centre of the left tiles, whose pair is l, times `by`
-abbrev pub startOf : ℕ → Place → ℕ → ℕ
-startOf by column l = by * (column .span * l)
+abbrev pub startSum : ℕ → Place → ℕ → ℕ
+startSum by column l = by * (column .span * l)
 
 -- the mapped difference by which it moves, times `by`: the right pair less the left one, kept above 0 by the largest pair that there is
-abbrev pub stepOf : ℕ → Place → ℕ → ℕ → ℕ
+abbrev pub stepOf : (by : ℕ) (row : Place) (l r : ℕ) → ℕ
 stepOf by row l r = by * (r + row .span * 4095 - l)
 
 -- entry n of the table, whatever it held: at 2k the start of bin k, at 2k + 1 its step
-unfoldable pub entryOf : ℕ → Place → Place → List ℕ → List ℕ → List ℕ → List ℕ → ℕ → ℕ → ℕ
+unfoldable pub entryOf : (by : ℕ) (column row : Place) (a b c d : List ℕ) (n v : ℕ) → ℕ
 entryOf by column row a b c d n v =
-    cond (eqb (n % 2) 0) (startOf by column (sideAt row a c (n / 2))) (stepOf by row (sideAt row a c (n / 2)) (sideAt row b d (n / 2)))
+    cond (eqb (n % 2) 0) (startSum by column (sideAt row a c (n / 2))) (stepOf by row (sideAt row a c (n / 2)) (sideAt row b d (n / 2)))
 
 -- the weighted sum of a pixel of bin k, x columns from the centre, times `by`, from table t: the start, moved x times, and what kept the step above 0 taken off
-abbrev pub sumAt : List ℕ → ℕ → ℕ → ℕ → ℕ
+abbrev pub sumAt : (t : List ℕ) (most x k : ℕ) → ℕ
 sumAt t most x k = getD t (2 * k) 0 + x * getD t (2 * k + 1) 0 - x * most
 
 -- its grey: q is what the sum is divided by
-unfoldable pub movedAt : ℕ → List ℕ → ℕ → ℕ → ℕ → ℕ
+unfoldable pub movedAt : (q : ℕ) (t : List ℕ) (most x k : ℕ) → ℕ
 movedAt q t most x k = sumAt t most x k / q
 
 -- the grey of pixel i of a run, of bin k, whose first pixel is `from` columns from the centre
-abbrev pub movedBy : ℕ → List ℕ → ℕ → ℕ → ℕ → ℕ → ℕ
+abbrev pub movedBy : (q : ℕ) (t : List ℕ) (from most i k : ℕ) → ℕ
 movedBy q t from most i k = movedAt q t most (from + i) k
 
 -- the run
-unfoldable pub movedRun : ℕ → List ℕ → ℕ → ℕ → List ℕ → List ℕ
+unfoldable pub movedRun : (q : ℕ) (t : List ℕ) (from most : ℕ) (ks : List ℕ) → List ℕ
 movedRun q t from most ks = tab (length ks) (λ i. movedBy q t from most i (getD ks i 0))
 
 -- ---- pixel by pixel

@@ -16,7 +16,7 @@ use Rattle.lists.proofs.Alls.{all-one, all-at, all-take, all-drop}
 use Rattle.tally.specs.declared.Rect.{Rect}
 use Rattle.scan.specs.Scan.{within}
 use Rattle.binning.specs.Binning.{binOf, factorOf}
-use Rattle.tally.specs.Tally.{greysOf, countsOf, addedOf, fourAt, RowAsks, FourAsks, FourAdded, CountAsks, RowsAsks, AddUpAsks}
+use Rattle.tally.specs.Tally.{greysOf, countsOf, addedOf, fourAt, CountRowAsks, FourAsks, FourAdded, CountRectAsks, CountRowsAsks, AddUpAsks}
 use Rattle.tally.proofs.Counts.{getD-added, length-added}
 use Rattle.tally.proofs.Greys.{rowOf, rows-whole, rows-room, length-greys, inside-part, row-all}
 
@@ -74,7 +74,7 @@ module _ {row : List ℕ} {lo hi n factor : ℕ} {a₀ b₀ c₀ d₀ : List ℕ
     (so : FourAdded (take x row) lo hi n a₀ b₀ c₀ d₀ a b c d) where
   -- what greys behind the first x ask of one of the counts
   more-asks : (vs z : List ℕ) → all (within lo hi) vs ≡ true → x + length vs ≤ length row → n ≤ length z → ((k : ℕ) → getD z k 0 ≤ fourAt a b c d k)
-      → RowAsks vs lo hi n factor z
+      → CountRowAsks vs lo hi n factor z
   more-asks vs z g l h le =
       record {
         by = asks .by;
@@ -95,19 +95,19 @@ module _ {row : List ℕ} {lo hi n factor : ℕ} {a₀ b₀ c₀ d₀ : List ℕ
 
   module _ (l : x + 3 < length row) where
     -- what one of the next four asks of its count
-    next-of : (z : List ℕ) (i : ℕ) → x ≤ i → i ≤ x + 3 → n ≤ length z → ((k : ℕ) → getD z k 0 ≤ fourAt a b c d k) → RowAsks (getD row i 0 ∷ []) lo hi n factor z
+    next-of : (z : List ℕ) (i : ℕ) → x ≤ i → i ≤ x + 3 → n ≤ length z → ((k : ℕ) → getD z k 0 ≤ fourAt a b c d k) → CountRowAsks (getD row i 0 ∷ []) lo hi n factor z
     next-of z i p q h le = more-asks (getD row i 0 ∷ []) z (all-one (within lo hi) (all-at (within lo hi) row (asks .greys) i 0 (omega arith))) (omega arith) h le
 
-    pub first-asks : RowAsks (getD row x 0 ∷ []) lo hi n factor a
+    pub first-asks : CountRowAsks (getD row x 0 ∷ []) lo hi n factor a
     first-asks = next-of a x (omega arith) (omega arith) (omega (arith, so .lengtha, asks .rooma)) (λ k. omega arith)
 
-    pub second-asks : RowAsks (getD row (x + 1) 0 ∷ []) lo hi n factor b
+    pub second-asks : CountRowAsks (getD row (x + 1) 0 ∷ []) lo hi n factor b
     second-asks = next-of b (x + 1) (omega arith) (omega arith) (omega (arith, so .lengthb, asks .roomb)) (λ k. omega arith)
 
-    pub third-asks : RowAsks (getD row (x + 2) 0 ∷ []) lo hi n factor c
+    pub third-asks : CountRowAsks (getD row (x + 2) 0 ∷ []) lo hi n factor c
     third-asks = next-of c (x + 2) (omega arith) (omega arith) (omega (arith, so .lengthc, asks .roomc)) (λ k. omega arith)
 
-    pub fourth-asks : RowAsks (getD row (x + 3) 0 ∷ []) lo hi n factor d
+    pub fourth-asks : CountRowAsks (getD row (x + 3) 0 ∷ []) lo hi n factor d
     fourth-asks = next-of d (x + 3) (omega arith) (omega arith) (omega (arith, so .lengthd, asks .roomd)) (λ k. omega arith)
 
     -- four greys more
@@ -137,7 +137,7 @@ module _ {row : List ℕ} {lo hi n factor : ℕ} {a₀ b₀ c₀ d₀ : List ℕ
 
   module _ (l : x ≤ length row) where
     -- what the rest of the row asks of the first count
-    pub rest-asks : RowAsks (take (length row - x) (drop x row)) lo hi n factor a
+    pub rest-asks : CountRowAsks (take (length row - x) (drop x row)) lo hi n factor a
     rest-asks =
         more-asks
         (take (length row - x) (drop x row))
@@ -156,7 +156,7 @@ module _ {row : List ℕ} {lo hi n factor : ℕ} {a₀ b₀ c₀ d₀ : List ℕ
 
 -- ---- row by row
 
-module _ {pic : List ℕ} {stride : ℕ} {r : Rect} {lo hi n factor : ℕ} {a₀ b₀ c₀ d₀ : List ℕ} (asks : RowsAsks pic stride r lo hi n factor a₀ b₀ c₀ d₀) where
+module _ {pic : List ℕ} {stride : ℕ} {r : Rect} {lo hi n factor : ℕ} {a₀ b₀ c₀ d₀ : List ℕ} (asks : CountRowsAsks pic stride r lo hi n factor a₀ b₀ c₀ d₀) where
   pub rows-none : FourAdded (joined 0 (rowOf pic stride r)) lo hi n a₀ b₀ c₀ d₀ a₀ b₀ c₀ d₀
   unfolding joined
   rows-none = four-none lo hi n a₀ b₀ c₀ d₀
@@ -199,12 +199,12 @@ module _ {pic : List ℕ} {stride : ℕ} {r : Rect} {lo hi n factor : ℕ} {a₀
 four-clear : {n m k : ℕ} → k < n → n ≤ m → fourAt (replicate m 0) (replicate m 0) (replicate m 0) (replicate m 0) k ≡ 0
 four-clear {m = m} {k = k} l few = omega (arith, getD-replicate {A = ℕ} m k 0 0 (omega arith))
 
-module _ {pic : List ℕ} {stride : ℕ} {r : Rect} {lo hi n factor m : ℕ} {room : ℕ} (asks : CountAsks pic stride r lo hi n room) (by : factor ≡ factorOf lo hi n) (few : n ≤ m) where
+module _ {pic : List ℕ} {stride : ℕ} {r : Rect} {lo hi n factor m : ℕ} {room : ℕ} (asks : CountRectAsks pic stride r lo hi n room) (by : factor ≡ factorOf lo hi n) (few : n ≤ m) where
   enough : n ≤ length (replicate {A = ℕ} m 0)
   enough = rw (length-replicate {A = ℕ} m 0) few
 
   -- what the rows ask
-  pub ways-asks : RowsAsks pic stride r lo hi n factor (replicate m 0) (replicate m 0) (replicate m 0) (replicate m 0)
+  pub ways-asks : CountRowsAsks pic stride r lo hi n factor (replicate m 0) (replicate m 0) (replicate m 0) (replicate m 0)
   ways-asks =
       record {
         asks = record { inside = asks .inside; scale = asks .scale; enough = enough; greys = asks .greys };

@@ -13,12 +13,12 @@ use Rattle.scan.specs.Scan.{within}
 use Rattle.scan.proofs.Spans.{within-low, within-high}
 use Rattle.binning.specs.Binning.{binOf, binBy}
 use Rattle.binning.proofs.Bins.{bin-below, bin-by}
-use Rattle.tally.specs.Tally.{addedOf, RowAsks}
+use Rattle.tally.specs.Tally.{addedOf, CountRowAsks}
 use Rattle.tally.proofs.Counts.{added-none, added-one, added-added, added-le, length-added}
 
 -- ---- one grey
 
-module _ {v lo hi b factor : ℕ} {cs : List ℕ} (asks : RowAsks (v ∷ []) lo hi b factor cs) where
+module _ {v lo hi b factor : ℕ} {cs : List ℕ} (asks : CountRowAsks (v ∷ []) lo hi b factor cs) where
   one-within : within lo hi v ≡ true
   one-within = all-at (within lo hi) (v ∷ []) (asks .greys) 0 0 (omega arith)
 
@@ -47,10 +47,10 @@ module _ {v lo hi b factor : ℕ} {cs : List ℕ} (asks : RowAsks (v ∷ []) lo 
 
 -- ---- a row
 
-module _ {row : List ℕ} {lo hi b factor : ℕ} {cs₀ : List ℕ} (asks : RowAsks row lo hi b factor cs₀) {cs : List ℕ} {x v : ℕ}
+module _ {row : List ℕ} {lo hi b factor : ℕ} {cs₀ : List ℕ} (asks : CountRowAsks row lo hi b factor cs₀) {cs : List ℕ} {x v : ℕ}
     (l : x < length row) (q : v ≡ getD row x 0) (e : cs ≡ addedOf lo hi b cs₀ (take x row)) where
   -- what the next grey asks
-  pub next-asks : RowAsks (v ∷ []) lo hi b factor cs
+  pub next-asks : CountRowAsks (v ∷ []) lo hi b factor cs
   next-asks =
       record {
         by = asks .by;

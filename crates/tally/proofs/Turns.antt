@@ -11,7 +11,7 @@ use Rattle.lists.proofs.Tallies.{getD-filled}
 use Rattle.tally.specs.declared.Rect.{Rect}
 use Rattle.scan.specs.Scan.{within}
 use Rattle.binning.specs.Binning.{factorOf}
-use Rattle.tally.specs.Tally.{greysOf, countsOf, addedOf, RowAsks, CountAsks, AddAsks}
+use Rattle.tally.specs.Tally.{greysOf, countsOf, addedOf, CountRowAsks, CountRectAsks, AddAsks}
 use Rattle.tally.proofs.Counts.{added-none, added-added, added-clear, added-le, length-added}
 use Rattle.tally.proofs.Greys.{rowOf, rows-whole, rows-room, inside-part, row-all}
 
@@ -37,7 +37,7 @@ rows-end lo hi b pic stride r cs₀ y e h l = e ∙ ap (addedOf lo hi b cs₀) (
 -- what a row's counting asks
 pub row-asks : {pic : List ℕ} {stride : ℕ} {r : Rect} {lo hi b factor : ℕ} {cs₀ cs : List ℕ} → AddAsks pic stride r lo hi b factor cs₀ → (y : ℕ)
     → cs ≡ addedOf lo hi b cs₀ (joined y (rowOf pic stride r)) → y < r .height
-    → RowAsks (take ((r .top + y) * stride + r .left + r .width - ((r .top + y) * stride + r .left)) (drop ((r .top + y) * stride + r .left) pic)) lo hi b factor cs
+    → CountRowAsks (take ((r .top + y) * stride + r .left + r .width - ((r .top + y) * stride + r .left)) (drop ((r .top + y) * stride + r .left) pic)) lo hi b factor cs
 row-asks {pic} {stride} {r} {lo} {hi} {b} {factor} {cs₀} {cs} adds y e h =
     rw (inside-part pic stride r (adds .asks .inside) y h)
     record {
@@ -58,7 +58,7 @@ row-asks {pic} {stride} {r} {lo} {hi} {b} {factor} {cs₀} {cs} adds y e h =
 -- ---- the whole rectangle, from cleared counts
 
 -- what adding its greys to them asks
-pub clear-asks : {pic : List ℕ} {stride : ℕ} {r : Rect} {lo hi b factor : ℕ} {cs : List ℕ} (d : List ℕ) → CountAsks pic stride r lo hi b (length d) → factor ≡ factorOf lo hi b
+pub clear-asks : {pic : List ℕ} {stride : ℕ} {r : Rect} {lo hi b factor : ℕ} {cs : List ℕ} (d : List ℕ) → CountRectAsks pic stride r lo hi b (length d) → factor ≡ factorOf lo hi b
     → cs ≡ filled (λ k. 0) d b → AddAsks pic stride r lo hi b factor cs
 clear-asks {pic} {stride} {r} {lo} {hi} {b} {factor} {cs} d asks by z =
     record {

@@ -16,11 +16,11 @@ unfoldable pub greysOf : List ℕ → ℕ → Rect → List ℕ
 greysOf pic stride r = joined (r .height) (λ y. tab (r .width) (λ x. getD pic ((r .top + y) * stride + (r .left + x)) 0))
 
 -- the count of bin k is how many of the greys are in bin k
-unfoldable pub countsOf : ℕ → ℕ → ℕ → List ℕ → List ℕ
+unfoldable pub countsOf : (lo hi b : ℕ) (vs : List ℕ) → List ℕ
 countsOf lo hi b vs = tab b (λ k. times k (map (binOf lo hi b) vs))
 
 -- counts to which more greys are added: the count of bin k grows by how many of them are in bin k
-unfoldable pub addedOf : ℕ → ℕ → ℕ → List ℕ → List ℕ → List ℕ
+unfoldable pub addedOf : (lo hi b : ℕ) (cs vs : List ℕ) → List ℕ
 addedOf lo hi b cs vs = filled (λ k. getD cs k 0 + times k (map (binOf lo hi b) vs)) cs b
 
 -- ---- what the functions ask
@@ -41,7 +41,7 @@ pub record Inside (size stride : ℕ) (r : Rect) : Type 0 where
   pub few : r .width * r .height ≤ 4194304
 
 -- what `count_row` asks: the factor of the range and the bins, room for the bins, greys from Min to Max, and counts to which a row can be added
-pub record RowAsks (row : List ℕ) (lo hi b factor : ℕ) (counts : List ℕ) : Type 0 where
+pub record CountRowAsks (row : List ℕ) (lo hi b factor : ℕ) (counts : List ℕ) : Type 0 where
   pub by : factor ≡ factorOf lo hi b
   pub most : hi ≤ 4095
   pub some : 0 < b
@@ -50,7 +50,7 @@ pub record RowAsks (row : List ℕ) (lo hi b factor : ℕ) (counts : List ℕ) :
   pub fits : (k : ℕ) → k < b → getD counts k 0 + length row < 4294967296
 
 -- what stands at k in four counts together
-abbrev pub fourAt : List ℕ → List ℕ → List ℕ → List ℕ → ℕ → ℕ
+abbrev pub fourAt : (a b c d : List ℕ) (k : ℕ) → ℕ
 fourAt a b c d k = getD a k 0 + getD b k 0 + getD c k 0 + getD d k 0
 
 -- what `count_quarters` asks: as `count_row`, of four counts together
@@ -74,7 +74,7 @@ pub record FourAdded (vs : List ℕ) (lo hi n : ℕ) (a₀ b₀ c₀ d₀ a b c 
   pub sum : (k : ℕ) → k < n → fourAt a b c d k ≡ fourAt a₀ b₀ c₀ d₀ k + times k (map (binOf lo hi n) vs)
 
 -- what `count` asks: a rectangle inside the picture, "All pixels lie in it", and room for the bins
-pub record CountAsks (pic : List ℕ) (stride : ℕ) (r : Rect) (lo hi b room : ℕ) : Type 0 where
+pub record CountRectAsks (pic : List ℕ) (stride : ℕ) (r : Rect) (lo hi b room : ℕ) : Type 0 where
   pub inside : Inside (length pic) stride r
   pub scale : Scale lo hi b
   pub enough : b ≤ room
@@ -82,13 +82,13 @@ pub record CountAsks (pic : List ℕ) (stride : ℕ) (r : Rect) (lo hi b room : 
 
 -- what adding the greys of a rectangle to counts asks: what `count` asks, the factor of the range and the bins, and counts to which they can be added
 pub record AddAsks (pic : List ℕ) (stride : ℕ) (r : Rect) (lo hi b factor : ℕ) (counts : List ℕ) : Type 0 where
-  pub asks : CountAsks pic stride r lo hi b (length counts)
+  pub asks : CountRectAsks pic stride r lo hi b (length counts)
   pub by : factor ≡ factorOf lo hi b
   pub fits : (k : ℕ) → k < b → getD counts k 0 + r .width * r .height < 4294967296
 
 -- the same of four counts together, as `count_rows` asks it
-pub record RowsAsks (pic : List ℕ) (stride : ℕ) (r : Rect) (lo hi n factor : ℕ) (a b c d : List ℕ) : Type 0 where
-  pub asks : CountAsks pic stride r lo hi n (length a)
+pub record CountRowsAsks (pic : List ℕ) (stride : ℕ) (r : Rect) (lo hi n factor : ℕ) (a b c d : List ℕ) : Type 0 where
+  pub asks : CountRectAsks pic stride r lo hi n (length a)
   pub by : factor ≡ factorOf lo hi n
   pub roomb : n ≤ length b
   pub roomc : n ≤ length c

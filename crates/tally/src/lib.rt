@@ -5,7 +5,7 @@ ghost use Prim.Native.Nat.{_≤_, _%_};
 ghost use lib.ListN.{length, take};
 ghost use Rattle.lists.specs.Lists.{onto, filled};
 ghost use Rattle.binning.specs.Binning.{factorOf};
-ghost use Rattle.tally.specs.Tally.{greysOf, countsOf, addedOf, fourAt, RowAsks, FourAsks, FourAdded, CountAsks, AddAsks, RowsAsks, AddUpAsks};
+ghost use Rattle.tally.specs.Tally.{greysOf, countsOf, addedOf, fourAt, CountRowAsks, FourAsks, FourAdded, CountRectAsks, AddAsks, CountRowsAsks, AddUpAsks};
 
 // A rectangle of a picture: a tile is one.
 pub struct Rect {
@@ -17,7 +17,7 @@ pub struct Rect {
 
 // Adds one grey to the counts; the factor is that of the range and the bins.
 fn count_one(grey: u32, min: u32, max: u32, bins: u32, factor: u32, counts: &mut [u32])
-    requires { ⌜ RowAsks (grey ∷ []) min max bins factor (now counts) ⌝ }
+    requires { ⌜ CountRowAsks (grey ∷ []) min max bins factor (now counts) ⌝ }
     ensures { λ _. ⌜ now (counts .exit) ≡ addedOf min max bins (now (counts .entry)) (grey ∷ []) ⌝ }
 {
     let k = binning::bin_by(grey, min, factor) as usize;
@@ -26,7 +26,7 @@ fn count_one(grey: u32, min: u32, max: u32, bins: u32, factor: u32, counts: &mut
 
 // Adds the greys of one row to the counts.
 pub fn count_row(row: &[u16], min: u32, max: u32, bins: u32, factor: u32, counts: &mut [u32])
-    requires { ⌜ RowAsks (now row) min max bins factor (now counts) ⌝ }
+    requires { ⌜ CountRowAsks (now row) min max bins factor (now counts) ⌝ }
     ensures { λ _. ⌜ now (counts .exit) ≡ addedOf min max bins (now (counts .entry)) (now (row .entry)) ⌝ }
 {
     let mut x = 0;
@@ -123,7 +123,7 @@ fn count_rows(
     c: &mut [u32],
     d: &mut [u32],
 )
-    requires { ⌜ RowsAsks (now picture) stride rect min max bins factor (now a) (now b) (now c) (now d) ⌝ }
+    requires { ⌜ CountRowsAsks (now picture) stride rect min max bins factor (now a) (now b) (now c) (now d) ⌝ }
     ensures { λ _. ⌜ FourAdded (greysOf (now (picture .entry)) stride rect) min max bins (now (a .entry)) (now (b .entry)) (now (c .entry)) (now (d .entry)) (now (a .exit)) (now (b .exit)) (now (c .exit)) (now (d .exit)) ⌝ }
 {
     let mut y = 0;
@@ -158,7 +158,7 @@ fn count_four_ways(
     factor: u32,
     counts: &mut [u32],
 )
-    requires { ⌜ CountAsks (now picture) stride rect min max bins (length (now counts)) × (factor ≡ factorOf min max bins) × (bins ≤ 256) ⌝ }
+    requires { ⌜ CountRectAsks (now picture) stride rect min max bins (length (now counts)) × (factor ≡ factorOf min max bins) × (bins ≤ 256) ⌝ }
     ensures { λ _. ⌜ now (counts .exit) ≡ onto (now (counts .entry)) (countsOf min max bins (greysOf (now (picture .entry)) stride rect)) ⌝ }
 {
     let mut a = [0u32; 272];
@@ -192,7 +192,7 @@ fn count_four_wide(
     factor: u32,
     counts: &mut [u32],
 )
-    requires { ⌜ CountAsks (now picture) stride rect min max bins (length (now counts)) × (factor ≡ factorOf min max bins) × (bins ≤ 1024) ⌝ }
+    requires { ⌜ CountRectAsks (now picture) stride rect min max bins (length (now counts)) × (factor ≡ factorOf min max bins) × (bins ≤ 1024) ⌝ }
     ensures { λ _. ⌜ now (counts .exit) ≡ onto (now (counts .entry)) (countsOf min max bins (greysOf (now (picture .entry)) stride rect)) ⌝ }
 {
     let mut a = [0u32; 1040];
@@ -226,7 +226,7 @@ fn count_four_widest(
     factor: u32,
     counts: &mut [u32],
 )
-    requires { ⌜ CountAsks (now picture) stride rect min max bins (length (now counts)) × (factor ≡ factorOf min max bins) × (bins ≤ 4096) ⌝ }
+    requires { ⌜ CountRectAsks (now picture) stride rect min max bins (length (now counts)) × (factor ≡ factorOf min max bins) × (bins ≤ 4096) ⌝ }
     ensures { λ _. ⌜ now (counts .exit) ≡ onto (now (counts .entry)) (countsOf min max bins (greysOf (now (picture .entry)) stride rect)) ⌝ }
 {
     let mut a = [0u32; 4112];
@@ -259,7 +259,7 @@ pub fn count(
     bins: u32,
     counts: &mut [u32],
 )
-    requires { ⌜ CountAsks (now picture) stride rect min max bins (length (now counts)) ⌝ }
+    requires { ⌜ CountRectAsks (now picture) stride rect min max bins (length (now counts)) ⌝ }
     ensures { λ _. ⌜ now (counts .exit) ≡ onto (now (counts .entry)) (countsOf min max bins (greysOf (now (picture .entry)) stride rect)) ⌝ }
 {
     let factor = binning::bin_factor(min, max, bins);

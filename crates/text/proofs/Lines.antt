@@ -5,9 +5,9 @@ use mathlib.Core.List.{List}
 use mathlib.Core.Path.{_≡_}
 use lib.ListN.{length}
 use Rattle.text.specs.declared.Text.{Text}
-use Rattle.text.specs.Text.{blankText, startOf, fieldsOf, endOf, lineOf, isSmall, smallOf}
+use Rattle.text.specs.Text.{blankText, lineStart, fieldsOf, lineEnd, lineOf, isSmall, smallOf}
 
-pub small-listed : (letter n : ℕ) (s : List ℕ) {r : Text} → isSmall (length s) ≡ true → r ≡ endOf (fieldsOf (startOf letter n) s) → r ≡ smallOf letter n s
+pub small-listed : (letter n : ℕ) (s : List ℕ) {r : Text} → isSmall (length s) ≡ true → r ≡ lineEnd (fieldsOf (lineStart letter n) s) → r ≡ smallOf letter n s
 unfolding lineOf smallOf
 small-listed letter n s h e = rw h e
 

@@ -40,16 +40,16 @@ unfoldable pub hexFieldOf : Text → ℕ → ℕ → Text
 hexFieldOf t count bits = putsOf (putOf t 9) (digits 16 count bits)
 
 -- the letter and the row's number
-abbrev pub startOf : ℕ → ℕ → Text
-startOf letter n = fieldOf (putOf blankText letter) n
+abbrev pub lineStart : ℕ → ℕ → Text
+lineStart letter n = fieldOf (putOf blankText letter) n
 
 -- LF ends a line
-abbrev pub endOf : Text → Text
-endOf t = putOf t 10
+abbrev pub lineEnd : Text → Text
+lineEnd t = putOf t 10
 
 -- a whole line with these numbers
 unfoldable pub lineOf : ℕ → ℕ → List ℕ → Text
-lineOf letter n ns = endOf (fieldsOf (startOf letter n) ns)
+lineOf letter n ns = lineEnd (fieldsOf (lineStart letter n) ns)
 
 -- a buffer of so many entries is listed
 unfoldable pub isSmall : ℕ → Bool

@@ -4,7 +4,7 @@ ghost use mathlib.Core.Bool.{cond};
 ghost use mathlib.Core.List.{[], _∷_};
 ghost use Prim.Native.Nat.{_^_, _<_, _≤_, min};
 ghost use lib.Ieee.{binary32, binary64, toBits};
-ghost use Rattle.text.specs.Text.{blankText, putOf, putsOf, startOf, fieldOf, fieldsOf, hexFieldOf, endOf, lineOf, isSmall, smallOf};
+ghost use Rattle.text.specs.Text.{blankText, putOf, putsOf, lineStart, fieldOf, fieldsOf, hexFieldOf, lineEnd, lineOf, isSmall, smallOf};
 use libc::STDOUT_FILENO;
 
 // Its bytes, and how many there are. The longest line lists 64 numbers of 20 digits behind a number of 20.
@@ -51,7 +51,7 @@ fn puts(t: Text, bytes: &[u8]) -> Text
 
 // The letter and the row's number.
 pub fn start(letter: u8, no: u64) -> Text
-    ensures { λ r. ⌜ r ≡ startOf letter no ⌝ }
+    ensures { λ r. ⌜ r ≡ lineStart letter no ⌝ }
 {
     field(put(blank(), letter), no)
 }
@@ -81,7 +81,7 @@ pub fn word(t: Text, n: u32) -> Text
 }
 
 pub fn end(t: Text) -> Text
-    ensures { λ r. ⌜ r ≡ endOf t ⌝ }
+    ensures { λ r. ⌜ r ≡ lineEnd t ⌝ }
 {
     put(t, b'\n')
 }

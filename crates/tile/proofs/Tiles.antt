@@ -24,7 +24,7 @@ use Rattle.older.proofs.Levels.{length-older, older-between, older-most}
 use Rattle.scan.specs.Scan.{within}
 use Rattle.tally.specs.Tally.{countsOf, greysOf}
 use Rattle.tile.specs.declared.Clipped.{Clipped}
-use Rattle.tile.specs.Tile.{clippedIn, clippedBy, dividedIn, dividedBy, mappedOf, mappingOf, countsMapping, tileCounts, tileDivides, tileMapping, tookIn, spentBy, tileSpent, Holds, factor, ClipInAsks, ClipByAsks, InClipped, ByClipped, MapAsks, FromAsks, TileAsks, TileMapped}
+use Rattle.tile.specs.Tile.{clippedIn, clippedBy, dividedIn, dividedBy, mappedOf, mappingOf, countsMapping, tileCounts, tileDivides, tileMapping, tookIn, spentBy, tileSpent, Holds, factor, ClipInAsks, ClipByAsks, InClipped, ByClipped, MapBinsAsks, FromCountsAsks, MappingAsks, TileMapped}
 use Rattle.tally.specs.declared.Rect.{Rect}
 use Rattle.tally.proofs.Greys.{length-greys}
 use Rattle.tally.proofs.Counts.{length-counts, total-counts}
@@ -299,22 +299,22 @@ unfolding countsMapping
 length-counts-mapping lo hi ed clip n cs = length-mapping lo hi (dividedBy ed clip n cs) (clippedBy ed clip n cs) ∙ length-clipped-by ed clip n cs
 
 -- the clipped counts add up to what the mapping divides by
-total-from : (ed : Edition) {clip : Clip} {n lo hi : ℕ} {cs : List ℕ} {room : ℕ} → FromAsks clip n lo hi cs room → total (clippedBy ed clip n cs) ≡ dividedBy ed clip n cs
+total-from : (ed : Edition) {clip : Clip} {n lo hi : ℕ} {cs : List ℕ} {room : ℕ} → FromCountsAsks clip n lo hi cs room → total (clippedBy ed clip n cs) ≡ dividedBy ed clip n cs
 total-from ed {clip} {n} {lo} {hi} {cs} asks = divided-total ed clip n cs (asks .counted .holds) (asks .counted .all-pixels) (omega (arith, asks .counted .some))
 
-between-from : (ed : Edition) {clip : Clip} {n lo hi : ℕ} {cs : List ℕ} {room : ℕ} → FromAsks clip n lo hi cs room → (n ≤ dividedBy ed clip n cs) × (dividedBy ed clip n cs < n + length cs)
+between-from : (ed : Edition) {clip : Clip} {n lo hi : ℕ} {cs : List ℕ} {room : ℕ} → FromCountsAsks clip n lo hi cs room → (n ≤ dividedBy ed clip n cs) × (dividedBy ed clip n cs < n + length cs)
 between-from ed {clip} {n} {lo} {hi} {cs} asks = divided-between ed clip n cs (asks .counted .holds) (asks .counted .all-pixels) (omega (arith, asks .counted .some))
 
 -- each within Min to Max
-pub counts-mapping-within : (ed : Edition) {clip : Clip} {n lo hi : ℕ} {cs : List ℕ} {room : ℕ} → FromAsks clip n lo hi cs room → all (within lo hi) (countsMapping lo hi ed clip n cs) ≡ true
+pub counts-mapping-within : (ed : Edition) {clip : Clip} {n lo hi : ℕ} {cs : List ℕ} {room : ℕ} → FromCountsAsks clip n lo hi cs room → all (within lo hi) (countsMapping lo hi ed clip n cs) ≡ true
 unfolding countsMapping
 counts-mapping-within ed {clip} {n} {lo} {hi} {cs} asks = mapping-within lo hi (dividedBy ed clip n cs) (clippedBy ed clip n cs) (omega (arith, total-from ed asks)) (asks .order)
 
 -- ---- the steps of `from_counts`: clipped, mapped
 
-module _ (ed : Edition) {clip : Clip} {n lo hi : ℕ} {cs : List ℕ} {out : ℕ} (asks : FromAsks clip n lo hi cs out) {ds : List ℕ} {t : ℕ} (e : (ds ≡ clippedBy ed clip n cs) × (t ≡ dividedBy ed clip n cs)) where
+module _ (ed : Edition) {clip : Clip} {n lo hi : ℕ} {cs : List ℕ} {out : ℕ} (asks : FromCountsAsks clip n lo hi cs out) {ds : List ℕ} {t : ℕ} (e : (ds ≡ clippedBy ed clip n cs) × (t ≡ dividedBy ed clip n cs)) where
   -- what mapping the clipped counts asks
-  pub from-map-asks : MapAsks ds t lo hi out
+  pub from-map-asks : MapBinsAsks ds t lo hi out
   from-map-asks =
       let x : total ds ≡ t = ap total (e .0) ∙ (total-from ed asks ∙ sym (e .1)) in
       let l : length ds ≡ length cs = ap length (e .0) ∙ length-clipped-by ed clip n cs in
@@ -335,7 +335,7 @@ module _ (ed : Edition) {clip : Clip} {n lo hi : ℕ} {cs : List ℕ} {out : ℕ
 
 -- ---- the steps of `mapping`: counted, then clipped and mapped
 
-module _ {pic : List ℕ} {stride : ℕ} {r : Rect} {lo hi b : ℕ} {clip : Clip} {scratch out : ℕ} (asks : TileAsks pic stride r lo hi b clip scratch out) where
+module _ {pic : List ℕ} {stride : ℕ} {r : Rect} {lo hi b : ℕ} {clip : Clip} {scratch out : ℕ} (asks : MappingAsks pic stride r lo hi b clip scratch out) where
   -- the greys are as many as the tile's pixels
   tile-pixels : length (greysOf pic stride r) ≡ r .width * r .height
   tile-pixels = length-greys pic stride r
@@ -349,7 +349,7 @@ module _ {pic : List ℕ} {stride : ℕ} {r : Rect} {lo hi b : ℕ} {clip : Clip
     tile-part = sym (ap length tile-counted ∙ length-counts lo hi b (greysOf pic stride r))
 
     -- what clipping and mapping them asks
-    pub tile-asks : FromAsks clip (r .width * r .height) lo hi (take b s) out
+    pub tile-asks : FromCountsAsks clip (r .width * r .height) lo hi (take b s) out
     tile-asks =
         record {
           counted = record {

@@ -17,7 +17,7 @@ use Rattle.clip.specs.Clip.{excess, clipped}
 use Rattle.clip.specs.Looks.{spentAs, spentOf}
 use Rattle.older.specs.Older.{older}
 use Rattle.tally.specs.declared.Rect.{Rect}
-use Rattle.tally.specs.Tally.{countsOf, CountAsks}
+use Rattle.tally.specs.Tally.{countsOf, CountRectAsks}
 use Rattle.tile.specs.declared.Clipped.{Clipped}
 
 -- counts clipped at a limit by an edition's rule: ours, or order 8's, "the clip rule of 1986"
@@ -41,27 +41,27 @@ dividedBy e Off n cs = n
 dividedBy e (Factor f) n cs = dividedIn e n (clippedBy e (Factor f) n cs)
 
 -- "Mapping of bin b: Min + floor(S x R / N), with S the sum of the clipped counts of bins 0 to b"
-unfoldable pub mappedOf : ℕ → ℕ → ℕ → List ℕ → ℕ → ℕ
+unfoldable pub mappedOf : (lo hi n : ℕ) (cs : List ℕ) (k : ℕ) → ℕ
 mappedOf lo hi n cs k = lo + total (take (k + 1) cs) * (hi - lo) / n
 
 -- the mapping of all bins, "bins upward"
-unfoldable pub mappingOf : ℕ → ℕ → ℕ → List ℕ → List ℕ
+unfoldable pub mappingOf : (lo hi n : ℕ) (cs : List ℕ) → List ℕ
 mappingOf lo hi n cs = tab (length cs) (mappedOf lo hi n cs)
 
 -- the mapping of a tile's raw counts by the clip setting
-unfoldable pub countsMapping : ℕ → ℕ → Edition → Clip → ℕ → List ℕ → List ℕ
+unfoldable pub countsMapping : (lo hi : ℕ) (e : Edition) (clip : Clip) (n : ℕ) (cs : List ℕ) → List ℕ
 countsMapping lo hi e clip n cs = mappingOf lo hi (dividedBy e clip n cs) (clippedBy e clip n cs)
 
 -- the clipped (or raw) counts of a tile with these greys
-unfoldable pub tileCounts : ℕ → ℕ → ℕ → Edition → Clip → List ℕ → List ℕ
+unfoldable pub tileCounts : (lo hi b : ℕ) (e : Edition) (clip : Clip) (vs : List ℕ) → List ℕ
 tileCounts lo hi b e clip vs = clippedBy e clip (length vs) (countsOf lo hi b vs)
 
 -- what their mapping divides by
-unfoldable pub tileDivides : ℕ → ℕ → ℕ → Edition → Clip → List ℕ → ℕ
+unfoldable pub tileDivides : (lo hi b : ℕ) (e : Edition) (clip : Clip) (vs : List ℕ) → ℕ
 tileDivides lo hi b e clip vs = dividedBy e clip (length vs) (countsOf lo hi b vs)
 
 -- and the mapping of these same counts
-unfoldable pub tileMapping : ℕ → ℕ → ℕ → Edition → Clip → List ℕ → List ℕ
+unfoldable pub tileMapping : (lo hi b : ℕ) (e : Edition) (clip : Clip) (vs : List ℕ) → List ℕ
 tileMapping lo hi b e clip vs = countsMapping lo hi e clip (length vs) (countsOf lo hi b vs)
 
 -- order 7, "E, and the number of looks" by an edition's rule; of 1986, "E is what stands above C, and the looks are 0 here"
@@ -75,7 +75,7 @@ spentBy e Off n cs = spentAs 0 0
 spentBy e (Factor f) n cs = tookIn e (limitOf f n (length cs)) cs
 
 -- and of a tile with these greys
-unfoldable pub tileSpent : ℕ → ℕ → ℕ → Edition → Clip → List ℕ → Spent
+unfoldable pub tileSpent : (lo hi b : ℕ) (e : Edition) (clip : Clip) (vs : List ℕ) → Spent
 tileSpent lo hi b e clip vs = spentBy e clip (length vs) (countsOf lo hi b vs)
 
 -- ---- what the functions ask
@@ -86,7 +86,7 @@ pub data Holds : Clip → ℕ → ℕ → Type 0 where
   factor : {f : lib.Ieee.Float} {n b : ℕ} → allowed f ≡ true → n ≤ limitOf f n b * b → Holds (Factor f) n b
 
 -- what `map` asks: counts of at most n, which is below N + B, and room for a mapped value of each bin
-pub record MapAsks (counts : List ℕ) (n lo hi room : ℕ) : Type 0 where
+pub record MapBinsAsks (counts : List ℕ) (n lo hi room : ℕ) : Type 0 where
   pub sum : total counts ≤ n
   pub some : 0 < n
   pub few : n ≤ 4198400
@@ -111,7 +111,7 @@ pub record ClipByAsks (clip : Clip) (n : ℕ) (counts : List ℕ) : Type 0 where
   pub few : length counts ≤ 4096
 
 -- what `from_counts` asks: what `clip_by` and `map` ask of the counts of n pixels
-pub record FromAsks (clip : Clip) (n lo hi : ℕ) (counts : List ℕ) (room : ℕ) : Type 0 where
+pub record FromCountsAsks (clip : Clip) (n lo hi : ℕ) (counts : List ℕ) (room : ℕ) : Type 0 where
   pub counted : ClipByAsks clip n counts
   pub some : 0 < n
   pub order : lo ≤ hi
@@ -119,8 +119,8 @@ pub record FromAsks (clip : Clip) (n lo hi : ℕ) (counts : List ℕ) (room : �
   pub enough : length counts ≤ room
 
 -- what `mapping` asks: what `count` asks, a clip setting whose limit has room for the tile, and room for the mapping
-pub record TileAsks (pic : List ℕ) (stride : ℕ) (r : Rect) (lo hi b : ℕ) (clip : Clip) (scratch out : ℕ) : Type 0 where
-  pub counts : CountAsks pic stride r lo hi b scratch
+pub record MappingAsks (pic : List ℕ) (stride : ℕ) (r : Rect) (lo hi b : ℕ) (clip : Clip) (scratch out : ℕ) : Type 0 where
+  pub counts : CountRectAsks pic stride r lo hi b scratch
   pub holds : Holds clip (r .width * r .height) b
   pub room : b ≤ out
 

@@ -3,7 +3,7 @@ ghost use mathlib.Core.Path.{_≡_};
 ghost use lib.ListN.{length};
 ghost use Rattle.lists.specs.Lists.{onto};
 ghost use Rattle.tally.specs.Tally.{greysOf};
-ghost use Rattle.tile.specs.Tile.{mappingOf, MapAsks, ClipInAsks, InClipped, ClipByAsks, ByClipped, FromAsks, FromMapped, TileAsks, TileMapped};
+ghost use Rattle.tile.specs.Tile.{mappingOf, MapBinsAsks, ClipInAsks, InClipped, ClipByAsks, ByClipped, FromCountsAsks, FromMapped, MappingAsks, TileMapped};
 use clip::Spent;
 use limit::Clip;
 use limit::Edition;
@@ -11,7 +11,7 @@ use tally::Rect;
 
 // The mapping of counts: each bin's grey by the running sum of the counts up to it. The range over the pixels is one factor for all bins, so that no sum is divided: a product and a division by 2^45, which is a shift.
 pub fn map(counts: &[u32], pixels: u32, min: u32, max: u32, out: &mut [u16])
-    requires { ⌜ MapAsks (now counts) pixels min max (length (now out)) ⌝ }
+    requires { ⌜ MapBinsAsks (now counts) pixels min max (length (now out)) ⌝ }
     ensures { λ _. ⌜ now (out .exit) ≡ onto (now (out .entry)) (mappingOf min max pixels (now (counts .entry))) ⌝ }
 {
     let range = (max - min) as u64;
@@ -87,7 +87,7 @@ pub fn from_counts(
     out: &mut [u16],
     edition: Edition,
 ) -> Spent
-    requires { ⌜ FromAsks clip pixels min max (now counts) (length (now out)) ⌝ }
+    requires { ⌜ FromCountsAsks clip pixels min max (now counts) (length (now out)) ⌝ }
     ensures { λ r. ⌜ FromMapped edition clip pixels min max (now (counts .entry)) (now (counts .exit)) (now (out .entry)) (now (out .exit)) r ⌝ }
 {
     let clipped = clip_by(clip, pixels, counts, edition);
@@ -109,7 +109,7 @@ pub fn mapping(
     out: &mut [u16],
     edition: Edition,
 ) -> Spent
-    requires { ⌜ TileAsks (now picture) stride rect min max bins clip (length (now scratch)) (length (now out)) ⌝ }
+    requires { ⌜ MappingAsks (now picture) stride rect min max bins clip (length (now scratch)) (length (now out)) ⌝ }
     ensures { λ r. ⌜ TileMapped min max bins edition clip (greysOf (now (picture .entry)) stride rect) (now (scratch .entry)) (now (scratch .exit)) (now (out .entry)) (now (out .exit)) r ⌝ }
 {
     let pixels = (rect.width * rect.height) as u32;

@@ -12,12 +12,12 @@ use Rattle.tile.specs.Tile.{spentBy}
 use Rattle.tile.proofs.Bounds.{spent-excess, spent-looks}
 use Rattle.settings.specs.declared.Settings.{Settings}
 use Rattle.settings.specs.Settings.{binsOf}
-use Rattle.tiles.specs.Tiles.{tileOf, pixelsIn, spentIn, TilesAsk}
+use Rattle.tiles.specs.Tiles.{tileOf, pixelsIn, spentIn, TilesReady}
 use Rattle.tiles.proofs.Tiles.{length-tile-greys}
 use Rattle.tiles.proofs.Films.{tile-greys}
 use Rattle.tiles.proofs.Spents.{spent-in-from}
 
-module _ {w h : ℕ} {pic : List ℕ} {s : Settings} {room scratch : ℕ} (asks : TilesAsk w h pic s room scratch) {k : ℕ} (l : k < s .across * s .down) where
+module _ {w h : ℕ} {pic : List ℕ} {s : Settings} {room scratch : ℕ} (asks : TilesReady w h pic s room scratch) {k : ℕ} (l : k < s .across * s .down) where
   -- its raw counts
   abbrev counts : List ℕ
   counts = countsOf (s .min) (s .max) (binsOf s) (greysOf pic w (tileOf w h s k))

@@ -22,27 +22,26 @@ use Rattle.tally.specs.declared.Rect.{Rect}
 use Rattle.scan.specs.Scan.{within}
 use Rattle.tally.specs.Tally.{greysOf, countsOf}
 use Rattle.clip.specs.declared.Spent.{Spent}
-use Rattle.tile.specs.Tile.{mappedOf, countsMapping, tileCounts, tileDivides, tileMapping, Holds, off, factor, TileMapped}
-use Rattle.tile.specs.Tile as tile
+use Rattle.tile.specs.Tile.{mappedOf, countsMapping, tileCounts, tileDivides, tileMapping, Holds, off, factor, TileMapped, MappingAsks}
 use Rattle.tally.proofs.Greys.{greys-all}
 use Rattle.tile.proofs.Tiles.{length-tile-counts, tile-mapping-from, length-tile-mapping, getD-tile-mapping, tile-mapping-within}
 use Rattle.settings.specs.declared.Settings.{Settings}
 use Rattle.settings.specs.Settings.{binsOf, entriesOf, clipBad, Ready}
 use Rattle.settings.proofs.Ready.{entries-small}
-use Rattle.tiles.specs.Tiles.{tileOf, pixelsIn, tileMap, mappings, spentIn, TilesAsk, TileAsks, TileDone}
+use Rattle.tiles.specs.Tiles.{tileOf, pixelsIn, tileMap, mappings, spentIn, TilesReady, MapTileAsks, TileDone}
 use Rattle.tiles.proofs.Tiles.{tile-area, length-tile-greys, tile-inside}
 
 -- ---- the limit has room for a tile's pixels
 
 -- of any clip setting that is not refused: "a clip refusal never occurs"
-pub holds : (clip : Clip) (n b : ℕ) → clipBad clip ≡ false → 0 < b → Holds clip n b
-holds Off n b g p = off
-holds (Factor f) n b g p = factor (not-false (allowed f) g) (limit-holds f n b p)
+pub clip-holds : (clip : Clip) (n b : ℕ) → clipBad clip ≡ false → 0 < b → Holds clip n b
+clip-holds Off n b g p = off
+clip-holds (Factor f) n b g p = factor (not-false (allowed f) g) (limit-holds f n b p)
 
-module _ {w h : ℕ} {pic : List ℕ} {s : Settings} {room scratch : ℕ} (asks : TilesAsk w h pic s room scratch) where
+module _ {w h : ℕ} {pic : List ℕ} {s : Settings} {room scratch : ℕ} (asks : TilesReady w h pic s room scratch) where
   -- so the limit has room for each tile
   pub tile-holds : (k : ℕ) → Holds (s .clip) (pixelsIn w h s k) (binsOf s)
-  tile-holds k = holds (s .clip) (pixelsIn w h s k) (binsOf s) (asks .work .ready .clip) (omega (arith, asks .work .ready .tiled .bins))
+  tile-holds k = clip-holds (s .clip) (pixelsIn w h s k) (binsOf s) (asks .work .ready .clip) (omega (arith, asks .work .ready .tiled .bins))
 
   -- a tile's greys lie in Min to Max
   pub tile-greys : {k : ℕ} → k < s .across * s .down → all (within (s .min) (s .max)) (greysOf pic w (tileOf w h s k)) ≡ true
@@ -98,7 +97,7 @@ mappings-own w h pic s k b l q =
     getD-mappings w h pic s k b l q
     ∙ getD-tile-mapping (s .min) (s .max) (binsOf s) (s .edition) (s .clip) (greysOf pic w (tileOf w h s k)) b q
 
-module _ {w h : ℕ} {pic : List ℕ} {s : Settings} {room scratch : ℕ} (asks : TilesAsk w h pic s room scratch) where
+module _ {w h : ℕ} {pic : List ℕ} {s : Settings} {room scratch : ℕ} (asks : TilesReady w h pic s room scratch) where
   -- a tile's mapped values lie in Min to Max
   pub tile-map-within : {k : ℕ} → k < s .across * s .down → all (within (s .min) (s .max)) (tileMap w h pic s k) ≡ true
   unfolding tileMap
@@ -116,12 +115,12 @@ module _ {w h : ℕ} {pic : List ℕ} {s : Settings} {room scratch : ℕ} (asks 
 -- ---- the steps of `map_tile`
 
 -- block k of the mappings lies within the map buffer
-pub tile-room : {w h : ℕ} {pic : List ℕ} {s : Settings} {k room scratch b : ℕ} → TileAsks w h pic s k room scratch → b ≡ binsOf s → k * b + b ≤ room
+pub tile-room : {w h : ℕ} {pic : List ℕ} {s : Settings} {k room scratch b : ℕ} → MapTileAsks w h pic s k room scratch → b ≡ binsOf s → k * b + b ≤ room
 tile-room {w} {h} {pic} {s} {k} {room} {scratch} {b} asks e =
     rw e (block-fits (binsOf s) (s .across * s .down) (asks .tile) (asks .film .work .ready .fitting))
 
 -- and within 16 x 16 tiles of 4096 bins
-pub tile-small : {w h : ℕ} {pic : List ℕ} {s : Settings} {k room scratch b : ℕ} → TileAsks w h pic s k room scratch → b ≡ binsOf s → k * b + b ≤ 1048576
+pub tile-small : {w h : ℕ} {pic : List ℕ} {s : Settings} {k room scratch b : ℕ} → MapTileAsks w h pic s k room scratch → b ≡ binsOf s → k * b + b ≤ 1048576
 tile-small {w} {h} {pic} {s} {k} {room} {scratch} {b} asks e =
     let ready : Ready w h (length pic) s room = asks .film .work .ready in
     rw e
@@ -129,9 +128,9 @@ tile-small {w} {h} {pic} {s} {k} {room} {scratch} {b} asks e =
     (entries-small (s .across) (s .down) (binsOf s) (ready .tiled .acrossmost) (ready .tiled .downmost) (ready .tiled .binsmost)))
 
 -- what the mapping of tile k asks, its rectangle and the bins as they were worked out
-pub tile-asks : (m : List ℕ) {w h : ℕ} {pic : List ℕ} {s : Settings} {k scratch : ℕ} → TileAsks w h pic s k (length m) scratch
+pub tile-asks : (m : List ℕ) {w h : ℕ} {pic : List ℕ} {s : Settings} {k scratch : ℕ} → MapTileAsks w h pic s k (length m) scratch
     → {r : Rect} {b : ℕ} → r ≡ tileOf w h s k → b ≡ binsOf s
-    → tile.TileAsks pic w r (s .min) (s .max) b (s .clip) scratch (length (take (k * b + b - k * b) (drop (k * b) m)))
+    → MappingAsks pic w r (s .min) (s .max) b (s .clip) scratch (length (take (k * b + b - k * b) (drop (k * b) m)))
 tile-asks m {w} {h} {pic} {s} {k} {scratch} asks {r} {b} p q =
     let ready : Ready w h (length pic) s (length m) = asks .film .work .ready in
     rw (p, length-block m k b (tile-room asks q), q)
@@ -147,7 +146,7 @@ tile-asks m {w} {h} {pic} {s} {k} {scratch} asks {r} {b} p q =
     }
 
 -- what it leaves
-pub tile-done : {w h : ℕ} {pic : List ℕ} {s : Settings} {k : ℕ} {m t : List ℕ} → TileAsks w h pic s k (length m) (length t)
+pub tile-done : {w h : ℕ} {pic : List ℕ} {s : Settings} {k : ℕ} {m t : List ℕ} → MapTileAsks w h pic s k (length m) (length t)
     → {r : Rect} {b : ℕ} {ys u : List ℕ} {took : Spent} → r ≡ tileOf w h s k → b ≡ binsOf s
     → TileMapped (s .min) (s .max) b (s .edition) (s .clip) (greysOf pic w r) t u (take (k * b + b - k * b) (drop (k * b) m)) ys took
     → TileDone w h pic s k m (putMid (k * b) (k * b + b - k * b) m ys) t u took

@@ -13,7 +13,7 @@ use Rattle.limit.proofs.Laws.{limit-room}
 use Rattle.settings.specs.declared.Settings.{Settings}
 use Rattle.settings.specs.Settings.{binsOf, clipBad, clipOne, Ready}
 use Rattle.settings.specs.declared.Footer.{Footer}
-use Rattle.tiles.specs.Tiles.{pixelsIn, footerOf, footOf, FilmAsks, FooterAsks}
+use Rattle.tiles.specs.Tiles.{pixelsIn, footerOf, footOf, FilmFooterAsks, FooterAsks}
 use Rattle.tiles.proofs.Tiles.{tiles-least, tile-pixels-most}
 
 module _ (clip : Clip) (n b : ℕ) (asks : FooterAsks clip n b) where
@@ -56,7 +56,7 @@ unfolding footOf
 foot-is w h s = refl
 
 -- what the footer of a tile asks, in a film of which no setting is refused
-pub tile-footer-asks : {w h : ℕ} {s : Settings} {k b : ℕ} → FilmAsks w h s → k < s .across * s .down → b ≡ binsOf s → FooterAsks (s .clip) (pixelsIn w h s k) b
+pub tile-footer-asks : {w h : ℕ} {s : Settings} {k b : ℕ} → FilmFooterAsks w h s → k < s .across * s .down → b ≡ binsOf s → FooterAsks (s .clip) (pixelsIn w h s k) b
 tile-footer-asks asks l e =
     record {
       good = asks .fair;
@@ -66,9 +66,9 @@ tile-footer-asks asks l e =
     }
 
 -- and of the first
-pub footer-asks : {w h : ℕ} {s : Settings} {b : ℕ} → FilmAsks w h s → b ≡ binsOf s → FooterAsks (s .clip) (pixelsIn w h s 0) b
+pub footer-asks : {w h : ℕ} {s : Settings} {b : ℕ} → FilmFooterAsks w h s → b ≡ binsOf s → FooterAsks (s .clip) (pixelsIn w h s 0) b
 footer-asks asks e = tile-footer-asks asks (omega (arith, tiles-least (asks .tiled))) e
 
 -- where none of the rows 1 to 11 and 31 applies, no setting is refused
-pub film-asks : {w h size : ℕ} {s : Settings} {room : ℕ} → Ready w h size s room → FilmAsks w h s
+pub film-asks : {w h size : ℕ} {s : Settings} {room : ℕ} → Ready w h size s room → FilmFooterAsks w h s
 film-asks known = record { tiled = known .tiled; fair = known .clip }

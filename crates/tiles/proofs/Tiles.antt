@@ -13,7 +13,7 @@ use Rattle.tally.proofs.Greys.{length-greys}
 use Rattle.settings.specs.declared.Settings.{Settings}
 use Rattle.settings.specs.Settings.{Tiled}
 use Rattle.settings.proofs.Records.{tiled-columns, tiled-rows}
-use Rattle.tiles.specs.Tiles.{tileRect, tilePixels, tileOf, pixelsIn, RectAsks}
+use Rattle.tiles.specs.Tiles.{tileRect, tilePixels, tileOf, pixelsIn, TileRectAsks}
 
 -- a tile's area is its pixels
 pub tile-area : (w h across down k : ℕ) → tileRect w h across down k .width * tileRect w h across down k .height ≡ tilePixels w h across down k
@@ -51,7 +51,7 @@ length-tile-greys w h pic s k = length-greys pic w (tileOf w h s k) ∙ tile-are
 
 -- ---- the column and the row of a tile
 
-module _ {w h across down k : ℕ} (asks : RectAsks w h across down k) where
+module _ {w h across down k : ℕ} (asks : TileRectAsks w h across down k) where
   some : 0 < across
   some = omega (arith, asks .columns .some)
 
@@ -74,7 +74,7 @@ module _ {w h : ℕ} {s : Settings} (tiled : Tiled w h s) where
 
   module _ {k : ℕ} (l : k < s .across * s .down) where
     -- what a tile's rectangle asks
-    pub rect-asks : RectAsks w h (s .across) (s .down) k
+    pub rect-asks : TileRectAsks w h (s .across) (s .down) k
     rect-asks = record { columns = tiled-columns tiled; rows = tiled-rows tiled; tile = l }
 
     -- it ends inside the film, across

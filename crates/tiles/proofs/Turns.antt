@@ -13,7 +13,7 @@ use Rattle.lists.proofs.Maps.{filled-behind}
 use Rattle.settings.specs.declared.Settings.{Settings}
 use Rattle.settings.specs.Settings.{binsOf}
 use Rattle.clip.specs.declared.Spent.{Spent}
-use Rattle.tiles.specs.Tiles.{tileMap, mappings, spentIn, spents, spentPair, SpentAsks, TilesAsk, TileAsks, TileDone, TilesDone}
+use Rattle.tiles.specs.Tiles.{tileMap, mappings, spentIn, spents, spentPair, SpentAsks, TilesReady, MapTileAsks, TileDone, TilesDone}
 use Rattle.tiles.proofs.Films.{length-tile-map}
 
 -- ---- the list, whatever clipping a tile takes
@@ -58,7 +58,7 @@ module _ {w h : ℕ} {pic : List ℕ} {s : Settings} {m₀ t₀ : List ℕ} wher
   pub laid-first : Laid w h pic s m₀ m₀ t₀ t₀ 0
   laid-first = record { map = blocks-none (binsOf s) (tileMap w h pic s) m₀; behind = refl; size = refl }
 
-module _ {w h : ℕ} {pic : List ℕ} {s : Settings} {m₀ t₀ : List ℕ} (asks : TilesAsk w h pic s (length m₀) (length t₀)) where
+module _ {w h : ℕ} {pic : List ℕ} {s : Settings} {m₀ t₀ : List ℕ} (asks : TilesReady w h pic s (length m₀) (length t₀)) where
   -- the map buffer's length stays
   pub laid-length : {m t : List ℕ} {k : ℕ} → Laid w h pic s m₀ m t₀ t k → k ≤ s .across * s .down → length m ≡ length m₀
   laid-length {m} {t} {k} laid l =
@@ -67,7 +67,7 @@ module _ {w h : ℕ} {pic : List ℕ} {s : Settings} {m₀ t₀ : List ℕ} (ask
       (omega (arith, mul-le-mul-right (binsOf s) l, asks .work .ready .fitting))
 
   -- what tile k asks
-  pub laid-asks : {m t : List ℕ} {k : ℕ} → Laid w h pic s m₀ m t₀ t k → k < s .across * s .down → TileAsks w h pic s k (length m) (length t)
+  pub laid-asks : {m t : List ℕ} {k : ℕ} → Laid w h pic s m₀ m t₀ t k → k < s .across * s .down → MapTileAsks w h pic s k (length m) (length t)
   laid-asks {m} {t} {k} laid l = rw (laid-length laid (omega arith), laid .size) record { film = asks; tile = l }
 
   -- one tile more

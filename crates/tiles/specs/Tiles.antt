@@ -25,7 +25,7 @@ use Rattle.settings.specs.declared.Footer.{Footer}
 use Rattle.settings.specs.Settings.{binsOf, clipBad, clipOne, Tiled, Ready}
 
 -- tile k of a film, "tiles row by row": "Tile column i shall run from floor(i x width / grid) up to floor((i + 1) x width / grid), rows likewise"
-unfoldable pub tileRect : ℕ → ℕ → ℕ → ℕ → ℕ → Rect
+unfoldable pub tileRect : (w h across down k : ℕ) → Rect
 tileRect w h across down k =
     record {
       left = edgeOf w across (k % across);
@@ -35,7 +35,7 @@ tileRect w h across down k =
     }
 
 -- its pixels: "N and L are each tile's own"
-unfoldable pub tilePixels : ℕ → ℕ → ℕ → ℕ → ℕ → ℕ
+unfoldable pub tilePixels : (w h across down k : ℕ) → ℕ
 tilePixels w h across down k = tileRect w h across down k .width * tileRect w h across down k .height
 
 -- tile k of a film with these settings
@@ -43,11 +43,11 @@ abbrev pub tileOf : ℕ → ℕ → Settings → ℕ → Rect
 tileOf w h s k = tileRect w h (s .across) (s .down) k
 
 -- and its pixels
-abbrev pub pixelsIn : ℕ → ℕ → Settings → ℕ → ℕ
+abbrev pub pixelsIn : (w h : ℕ) (s : Settings) (k : ℕ) → ℕ
 pixelsIn w h s k = tilePixels w h (s .across) (s .down) k
 
 -- the mapping of tile k, from that tile's own pixels
-unfoldable pub tileMap : ℕ → ℕ → List ℕ → Settings → ℕ → List ℕ
+unfoldable pub tileMap : (w h : ℕ) (pic : List ℕ) (s : Settings) (k : ℕ) → List ℕ
 tileMap w h pic s k = tileMapping (s .min) (s .max) (binsOf s) (s .edition) (s .clip) (greysOf pic w (tileOf w h s k))
 
 -- "the mappings, tiles row by row, bins upward"
@@ -57,7 +57,7 @@ mappings w h pic s = joined (s .across * s .down) (tileMap w h pic s)
 -- ---- order 7: how long the leftover walk is
 
 -- "E, and the number of looks" of tile k, from that tile's own pixels
-unfoldable pub spentIn : ℕ → ℕ → List ℕ → Settings → ℕ → Spent
+unfoldable pub spentIn : (w h : ℕ) (pic : List ℕ) (s : Settings) (k : ℕ) → Spent
 spentIn w h pic s k = tileSpent (s .min) (s .max) (binsOf s) (s .edition) (s .clip) (greysOf pic w (tileOf w h s k))
 
 -- the "two entries" of a tile
@@ -79,8 +79,8 @@ listRow s list = row 32 (ltb list (spentEntries s))
 -- ---- the footer
 
 -- the float 0.0
-abbrev pub none : Float
-none = fin false 0 (pos 0)
+abbrev pub zeroFloat : Float
+zeroFloat = fin false 0 (pos 0)
 
 -- and 1.0
 abbrev pub one : Float
@@ -88,7 +88,7 @@ one = fin false 1 (pos 0)
 
 -- "a footer record with L, the factor asked as f32 and the factor used as f64 .. Clip off: L 0, both factors 0.0. Factor 1.0: L 0, both 1.0"
 unfoldable pub footerOf : Clip → ℕ → ℕ → Footer
-footerOf Off n b = record { limit = 0; asked = none; used = none }
+footerOf Off n b = record { limit = 0; asked = zeroFloat; used = zeroFloat }
 footerOf (Factor f) n b =
     cond (isOne f) (record { limit = 0; asked = one; used = one })
     (record { limit = limitOf f n b; asked = f; used = usedOf (limitOf f n b) b n })
@@ -100,13 +100,13 @@ footOf w h s = footerOf (s .clip) (pixelsIn w h s 0) (binsOf s)
 -- ---- what the functions below ask
 
 -- what a tile's rectangle asks: sides that are not shorter than their grids, of which tile k is one
-pub record RectAsks (w h across down k : ℕ) : Type 0 where
+pub record TileRectAsks (w h across down k : ℕ) : Type 0 where
   pub columns : Fits w across
   pub rows : Fits h down
   pub tile : k < across * down
 
 -- what the footer of a film asks: settings of which none is refused
-pub record FilmAsks (w h : ℕ) (s : Settings) : Type 0 where
+pub record FilmFooterAsks (w h : ℕ) (s : Settings) : Type 0 where
   pub tiled : Tiled w h s
   pub fair : clipBad (s .clip) ≡ false
 
@@ -129,18 +129,18 @@ pub record Work (w h : ℕ) (pic : List ℕ) (s : Settings) (room scratch : ℕ)
   pub greys : all (within (s .min) (s .max)) pic ≡ true
 
 -- what `map_tile` knows of the film: that, and a factor that is not 1.0
-pub record TilesAsk (w h : ℕ) (pic : List ℕ) (s : Settings) (room scratch : ℕ) : Type 0 where
+pub record TilesReady (w h : ℕ) (pic : List ℕ) (s : Settings) (room scratch : ℕ) : Type 0 where
   pub work : Work w h pic s room scratch
   pub changes : clipOne (s .clip) ≡ false
 
 -- what `map_tiles` asks: that, and a list with two entries for each tile
-pub record ListAsks (w h : ℕ) (pic : List ℕ) (s : Settings) (room scratch list : ℕ) : Type 0 where
-  pub film : TilesAsk w h pic s room scratch
+pub record MapTilesAsks (w h : ℕ) (pic : List ℕ) (s : Settings) (room scratch list : ℕ) : Type 0 where
+  pub film : TilesReady w h pic s room scratch
   pub pairs : spentEntries s ≤ list
 
 -- what `map_tile` asks: that, of one of the tiles
-pub record TileAsks (w h : ℕ) (pic : List ℕ) (s : Settings) (k room scratch : ℕ) : Type 0 where
-  pub film : TilesAsk w h pic s room scratch
+pub record MapTileAsks (w h : ℕ) (pic : List ℕ) (s : Settings) (k room scratch : ℕ) : Type 0 where
+  pub film : TilesReady w h pic s room scratch
   pub tile : k < s .across * s .down
 
 -- what laying down a mapping as tile k's leaves: the mapping in its place; the scratch behind its first B entries as it was
@@ -161,5 +161,5 @@ pub record TileDone (w h : ℕ) (pic : List ℕ) (s : Settings) (k : ℕ) (m₀ 
   pub spent : took ≡ spentIn w h pic s k
 
 -- what `map_tiles` leaves
-abbrev pub TilesDone : ℕ → ℕ → List ℕ → Settings → List ℕ → List ℕ → List ℕ → List ℕ → List ℕ → List ℕ → Type 0
+abbrev pub TilesDone : (w h : ℕ) (pic : List ℕ) (s : Settings) → List ℕ → List ℕ → List ℕ → List ℕ → List ℕ → List ℕ → Type 0
 TilesDone w h pic s = AllPlaced s (mappings w h pic s) (spents w h pic s)

@@ -4,7 +4,7 @@ ghost use Prim.Native.Nat.{_<_, _*_};
 ghost use lib.ListN.{length};
 ghost use Rattle.lists.specs.Lists.{over};
 ghost use Rattle.settings.specs.Settings.{Tiled};
-ghost use Rattle.tiles.specs.Tiles.{footerOf, footOf, tileRect, pixelsIn, spentPair, RectAsks, FilmAsks, FooterAsks, SpentAsks, TileAsks, ListAsks, TileDone, TilesDone};
+ghost use Rattle.tiles.specs.Tiles.{footerOf, footOf, tileRect, pixelsIn, spentPair, TileRectAsks, FilmFooterAsks, FooterAsks, SpentAsks, MapTileAsks, MapTilesAsks, TileDone, TilesDone};
 use clip::Spent;
 use limit::Clip;
 use settings::Footer;
@@ -43,7 +43,7 @@ pub fn footer(clip: Clip, pixels: u32, bins: u32) -> Footer
 
 // The rectangle of tile k.
 pub fn tile_rect(width: u32, height: u32, across: u32, down: u32, k: usize) -> Rect
-    requires { ⌜ RectAsks width height across down k ⌝ }
+    requires { ⌜ TileRectAsks width height across down k ⌝ }
     ensures { λ r. ⌜ r ≡ tileRect width height across down k ⌝ }
 {
     let columns = across as usize;
@@ -72,7 +72,7 @@ pub fn tile_pixels(width: u32, height: u32, s: Settings, k: usize) -> u32
 
 // The footer of a film: that of its first tile.
 pub fn foot(width: u32, height: u32, s: Settings) -> Footer
-    requires { ⌜ FilmAsks width height s ⌝ }
+    requires { ⌜ FilmFooterAsks width height s ⌝ }
     ensures { λ r. ⌜ r ≡ footOf width height s ⌝ }
 {
     let clip = s.clip;
@@ -100,7 +100,7 @@ fn map_tile(
     map: &mut [u16],
     scratch: &mut [u32],
 ) -> Spent
-    requires { ⌜ TileAsks width height (now picture) s k (length (now map)) (length (now scratch)) ⌝ }
+    requires { ⌜ MapTileAsks width height (now picture) s k (length (now map)) (length (now scratch)) ⌝ }
     ensures { λ r. ⌜ TileDone width height (now (picture .entry)) s k (now (map .entry)) (now (map .exit)) (now (scratch .entry)) (now (scratch .exit)) r ⌝ }
 {
     let rect = tile_rect(width, height, s.across, s.down, k);
@@ -134,7 +134,7 @@ pub fn map_tiles(
     scratch: &mut [u32],
     list: &mut [u64],
 )
-    requires { ⌜ ListAsks width height (now picture) s (length (now map)) (length (now scratch)) (length (now list)) ⌝ }
+    requires { ⌜ MapTilesAsks width height (now picture) s (length (now map)) (length (now scratch)) (length (now list)) ⌝ }
     ensures { λ _. ⌜ TilesDone width height (now (picture .entry)) s (now (map .entry)) (now (map .exit)) (now (scratch .entry)) (now (scratch .exit)) (now (list .entry)) (now (list .exit)) ⌝ }
 {
     let tiles = (s.across * s.down) as usize;

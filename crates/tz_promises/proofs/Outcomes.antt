@@ -16,14 +16,14 @@ use Rattle.byte_promises.proofs.Inside.{prepare-bytes-table, enhance-bytes-tabl
 use Rattle.count_promises.proofs.Outcomes.{count-table, map-table}
 use Rattle.flat.specs.Flat.{recordFrom}
 use Rattle.flat.specs.Films.{FlatPrepared, flatPrepared, FlatEnhanced, flatEnhanced, FlatDrawn, flatDrawn}
-use Rattle.abi.proofs.Runs.{TzPrepareCall, tz-prepare-given, TzEnhanceCall, tz-enhance-given, TzDrawCall, tz-draw-given}
+use Rattle.abi.proofs.Runs.{TzPrepareCall, tz-prepare-arguments, TzEnhanceCall, tz-enhance-arguments, TzDrawCall, tz-draw-arguments}
 use Rattle.abi_counts.specs.Flat.{FlatCounted, flatCounted}
-use Rattle.tz_promises.proofs.Runs.{TzPreparesBytes, tz-prepare-bytes-ends, TzEnhancesBytes, tz-enhance-bytes-ends, TzDrawsBytes, tz-draw-bytes-ends, TzCountCall, TzCounts, tz-count-given, tz-count-ends, TzMapCall, TzMaps, tz-map-given, tz-map-ends}
+use Rattle.tz_promises.proofs.Runs.{TzPreparesBytes, tz-prepare-bytes-ends, TzEnhancesBytes, tz-enhance-bytes-ends, TzDrawsBytes, tz-draw-bytes-ends, TzCountCall, TzCounts, tz-count-arguments, tz-count-ends, TzMapCall, TzMaps, tz-map-arguments, tz-map-ends}
 
 -- ---- tz_prepare_bytes
 
 -- any two outcomes are equal: its number, map buffer, scratch and list, and the cells: the record's ten numbers, factor and four arrays, and the footer's three
-pub tz-prepare-bytes-determined : {c k : TzPrepareCall} → TzPreparesBytes c → TzPreparesBytes k → tz-prepare-given c ≡ tz-prepare-given k
+pub tz-prepare-bytes-determined : {c k : TzPrepareCall} → TzPreparesBytes c → TzPreparesBytes k → tz-prepare-arguments c ≡ tz-prepare-arguments k
     → (c .number ≡ k .number) × (c .map′ ≡ k .map′) × (c .scratch′ ≡ k .scratch′) × (c .list′ ≡ k .list′) × (c .cells′ ≡ k .cells′)
 tz-prepare-bytes-determined x y same =
     let e = tz-prepare-bytes-ends x ∙ ap (λ g. flatPrepared (bytePrepareOf (g .0) (g .1) (g .2) (g .3) (g .4) (g .5) (g .6) (g .7)) (g .8)) same ∙ sym (tz-prepare-bytes-ends y) in
@@ -39,7 +39,7 @@ tz-prepare-bytes-refusal-keeps {c} ran l =
 -- ---- tz_enhance_bytes
 
 -- its number, picture, map buffer and scratch, and the footer's three cells
-pub tz-enhance-bytes-determined : {c k : TzEnhanceCall} → TzEnhancesBytes c → TzEnhancesBytes k → tz-enhance-given c ≡ tz-enhance-given k
+pub tz-enhance-bytes-determined : {c k : TzEnhanceCall} → TzEnhancesBytes c → TzEnhancesBytes k → tz-enhance-arguments c ≡ tz-enhance-arguments k
     → (c .number ≡ k .number) × (c .pixels′ ≡ k .pixels′) × (c .map′ ≡ k .map′) × (c .scratch′ ≡ k .scratch′) × (c .foot′ ≡ k .foot′)
 tz-enhance-bytes-determined x y same =
     let e = tz-enhance-bytes-ends x ∙ ap (λ g. flatEnhanced (byteEnhanceOf (g .0) (g .1) (g .2) (g .3) (g .4) (g .5)) (g .6)) same ∙ sym (tz-enhance-bytes-ends y) in
@@ -54,7 +54,7 @@ tz-enhance-bytes-refusal-keeps {c} ran l =
 -- ---- tz_draw_bytes
 
 -- its number and output
-pub tz-draw-bytes-determined : {c k : TzDrawCall} → TzDrawsBytes c → TzDrawsBytes k → tz-draw-given c ≡ tz-draw-given k → (c .number ≡ k .number) × (c .out′ ≡ k .out′)
+pub tz-draw-bytes-determined : {c k : TzDrawCall} → TzDrawsBytes c → TzDrawsBytes k → tz-draw-arguments c ≡ tz-draw-arguments k → (c .number ≡ k .number) × (c .out′ ≡ k .out′)
 tz-draw-bytes-determined x y same =
     let e = tz-draw-bytes-ends x ∙ ap (λ g. flatDrawn (byteDrawOf (g .0) (g .1) (g .2) (g .3) (g .4) (recordFrom (g .5) (g .6) (g .7)) (g .8) (g .9) (g .10))) same ∙ sym (tz-draw-bytes-ends y) in
     (ap (λ (z : FlatDrawn). z .number) e, ap (λ (z : FlatDrawn). z .out) e)
@@ -67,7 +67,7 @@ tz-draw-bytes-refusal-keeps ran l =
 -- ---- tz_count
 
 -- its number and counts
-pub tz-count-determined : {c k : TzCountCall} → TzCounts c → TzCounts k → tz-count-given c ≡ tz-count-given k → (c .number ≡ k .number) × (c .counts′ ≡ k .counts′)
+pub tz-count-determined : {c k : TzCountCall} → TzCounts c → TzCounts k → tz-count-arguments c ≡ tz-count-arguments k → (c .number ≡ k .number) × (c .counts′ ≡ k .counts′)
 tz-count-determined x y same =
     let e = tz-count-ends x ∙ ap (λ g. flatCounted (countOf (g .0) (g .1) (g .2) (g .3) (g .4))) same ∙ sym (tz-count-ends y) in
     (ap (λ (z : FlatCounted). z .number) e, ap (λ (z : FlatCounted). z .counts) e)
@@ -80,7 +80,7 @@ tz-count-refusal-keeps ran l =
 -- ---- tz_map
 
 -- its number, map buffer, scratch and list, and the cells
-pub tz-map-determined : {c k : TzMapCall} → TzMaps c → TzMaps k → tz-map-given c ≡ tz-map-given k
+pub tz-map-determined : {c k : TzMapCall} → TzMaps c → TzMaps k → tz-map-arguments c ≡ tz-map-arguments k
     → (c .number ≡ k .number) × (c .map′ ≡ k .map′) × (c .scratch′ ≡ k .scratch′) × (c .list′ ≡ k .list′) × (c .cells′ ≡ k .cells′)
 tz-map-determined x y same =
     let e = tz-map-ends x ∙ ap (λ g. flatPrepared (mapOf (g .0) (g .1) (g .2) (g .3) (g .4) (g .5) (g .6) (g .7)) (g .8)) same ∙ sym (tz-map-ends y) in

@@ -11,8 +11,8 @@ use Rattle.counting.specs.Counting.{countOf}
 use Rattle.counts.specs.Counts.{mapOf}
 use Rattle.byte_film.specs.Bytes.{bytePrepareOf, byteEnhanceOf}
 use Rattle.byte_draw.specs.Bytes.{byteDrawOf}
-use Rattle.flat.specs.Flat.{settingsFrom, axed, recordFrom, windowFrom}
-use Rattle.flat.specs.Films.{footed, Cells, celled, preparedAs, flatPrepared, enhancedAs, flatEnhanced, drawnAs, flatDrawn}
+use Rattle.flat.specs.Flat.{settingsFrom, axesFrom, recordFrom, windowFrom}
+use Rattle.flat.specs.Films.{footFrom, Cells, cellsFrom, preparedAs, flatPrepared, enhancedAs, flatEnhanced, drawnAs, flatDrawn}
 use Rattle.abi.proofs.Runs.{TzPrepareCall, TzEnhanceCall, TzDrawCall}
 use Rattle.abi_counts.specs.Flat.{unclipped, countedAs, flatCounted}
 use Rattle.abi_bytes.proofs.tz_prepare_bytes.Kinds as prepare
@@ -32,7 +32,7 @@ abbrev pub tz-prepare-bytes-values : Run prepare.ps prepare.r prepare-reads.Post
 tz-prepare-bytes-values run =
     let (film, (width, (height, (pixels, (across, (down, (bins, (min, (max, (clip, (asked-factor, (map, (scratch, (numbers, (factor, (limit, (asked, (used, (column-edges, (column-centres, (row-edges, (row-centres, (list, (edition, end)))))))))))))))))))))))) = run .handed in
     let (_, (_, (_, (_, (_, (_, (_, (_, (_, (_, (_, (map′, (scratch′, (numbers′, (factor′, (limit′, (asked′, (used′, (column-edges′, (column-centres′, (row-edges′, (row-centres′, (list′, (_, end′)))))))))))))))))))))))) = run .left in
-    record { film = film; width = width; height = height; pixels = now pixels; settings = settingsFrom across down bins min max clip asked-factor edition; map = now map; scratch = now scratch; list = now list; cells = celled (now numbers) (now factor) (axed (now column-edges) (now column-centres) (now row-edges) (now row-centres)) (footed (now limit) (now asked) (now used)); number = run .answer; map′ = now map′; scratch′ = now scratch′; list′ = now list′; cells′ = celled (now numbers′) (now factor′) (axed (now column-edges′) (now column-centres′) (now row-edges′) (now row-centres′)) (footed (now limit′) (now asked′) (now used′)) }
+    record { film = film; width = width; height = height; pixels = now pixels; settings = settingsFrom across down bins min max clip asked-factor edition; map = now map; scratch = now scratch; list = now list; cells = cellsFrom (now numbers) (now factor) (axesFrom (now column-edges) (now column-centres) (now row-edges) (now row-centres)) (footFrom (now limit) (now asked) (now used)); number = run .answer; map′ = now map′; scratch′ = now scratch′; list′ = now list′; cells′ = cellsFrom (now numbers′) (now factor′) (axesFrom (now column-edges′) (now column-centres′) (now row-edges′) (now row-centres′)) (footFrom (now limit′) (now asked′) (now used′)) }
 
 -- tz_prepare_bytes ran with these values
 abbrev pub TzPreparesBytes : TzPrepareCall → Type 0
@@ -47,7 +47,7 @@ abbrev pub tz-enhance-bytes-values : Run enhance.ps enhance.r enhance-reads.Post
 tz-enhance-bytes-values run =
     let (width, (height, (pixels, (across, (down, (bins, (min, (max, (clip, (factor, (map, (scratch, (limit, (asked, (used, (edition, end)))))))))))))))) = run .handed in
     let (_, (_, (pixels′, (_, (_, (_, (_, (_, (_, (_, (map′, (scratch′, (limit′, (asked′, (used′, (_, end′)))))))))))))))) = run .left in
-    record { width = width; height = height; pixels = now pixels; settings = settingsFrom across down bins min max clip factor edition; map = now map; scratch = now scratch; foot = footed (now limit) (now asked) (now used); number = run .answer; pixels′ = now pixels′; map′ = now map′; scratch′ = now scratch′; foot′ = footed (now limit′) (now asked′) (now used′) }
+    record { width = width; height = height; pixels = now pixels; settings = settingsFrom across down bins min max clip factor edition; map = now map; scratch = now scratch; foot = footFrom (now limit) (now asked) (now used); number = run .answer; pixels′ = now pixels′; map′ = now map′; scratch′ = now scratch′; foot′ = footFrom (now limit′) (now asked′) (now used′) }
 
 -- tz_enhance_bytes ran with these values
 abbrev pub TzEnhancesBytes : TzEnhanceCall → Type 0
@@ -62,7 +62,7 @@ abbrev pub tz-draw-bytes-values : Run draw.ps draw.r draw-reads.Post → TzDrawC
 tz-draw-bytes-values run =
     let (film, (width, (height, (pixels, (across, (down, (bins, (min, (max, (clip, (asked-factor, (numbers, (factor, (left, (top, (window-width, (window-height, (map, (out, (column-edges, (column-centres, (row-edges, (row-centres, (edition, end)))))))))))))))))))))))) = run .handed in
     let (_, (_, (_, (_, (_, (_, (_, (_, (_, (_, (_, (_, (_, (_, (_, (_, (_, (_, (out′, end′))))))))))))))))))) = run .left in
-    record { film = film; width = width; height = height; pixels = now pixels; settings = settingsFrom across down bins min max clip asked-factor edition; numbers = now numbers; factor = factor; axes = axed (now column-edges) (now column-centres) (now row-edges) (now row-centres); window = windowFrom left top window-width window-height; map = now map; out = now out; number = run .answer; out′ = now out′ }
+    record { film = film; width = width; height = height; pixels = now pixels; settings = settingsFrom across down bins min max clip asked-factor edition; numbers = now numbers; factor = factor; axes = axesFrom (now column-edges) (now column-centres) (now row-edges) (now row-centres); window = windowFrom left top window-width window-height; map = now map; out = now out; number = run .answer; out′ = now out′ }
 
 -- tz_draw_bytes ran with these values
 abbrev pub TzDrawsBytes : TzDrawCall → Type 0
@@ -91,8 +91,8 @@ tz-count-values run =
     record { width = width; height = height; pixels = now pixels; settings = unclipped across down bins min max; counts = now counts; number = run .answer; counts′ = now counts′ }
 
 -- what it is handed
-abbrev pub tz-count-given : TzCountCall → ℕ × ℕ × List ℕ × Settings × List ℕ
-tz-count-given c = (c .width, c .height, c .pixels, c .settings, c .counts)
+abbrev pub tz-count-arguments : TzCountCall → ℕ × ℕ × List ℕ × Settings × List ℕ
+tz-count-arguments c = (c .width, c .height, c .pixels, c .settings, c .counts)
 
 -- tz_count ran with these values
 abbrev pub TzCounts : TzCountCall → Type 0
@@ -124,11 +124,11 @@ abbrev pub tz-map-values : Run map.ps map.r map-reads.Post → TzMapCall
 tz-map-values run =
     let (film, (width, (height, (across, (down, (bins, (min, (max, (clip, (asked-factor, (counts, (map, (scratch, (numbers, (factor, (limit, (asked, (used, (column-edges, (column-centres, (row-edges, (row-centres, (list, (edition, end)))))))))))))))))))))))) = run .handed in
     let (_, (_, (_, (_, (_, (_, (_, (_, (_, (_, (_, (map′, (scratch′, (numbers′, (factor′, (limit′, (asked′, (used′, (column-edges′, (column-centres′, (row-edges′, (row-centres′, (list′, (_, end′)))))))))))))))))))))))) = run .left in
-    record { film = film; width = width; height = height; settings = settingsFrom across down bins min max clip asked-factor edition; counts = now counts; map = now map; scratch = now scratch; list = now list; cells = celled (now numbers) (now factor) (axed (now column-edges) (now column-centres) (now row-edges) (now row-centres)) (footed (now limit) (now asked) (now used)); number = run .answer; map′ = now map′; scratch′ = now scratch′; list′ = now list′; cells′ = celled (now numbers′) (now factor′) (axed (now column-edges′) (now column-centres′) (now row-edges′) (now row-centres′)) (footed (now limit′) (now asked′) (now used′)) }
+    record { film = film; width = width; height = height; settings = settingsFrom across down bins min max clip asked-factor edition; counts = now counts; map = now map; scratch = now scratch; list = now list; cells = cellsFrom (now numbers) (now factor) (axesFrom (now column-edges) (now column-centres) (now row-edges) (now row-centres)) (footFrom (now limit) (now asked) (now used)); number = run .answer; map′ = now map′; scratch′ = now scratch′; list′ = now list′; cells′ = cellsFrom (now numbers′) (now factor′) (axesFrom (now column-edges′) (now column-centres′) (now row-edges′) (now row-centres′)) (footFrom (now limit′) (now asked′) (now used′)) }
 
 -- what it is handed
-abbrev pub tz-map-given : TzMapCall → ℕ × ℕ × ℕ × Settings × List ℕ × List ℕ × List ℕ × List ℕ × Cells
-tz-map-given c = (c .film, c .width, c .height, c .settings, c .counts, c .map, c .scratch, c .list, c .cells)
+abbrev pub tz-map-arguments : TzMapCall → ℕ × ℕ × ℕ × Settings × List ℕ × List ℕ × List ℕ × List ℕ × Cells
+tz-map-arguments c = (c .film, c .width, c .height, c .settings, c .counts, c .map, c .scratch, c .list, c .cells)
 
 -- tz_map ran with these values
 abbrev pub TzMaps : TzMapCall → Type 0

@@ -16,12 +16,12 @@ use Rattle.settings.specs.declared.Settings.{Settings}
 use Rattle.settings.specs.Settings.{recordOf, clipOne}
 use Rattle.settings.proofs.Records.{record-film}
 use Rattle.tiles.specs.Tiles.{footOf}
-use Rattle.prepare.specs.Prepare.{preparedSays, Ended, prepareOf}
-use Rattle.counting.specs.Counting.{countings, countRows, countedSays, Tallied, countOf, Alike}
+use Rattle.prepare.specs.Prepare.{preparedSays, PrepareOut, prepareOf}
+use Rattle.counting.specs.Counting.{countings, countRows, countedSays, CountOut, countOf, AlikeButClip}
 use Rattle.counting.proofs.Like.{rows-alike, countings-alike}
 use Rattle.counts.specs.Counts.{mapRows, mapOf}
 use Rattle.counts.proofs.Mapped.{mapped-as-prepared}
-use Rattle.draw.specs.Draw.{drawRows, drawnSays, Shows, drawOf}
+use Rattle.draw.specs.Draw.{drawRows, drawnSays, DrawOut, drawOf}
 use Rattle.draw.proofs.Tables.{draw-ready}
 use Rattle.byte_film.specs.Bytes.{bytePrepareRows, bytePrepareOf}
 use Rattle.byte_draw.specs.Bytes.{byteDrawRows, byteDrawOf}
@@ -35,7 +35,7 @@ use Rattle.byte_promises.proofs.Inside.{prepare-bytes-table, prepare-bytes-prof
 use Rattle.byte_promises.proofs.Either.{Inside, kept-inside}
 use Rattle.count_promises.proofs.Outcomes.{count-table, map-table}
 use Rattle.flat.specs.Flat.{returned, clipFactor, recordNumbers, axesAfter, recordFrom}
-use Rattle.flat.specs.Films.{FlatPrepared, Cells, celled, cellsAfter, preparedAs, flatPrepared, footAfter, FlatDrawn, drawnAs, flatDrawn}
+use Rattle.flat.specs.Films.{FlatPrepared, Cells, cellsFrom, cellsAfter, preparedAs, flatPrepared, footAfter, FlatDrawn, drawnAs, flatDrawn}
 use Rattle.flat.proofs.Handed.{record-back}
 use Rattle.abi.proofs.Runs.{TzPrepareCall, TzDrawCall, TzDraws, tz-draw-ends}
 use Rattle.abi.proofs.Outcomes.{tz-draw-refusal-keeps}
@@ -55,7 +55,7 @@ returned-said : {A : Type 0} {x : Says A} (n : ℕ) (v : A) → x ≡ says n v �
 returned-said n v e = ap returned e ∙ returned-says n v
 
 -- a call that hands out a record and a footer returned 0
-module _ {number : ℕ} {map scratch list : List ℕ} {cells : Cells} (ended : Ended) (old : Cells) (n : ℕ) (r : MapRecord) (foot : Footer)
+module _ {number : ℕ} {map scratch list : List ℕ} {cells : Cells} (ended : PrepareOut) (old : Cells) (n : ℕ) (r : MapRecord) (foot : Footer)
     (ends : preparedAs number map scratch list cells ≡ flatPrepared ended old) (told : preparedSays (ended .answer) ≡ says n (r, foot)) (free : number ≡ 0) where
   -- so the call beneath accepted the film
   flat-done : preparedSays (ended .answer) ≡ accepted (r, foot)
@@ -66,7 +66,7 @@ module _ {number : ℕ} {map scratch list : List ℕ} {cells : Cells} (ended : E
 
   -- the cells hold its record, and the map buffer what it left
   flat-left : preparedAs number map scratch list cells
-      ≡ preparedAs 0 (ended .map) (ended .scratch) (ended .list) (celled (recordNumbers r) (clipFactor (r .settings .clip)) (axesAfter r) (footAfter foot))
+      ≡ preparedAs 0 (ended .map) (ended .scratch) (ended .list) (cellsFrom (recordNumbers r) (clipFactor (r .settings .clip)) (axesAfter r) (footAfter foot))
   unfolding flatPrepared
   flat-left = ends ∙ ap (λ x. preparedAs (returned x) (ended .map) (ended .scratch) (ended .list) (cellsAfter x old)) flat-done
 
@@ -82,7 +82,7 @@ abbrev pub tzRecord : TzDrawCall → MapRecord
 tzRecord d = recordFrom (d .numbers) (d .factor) (d .axes)
 
 -- what draw gives for the call's values
-abbrev tzShows : TzDrawCall → Shows
+abbrev tzShows : TzDrawCall → DrawOut
 tzShows d = drawOf (d .film) (d .width) (d .height) (d .pixels) (d .settings) (tzRecord d) (d .window) (d .map) (d .out)
 
 -- and draw's call of the same values
@@ -162,8 +162,8 @@ module _ {p : TzPrepareCall} (ran : TzPreparesBytes p) (prepared : p .number ≡
         map = p .map;
         scratch = p .scratch;
         list = p .list;
-        accepts = sym (ap (λ (z : Ended). preparedSays (z .answer)) wide) ∙ told;
-        leaves = flat-map _ _ (first (bytePrepareRows (p .width) (p .height) (p .pixels) (p .settings) (length (p .map)) (length (p .scratch)) (length (p .list)))) (recordOf (p .film) (p .width) (p .height) (p .settings)) (footOf (p .width) (p .height) (p .settings)) (tz-prepare-bytes-ends ran) bytes-said prepared ∙ ap (λ (z : Ended). z .map) wide;
+        accepts = sym (ap (λ (z : PrepareOut). preparedSays (z .answer)) wide) ∙ told;
+        leaves = flat-map _ _ (first (bytePrepareRows (p .width) (p .height) (p .pixels) (p .settings) (length (p .map)) (length (p .scratch)) (length (p .list)))) (recordOf (p .film) (p .width) (p .height) (p .settings)) (footOf (p .width) (p .height) (p .settings)) (tz-prepare-bytes-ends ran) bytes-said prepared ∙ ap (λ (z : PrepareOut). z .map) wide;
       })
 
 -- what tz_prepare_bytes left, handed to tz_draw_bytes: tz_prepare_bytes returned 0 for the film of p, and tz_draw_bytes is handed the same film with the numbers, the factor and the arrays that lie in
@@ -216,7 +216,7 @@ bytes-number {d} ran free =
     draw-ready (d .film) (d .width) (d .height) (d .pixels) (d .settings) (tzRecord d) (d .window) (d .map) (length (d .out))
     (table-accepted (draw-table (d .film) (d .width) (d .height) (d .pixels) (d .settings) (tzRecord d) (d .window) (d .map) (d .out)) accepted-wide .0) .held .number
   where
-    shows : Shows
+    shows : DrawOut
     shows = byteDrawOf (d .film) (d .width) (d .height) (d .pixels) (d .settings) (tzRecord d) (d .window) (d .map) (d .out)
 
     said : drawnSays (shows .answer) ≡ says (first (byteDrawRows (d .film) (d .width) (d .height) (d .pixels) (d .settings) (tzRecord d) (d .window) (d .map) (length (d .out)))) tt
@@ -229,7 +229,7 @@ bytes-number {d} ran free =
 
     accepted-wide : drawnSays (tzShows d .answer) ≡ accepted tt
     accepted-wide =
-        sym (ap (λ (z : Shows). drawnSays (z .answer)) (draw-bytes-wide (d .film) (d .width) (d .height) (d .pixels) (d .settings) (tzRecord d) (d .window) (d .map) (d .out) accepted-bytes))
+        sym (ap (λ (z : DrawOut). drawnSays (z .answer)) (draw-bytes-wide (d .film) (d .width) (d .height) (d .pixels) (d .settings) (tzRecord d) (d .window) (d .map) (d .out) accepted-bytes))
         ∙ accepted-bytes
 
 -- a number that is 0 or above
@@ -255,7 +255,7 @@ pub record TzMappedFrom (c : TzCountCall) (m : TzMapCall) : Type 0 where
   pub mapped : m .number ≡ 0
   pub width : c .width ≡ m .width
   pub height : c .height ≡ m .height
-  pub like : Alike (c .settings) (m .settings)
+  pub like : AlikeButClip (c .settings) (m .settings)
   pub given : m .counts ≡ c .counts′
 
 module _ {c : TzCountCall} {m : TzMapCall} (from : TzMappedFrom c m) where
@@ -281,7 +281,7 @@ module _ {c : TzCountCall} {m : TzMapCall} (from : TzMappedFrom c m) where
   left-counts =
       from .given
       ∙ ap (λ (z : FlatCounted). z .counts) (tz-count-ends (from .counts))
-      ∙ ap (λ (z : Tallied). z .counts)
+      ∙ ap (λ (z : CountOut). z .counts)
       (table-done (count-table (c .width) (c .height) (c .pixels) (c .settings) (c .counts)) (count-said ∙ ap (λ k. says k tt) count-free))
       ∙ ap (onto (c .counts)) counts-same
 
@@ -309,8 +309,8 @@ module _ {c : TzCountCall} {m : TzMapCall} (from : TzMappedFrom c m) where
         map = m .map;
         scratch = m .scratch;
         list = m .list;
-        accepts = sym (ap (λ (z : Ended). preparedSays (z .answer)) as-prepared) ∙ flat-done _ _ (first (mapRows (m .width) (m .height) (m .settings) (m .counts) (length (m .map)) (length (m .scratch)) (length (m .list)))) (recordOf (m .film) (m .width) (m .height) (m .settings)) (footOf (m .width) (m .height) (m .settings)) (tz-map-ends (from .maps)) map-said (from .mapped);
-        leaves = flat-map _ _ (first (mapRows (m .width) (m .height) (m .settings) (m .counts) (length (m .map)) (length (m .scratch)) (length (m .list)))) (recordOf (m .film) (m .width) (m .height) (m .settings)) (footOf (m .width) (m .height) (m .settings)) (tz-map-ends (from .maps)) map-said (from .mapped) ∙ ap (λ (z : Ended). z .map) as-prepared;
+        accepts = sym (ap (λ (z : PrepareOut). preparedSays (z .answer)) as-prepared) ∙ flat-done _ _ (first (mapRows (m .width) (m .height) (m .settings) (m .counts) (length (m .map)) (length (m .scratch)) (length (m .list)))) (recordOf (m .film) (m .width) (m .height) (m .settings)) (footOf (m .width) (m .height) (m .settings)) (tz-map-ends (from .maps)) map-said (from .mapped);
+        leaves = flat-map _ _ (first (mapRows (m .width) (m .height) (m .settings) (m .counts) (length (m .map)) (length (m .scratch)) (length (m .list)))) (recordOf (m .film) (m .width) (m .height) (m .settings)) (footOf (m .width) (m .height) (m .settings)) (tz-map-ends (from .maps)) map-said (from .mapped) ∙ ap (λ (z : PrepareOut). z .map) as-prepared;
       })
 
 -- what tz_count and tz_map left, handed to tz_draw with the same film: the record from its cells, the settings, the mappings, a window inside the film and an output of its area

@@ -14,16 +14,16 @@ use Rattle.tally.specs.declared.Rect.{Rect}
 use Rattle.tally.specs.Tally.{greysOf, countsOf}
 use Rattle.tally.proofs.Greys.{length-greys}
 use Rattle.tally.proofs.Counts.{length-counts}
-use Rattle.tile.specs.Tile.{clippedBy, dividedBy, mappedOf, tileCounts, tileDivides, FromAsks, TileAsks}
+use Rattle.tile.specs.Tile.{clippedBy, dividedBy, mappedOf, tileCounts, tileDivides, FromCountsAsks, MappingAsks}
 use Rattle.tile.proofs.Tiles.{length-tile-counts, tile-counts-by, tile-divides-by, tile-part, tile-asks}
 use Rattle.value.specs.Value.{ValueAsks, ValueGiven}
 
-module _ {pic : List ℕ} {stride : ℕ} {r : Rect} {lo hi b : ℕ} {clip : Clip} {scratch out : ℕ} (asks : TileAsks pic stride r lo hi b clip scratch out)
+module _ {pic : List ℕ} {stride : ℕ} {r : Rect} {lo hi b : ℕ} {clip : Clip} {scratch out : ℕ} (asks : MappingAsks pic stride r lo hi b clip scratch out)
     (d : List ℕ) {s : List ℕ} (e : s ≡ onto d (countsOf lo hi b (greysOf pic stride r))) where
   -- what it asks
   pub tile-value-asks : {k : ℕ} → k < b → ValueAsks clip (r .width * r .height) lo hi k (take b s)
   tile-value-asks l =
-      let from : FromAsks clip (r .width * r .height) lo hi (take b s) out = tile-asks asks d e in
+      let from : FromCountsAsks clip (r .width * r .height) lo hi (take b s) out = tile-asks asks d e in
       record { counted = from .counted; some = from .some; order = from .order; most = from .most; bin = omega (arith, tile-part asks d e) }
 
   -- the front of the scratch holds the counts

@@ -14,7 +14,7 @@ use Rattle.settings.specs.declared.Settings.{Settings}
 use Rattle.settings.specs.Settings.{binsOf, entriesOf}
 
 -- the mapped value of bin k of the tile in tile row j and tile column i: "tiles row by row, bins upward"
-unfoldable pub mappedAt : Settings → List ℕ → ℕ → ℕ → ℕ → ℕ
+unfoldable pub mappedAt : (s : Settings) (m : List ℕ) (j i k : ℕ) → ℕ
 mappedAt s m j i k = getD m ((j * s .across + i) * binsOf s + k) 0
 
 -- "With A, B', C, D the four tiles' mapped values (upper left, upper right, lower left, lower right) of the pixel's bin": the grey of a pixel of bin k at these places

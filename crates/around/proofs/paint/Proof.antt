@@ -6,7 +6,7 @@ use lib.ListN.{length}
 use native.Mathlib.Omega.{arith}
 use Rattle.lists.specs.Lists.{blocks}
 use Rattle.lists.proofs.Fills.{blocks-none}
-use Rattle.around.specs.Around.{aroundRow, Behind}
+use Rattle.around.specs.Around.{aroundRow, BehindTwiceBins}
 use Rattle.around.proofs.Rows.{target-small, row-room, row-asks, rows-next, rows-length, rows-end, behind-first, behind-next, behind-clear}
 use borrow.Author.Needs.{needs}
 use Rattle.around.proofs.paint.Statement.{statement}
@@ -18,7 +18,7 @@ use Rattle.lists.proofs.clear.Reads as clear-reads
 use Rattle.settings.proofs.bins.Reads as bins-reads
 
 abbrev Inv-loop : tie.InvT-loop
-Inv-loop picture width height side s target₀ scratch₀ wide y₀ target scratch y = (y ≤ height) × (length target ≡ length target₀) × (target ≡ blocks width (aroundRow width height picture side s) target₀ y) × Behind s scratch₀ scratch
+Inv-loop picture width height side s target₀ scratch₀ wide y₀ target scratch y = (y ≤ height) × (length target ≡ length target₀) × (target ≡ blocks width (aroundRow width height picture side s) target₀ y) × BehindTwiceBins s scratch₀ scratch
 
 abbrev μ-loop : tie.MeasureT-loop
 μ-loop picture width height side s target₀ scratch₀ wide y₀ target scratch y = height - y

@@ -7,7 +7,7 @@ use native.Mathlib.Omega.{arith}
 use Rattle.lists.specs.Lists.{filled}
 use Rattle.lists.proofs.Fills.{filled-none, filled-step}
 use Rattle.lists.proofs.Windows.{filled-all}
-use Rattle.around.specs.Around.{aroundGrey, aroundRow, Held}
+use Rattle.around.specs.Around.{aroundGrey, aroundRow, RegionHeld}
 use Rattle.around.proofs.Rows.{factor-asks, start-asks, held-first, pixel-asks, held-next, held-end}
 use borrow.Author.Needs.{needs}
 use Rattle.around.proofs.paint_row.Statement.{statement}
@@ -20,7 +20,7 @@ use Rattle.binning.proofs.bin_factor.Reads as bin-factor-reads
 use Rattle.settings.proofs.bins.Reads as bins-reads
 
 abbrev Inv-loop : tie.InvT-loop
-Inv-loop picture width height side s y out₀ scratch₀ bins factor x₀ out scratch x = (x ≤ width) × (length out ≡ length out₀) × (out ≡ filled (λ i. aroundGrey width height picture side s i y) out₀ x) × Held width height picture side s x y bins scratch₀ scratch
+Inv-loop picture width height side s y out₀ scratch₀ bins factor x₀ out scratch x = (x ≤ width) × (length out ≡ length out₀) × (out ≡ filled (λ i. aroundGrey width height picture side s i y) out₀ x) × RegionHeld width height picture side s x y bins scratch₀ scratch
 
 abbrev μ-loop : tie.MeasureT-loop
 μ-loop picture width height side s y out₀ scratch₀ bins factor x₀ out scratch x = width - x

@@ -5,7 +5,7 @@ use mathlib.Core.Bool.{true, false}
 use native.Mathlib.Nat.{mul-le-mul}
 use native.Mathlib.Omega.{arith}
 use borrow.Author.Tests.{not-true, not-false}
-use Rattle.around.proofs.Table.{work-scratch, work-target, work-greys}
+use Rattle.around.proofs.Table.{around-work-scratch, around-work-target, around-work-greys}
 use borrow.Author.Needs.{needs}
 use Rattle.around.proofs.work_refusal.Statement.{statement}
 use Rattle.around.proofs.work_refusal.Tie as tie
@@ -24,22 +24,22 @@ mul-if1 : tie.Need-mul-if1
 mul-if1 c = search needs
 
 returns : tie.Need-returns
-returns c = work-scratch _ _ _ _ _ _ (c .before .bins .ensures) (c .if1 .taken)
+returns c = around-work-scratch _ _ _ _ _ _ (c .before .bins .ensures) (c .if1 .taken)
 
 mul-if2 : tie.Need-mul-if2
 mul-if2 c = omega (arith, mul-le-mul {n₂ = 4096} {m₂ = 4096} (c .before .before .before .pre .0) (c .before .before .before .pre .1))
 
 returns-2 : tie.Need-returns-2
-returns-2 c = work-target _ _ _ _ _ _ (c .before .before .bins .ensures) (c .before .if1 .left) (c .if2 .taken)
+returns-2 c = around-work-target _ _ _ _ _ _ (c .before .before .bins .ensures) (c .before .if1 .left) (c .if2 .taken)
 
 all-within-requires : tie.Need-all-within-requires
 all-within-requires c κs = search needs
 
 returns-3 : tie.Need-returns-3
-returns-3 c = work-greys _ _ _ _ _ _ (c .before .before .before .before .bins .ensures) (c .before .before .before .if1 .left) (c .before .before .if2 .left) false (sym (not-true _ (c .if3 .taken)) ∙ c .before .all-within .ensures)
+returns-3 c = around-work-greys _ _ _ _ _ _ (c .before .before .before .before .bins .ensures) (c .before .before .before .if1 .left) (c .before .before .if2 .left) false (sym (not-true _ (c .if3 .taken)) ∙ c .before .all-within .ensures)
 
 returns-4 : tie.Need-returns-4
-returns-4 c = work-greys _ _ _ _ _ _ (c .before .before .before .before .bins .ensures) (c .before .before .before .if1 .left) (c .before .before .if2 .left) true (sym (not-false _ (c .if3 .left)) ∙ c .before .all-within .ensures)
+returns-4 c = around-work-greys _ _ _ _ _ _ (c .before .before .before .before .bins .ensures) (c .before .before .before .if1 .left) (c .before .before .if2 .left) true (sym (not-false _ (c .if3 .left)) ∙ c .before .all-within .ensures)
 
 pub work-refusal-spec : {M : Type 1} → statement M
 work-refusal-spec =

@@ -2,7 +2,7 @@
 -- Assumes nothing.
 use mathlib.Core.Path.{sym, _∙_}
 use Rattle.byte_draw.proofs.Tables.{byte-window-ready}
-use Rattle.byte_draw.proofs.Works.{ends-refused, ends-well}
+use Rattle.byte_draw.proofs.Works.{byte-draw-ends-refused, byte-draw-ends-well}
 use borrow.Author.Needs.{needs}
 use Rattle.byte_draw.proofs.draw_bytes.Statement.{statement}
 use Rattle.byte_draw.proofs.draw_bytes.Tie as tie
@@ -12,7 +12,7 @@ refusal-requires c κs = search needs
 
 returns : tie.Need-returns
 returns c = (
-  ends-refused _ _ _ _ _ _ _ _ _ (c .before .refusal .ensures .0) (c .if1 .taken),
+  byte-draw-ends-refused _ _ _ _ _ _ _ _ _ (c .before .refusal .ensures .0) (c .if1 .taken),
   c .before .refusal .ensures .1,
   c .before .refusal .ensures .2,
 )
@@ -25,7 +25,7 @@ same-length c = search needs
 
 returns-2 : tie.Need-returns-2
 returns-2 c = (
-  ends-well _ _ _ _ _ _ _ _ _ (c .before .before .before .before .before .refusal .ensures .0) (c .before .before .before .before .if1 .left) (c .before .before .work .ensures),
+  byte-draw-ends-well _ _ _ _ _ _ _ _ _ (c .before .before .before .before .before .refusal .ensures .0) (c .before .before .before .before .if1 .left) (c .before .before .work .ensures),
   c .before .before .before .before .before .refusal .ensures .1,
   c .before .before .before .before .before .refusal .ensures .2,
 )

@@ -17,7 +17,7 @@ returns c = written-front _ _ _ _ _ _ (c .before .picture-refusal .ensures) (c .
 header-length-requires : tie.Need-header-length-requires
 header-length-requires c κs =
     let t = picture-film _ _ _ _ (sym (c .before .picture-refusal .ensures) ∙ c .if1 .left) .within in
-    (omega (arith, t .widest), omega (arith, t .highest), omega (arith, t .brightest))
+    (omega (arith, t .widest), omega (arith, t .highest), omega (arith, t .maxval-most))
 
 raster-size-requires : tie.Need-raster-size-requires
 raster-size-requires c κs =

@@ -6,13 +6,13 @@ use lib.ListN.{length}
 use Rattle.lists.specs.Lists.{filled}
 use Rattle.lists.proofs.Fills.{filled-none, filled-step}
 use Rattle.lists.proofs.Windows.{filled-all}
-use Rattle.plain_lines.specs.Pairs.{pairOf, pairs100}
+use Rattle.plain_lines.specs.Pairs.{pairWord, pairs100}
 use borrow.Author.Needs.{needs}
 use Rattle.plain_lines.proofs.fill_pairs.Statement.{statement}
 use Rattle.plain_lines.proofs.fill_pairs.Tie as tie
 
 abbrev Inv-loop : tie.InvT-loop
-Inv-loop pairs₀ i₀ pairs i = (i ≤ 100) × (length pairs₀ ≡ 100) × (length pairs ≡ 100) × (pairs ≡ filled pairOf pairs₀ i)
+Inv-loop pairs₀ i₀ pairs i = (i ≤ 100) × (length pairs₀ ≡ 100) × (length pairs ≡ 100) × (pairs ≡ filled pairWord pairs₀ i)
 
 abbrev μ-loop : tie.MeasureT-loop
 μ-loop pairs₀ i₀ pairs i = 100 - i

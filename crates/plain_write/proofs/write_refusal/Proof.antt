@@ -18,7 +18,7 @@ returns c = written-front _ _ _ _ _ _ (c .before .picture-refusal .ensures) (c .
 header-length-requires : tie.Need-header-length-requires
 header-length-requires c κs =
     let t = picture-film _ _ _ _ (sym (c .before .picture-refusal .ensures) ∙ c .if1 .left) .within in
-    (omega (arith, t .widest), omega (arith, t .highest), omega (arith, t .brightest))
+    (omega (arith, t .widest), omega (arith, t .highest), omega (arith, t .maxval-most))
 
 mul-if2 : tie.Need-mul-if2
 mul-if2 c =

@@ -8,14 +8,14 @@ use native.Mathlib.Nat.{mul-one}
 use native.Mathlib.Omega.{arith}
 use borrow.Author.Needs.{needs}
 use Rattle.lists.proofs.Overs.{set-over}
-use Rattle.samples.specs.Samples.{isWide, sizeOf}
+use Rattle.samples.specs.Samples.{isWide, sampleBytes}
 use Rattle.samples.proofs.Bounds.{bound-at}
 use Rattle.samples.proofs.Packing.{laid, laid-first, laid-next, laid-end}
 use Rattle.samples.proofs.pack_bytes.Statement.{statement}
 use Rattle.samples.proofs.pack_bytes.Tie as tie
 
 abbrev Inv-loop : tie.InvT-loop
-Inv-loop greys out₀ i₀ out i = (i ≤ length greys) × (length greys * sizeOf false ≤ length out₀) × (length out ≡ length out₀) × (out ≡ laid false greys out₀ i)
+Inv-loop greys out₀ i₀ out i = (i ≤ length greys) × (length greys * sampleBytes false ≤ length out₀) × (length out ≡ length out₀) × (out ≡ laid false greys out₀ i)
 
 abbrev μ-loop : tie.MeasureT-loop
 μ-loop greys out₀ i₀ out i = length greys - i

@@ -7,13 +7,13 @@ use lib.ListN.{length, length-set, getD}
 use native.Mathlib.Omega.{arith}
 use borrow.Author.Needs.{needs}
 use Rattle.lists.proofs.Overs.{over-two}
-use Rattle.samples.specs.Samples.{sizeOf}
+use Rattle.samples.specs.Samples.{sampleBytes}
 use Rattle.samples.proofs.Packing.{laid, laid-first, laid-next, laid-end}
 use Rattle.samples.proofs.pack_pairs.Statement.{statement}
 use Rattle.samples.proofs.pack_pairs.Tie as tie
 
 abbrev Inv-loop : tie.InvT-loop
-Inv-loop greys out₀ k₀ out k = (k ≤ length greys) × (length greys * sizeOf true ≤ length out₀) × (length out ≡ length out₀) × (out ≡ laid true greys out₀ k)
+Inv-loop greys out₀ k₀ out k = (k ≤ length greys) × (length greys * sampleBytes true ≤ length out₀) × (length out ≡ length out₀) × (out ≡ laid true greys out₀ k)
 
 abbrev μ-loop : tie.MeasureT-loop
 μ-loop greys out₀ k₀ out k = length greys - k

@@ -1,5 +1,5 @@
 -- `filmset::axes::of` meets its contract: an axis for the width, one for the height. Assumes nothing.
-use Rattle.filmset.specs.Filmset.{axesOf}
+use Rattle.filmset.specs.Filmset.{madeAxes}
 use borrow.Author.Needs.{needs}
 use Rattle.filmset.proofs.axes.of.Statement.{statement}
 use Rattle.filmset.proofs.axes.of.Tie as tie
@@ -11,7 +11,7 @@ made-axis-requires-2 : tie.Need-made-axis-requires-2
 made-axis-requires-2 c κs = search needs
 
 returns : tie.Need-returns
-unfolding axesOf
+unfolding madeAxes
 returns c = cc
 
 pub of-spec : {M : Type 1} → statement M

@@ -2,7 +2,7 @@
 use borrow.Author.Needs.{needs}
 use mathlib.Core.Path.{refl}
 use borrow.Author.Tests.{lt-ltb, le-ltb, eq-eqb, ne-eqb}
-use Rattle.filmset.specs.Filmset.{placeOf}
+use Rattle.filmset.specs.Filmset.{fieldColumn}
 use Rattle.filmset.proofs.film.place.Statement.{statement}
 use Rattle.filmset.proofs.film.place.Tie as tie
 
@@ -10,18 +10,18 @@ add-result : tie.Need-add-result
 add-result c = search needs
 
 returns : tie.Need-returns
-unfolding placeOf
+unfolding fieldColumn
 returns c = rw (lt-ltb _ _ (c .if1 .taken)) refl
 
 returns-2 : tie.Need-returns-2
-unfolding placeOf
+unfolding fieldColumn
 returns-2 c = rw (le-ltb _ _ (c .before .if1 .left), eq-eqb _ _ (c .if2 .taken)) refl
 
 add-result-2 : tie.Need-add-result-2
 add-result-2 c = search needs
 
 returns-3 : tie.Need-returns-3
-unfolding placeOf
+unfolding fieldColumn
 returns-3 c = rw (le-ltb _ _ (c .before .if1 .left), ne-eqb _ _ (c .if2 .left)) refl
 
 pub place-spec : {M : Type 1} → statement M

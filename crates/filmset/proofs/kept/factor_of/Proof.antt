@@ -3,19 +3,19 @@ use Rattle.filmset.proofs.Nans.{low-no-nan}
 use mathlib.Core.Path.{refl}
 use lib.Ieee.{div, ofBits}
 use borrow.Author.Tests.{lt-ltb, le-ltb}
-use Rattle.filmset.specs.Filmset.{factorOf}
+use Rattle.filmset.specs.Filmset.{floatOf}
 use Rattle.filmset.proofs.kept.factor_of.Statement.{statement}
 use Rattle.filmset.proofs.kept.factor_of.Tie as tie
 
 returns : tie.Need-returns
-unfolding div ofBits factorOf
+unfolding div ofBits floatOf
 returns c = rw (lt-ltb _ _ (c .if1 .taken)) refl
 
 float-from-bits-result : tie.Need-float-from-bits-result
 float-from-bits-result c = low-no-nan _ (c .if1 .left)
 
 returns-2 : tie.Need-returns-2
-unfolding factorOf
+unfolding floatOf
 returns-2 c = rw (le-ltb _ _ (c .if1 .left)) refl
 
 pub factor-of-spec : {M : Type 1} → statement M

@@ -1,6 +1,6 @@
 -- `filmset::kept::record` meets its contract: the map record of the eleven, with the axes. Assumes nothing.
 use mathlib.Core.Path.{refl}
-use Rattle.filmset.specs.Filmset.{recordOf}
+use Rattle.filmset.specs.Filmset.{keptMapRecord}
 use borrow.Author.Needs.{needs}
 use Rattle.filmset.proofs.kept.record.Statement.{statement}
 use Rattle.filmset.proofs.kept.record.Tie as tie
@@ -9,7 +9,7 @@ settings-requires : tie.Need-settings-requires
 settings-requires c κs = search needs
 
 returns : tie.Need-returns
-unfolding recordOf
+unfolding keptMapRecord
 returns c = rw (c .before .before .settings .ensures) refl
 
 pub record-spec : {M : Type 1} → statement M

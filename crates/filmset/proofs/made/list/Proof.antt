@@ -5,13 +5,13 @@ use mathlib.Core.Path.{_≡_, refl, _∙_}
 use lib.ListN.{length, length-replicate}
 use Rattle.lists.specs.Lists.{filled}
 use Rattle.lists.proofs.Fills.{filled-none, filled-step, filled-end}
-use Rattle.filmset.specs.Filmset.{listOf}
+use Rattle.filmset.specs.Filmset.{listEntry}
 use Rattle.filmset.proofs.Digests.{filled-full}
 use Rattle.filmset.proofs.made.list.Statement.{statement}
 use Rattle.filmset.proofs.made.list.Tie as tie
 
 abbrev Inv-loop : tie.InvT-loop
-Inv-loop entries₀ i₀ entries i = (i ≤ 600) × (length entries₀ ≡ 600) × (entries ≡ filled listOf entries₀ i)
+Inv-loop entries₀ i₀ entries i = (i ≤ 600) × (length entries₀ ≡ 600) × (entries ≡ filled listEntry entries₀ i)
 
 abbrev μ-loop : tie.MeasureT-loop
 μ-loop entries₀ i₀ entries i = 600 - i
@@ -35,7 +35,7 @@ loop-less : tie.Need-loop-less Inv-loop μ-loop
 loop-less c = search needs
 
 loop-again : tie.Need-loop-again Inv-loop μ-loop
-unfolding listOf
+unfolding listEntry
 loop-again c = (search needs, search needs, filled-step _ _ (c .before .loop .inv .2) (search needs) refl)
 
 returns : tie.Need-returns Inv-loop μ-loop
