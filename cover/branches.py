@@ -11,9 +11,10 @@ import re
 import sys
 
 # What is not ours: the kit's libraries, the compiler's own, and the test programs themselves.
-OTHERS = ("libc", "io", "std", "check", "os", "rattle-llvm-checks", "text", "filmset", "byte_set", "count_set", "films", "calls",
-          "byte_films", "byte_calls", "count_films", "count_calls", "plain_films", "reach_films", "room_films", "direct_films",
-          "around_films", "listing_set", "numbers")
+OTHERS = ("libc", "io", "std", "check", "os", "rattle-llvm-checks", "test_text", "test_set", "test_byte_set", "test_count_set",
+          "test_films", "test_calls", "test_byte_films", "test_byte_calls", "test_count_films", "test_count_calls",
+          "test_plain_films", "test_reach_films", "test_room_films", "test_direct_films", "test_around_films", "test_listings",
+          "test_numbers")
 
 # How many counters counts.c has room for.
 MOST = 100000

@@ -70,8 +70,8 @@ def main():
     with tempfile.TemporaryDirectory() as above:
         room = above + "/second"
         shutil.copytree(f"{top}/second", room)
-        shutil.copytree(f"{top}/crates/listing_set/src", above + "/crates/listing_set/src")
-        for program in ("films", "byte_films", "count_films"):
+        shutil.copytree(f"{top}/crates/test_listings/src", above + "/crates/test_listings/src")
+        for program in ("test_films", "test_byte_films", "test_count_films"):
             os.mkdir(f"{above}/crates/{program}")
             with open(f"{top}/crates/{program}/stdin", encoding="ascii") as text, open(f"{above}/crates/{program}/stdin", "w", encoding="ascii") as out:
                 out.writelines(line for line in text if small(line))

@@ -4,6 +4,8 @@ landings, which tell of the tree as it was: what they have in backticks as `crat
 path or a single word is there, and so is each page that they link to. crates.txt: each crate names what it uses itself.
 Must-fail edits: what each replaces stands once. A program over the calls for C has the rows and the stored text of the one
 over the calls themselves.
+Shelves: each crate's name begins with one, and README names it. Hinges (toolchain/hinges): each stands in its crate, and is opened
+there alone.
 
 Run: python3 -B docs/check.py
 """
@@ -11,6 +13,7 @@ Run: python3 -B docs/check.py
 import glob
 import os
 import re
+import subprocess
 import sys
 
 TOP = os.path.dirname(os.path.dirname(os.path.abspath(__file__)))
@@ -22,15 +25,18 @@ PART = re.compile(r"^(?:`(?P<crate>\w+)` )?(?P<module>[A-Z]\w*): ")
 OUTSIDE = {"qemu-user", "chromium-driver", "python3-selenium", "side31", "tool-ID"}
 OUTSIDE.update({"paddd", "pmulhuw", "pmullw", "pmuludq", "psubusw"})
 
+# what a crate's name begins with
+SHELVES = ("base_", "tile_", "pixel_", "film_", "byte_", "pgm_", "listing_", "promise_", "c_", "test_")
+
 # a crate that holds a value of another's type without naming anything of it
-REACHED = {"listing_program": {"pgm_write"}, "draw": {"limit"}, "byte_draw": {"limit"}}
-# a map record holds what `grid` keeps of an axis
-REACHED.update({"prepare": {"limit", "grid"}, "counts": {"limit", "grid"}, "byte_film": {"limit", "grid"}})
-REACHED.update({name: {"grid"} for name in ("film_lines", "abi", "abi_bytes", "reach_films")})
-REACHED["abi_counts"] = {"grid", "prepare"}
-# a set of a room holds settings, whose clip and edition are `limit`'s
-REACHED.update({"room": {"limit"}, "abi_room": {"limit"}})
-REACHED.update({"direct": {"limit"}, "direct_films": {"grid"}})
+REACHED = {"listing_program": {"pgm_write"}, "film_draw": {"tile_limit"}, "byte_draw": {"tile_limit"}}
+# a map record holds what `pixel_grid` keeps of an axis
+REACHED.update({"film_prepare": {"tile_limit", "pixel_grid"}, "film_map": {"tile_limit", "pixel_grid"}, "byte_prepare": {"tile_limit", "pixel_grid"}})
+REACHED.update({name: {"pixel_grid"} for name in ("listing_film", "c_films", "c_bytes", "test_reach_films")})
+REACHED["c_counts"] = {"pixel_grid", "film_prepare"}
+# a set of a room holds settings, whose clip and edition are `tile_limit`'s
+REACHED.update({"film_room": {"tile_limit"}, "c_room": {"tile_limit"}})
+REACHED.update({"film_direct": {"tile_limit"}, "test_direct_films": {"pixel_grid"}})
 
 
 def read(path):
@@ -130,10 +136,10 @@ def uses(crate):
     named, own = set(), {crate}
     for path in glob.glob(f"{TOP}/crates/{crate}/**/*", recursive=True):
         if path.endswith(".rt"):
-            own.update(re.findall(r"^(?:pub )?mod ([a-z_]+);", read(path), re.M))
-            named.update(re.findall(r"(?<![:\w])([a-z_]+)::", re.sub("//.*", "", read(path))))
+            own.update(re.findall(r"^(?:pub )?mod ([a-z_0-9]+);", read(path), re.M))
+            named.update(re.findall(r"(?<![:\w])([a-z_0-9]+)::", re.sub("//.*", "", read(path))))
         if path.endswith((".rt", ".antt")):
-            named.update(re.findall(r"Rattle·([a-z_]+)\.", read(path)))
+            named.update(re.findall(r"Rattle·([a-z_0-9]+)\.", read(path)))
     return named - own
 
 
@@ -167,9 +173,22 @@ def stale():
     return faults
 
 
+def shelves():
+    """The crates whose names begin with no shelf, and those that README does not name."""
+    crates, said = sorted(os.listdir(TOP + "/crates")), read("README.md")
+    faults = [f"crates/{name} stands on no shelf" for name in crates if not name.startswith(SHELVES)]
+    return faults + [f"README.md: {name} is a crate and is not named" for name in crates if f"`{name}`" not in said]
+
+
+def hinges():
+    """What toolchain/hinges says: a hinge that is opened outside its crate, or that its crate does not state."""
+    said = subprocess.run([sys.executable, "-B", TOP + "/toolchain/hinges"], capture_output=True, text=True, check=False)
+    return [] if said.returncode == 0 else (said.stdout + said.stderr).splitlines()
+
+
 def calls():
     """Where a program over the calls for C has other rows, or another stored text, than the one over the calls themselves."""
-    pairs = [("films", "calls"), ("byte_films", "byte_calls"), ("count_films", "count_calls")]
+    pairs = [("test_films", "test_calls"), ("test_byte_films", "test_byte_calls"), ("test_count_films", "test_count_calls")]
     return [f"crates/{by_c}/{name} differs from that of {own}"
             for own, by_c in pairs for name in ("stdin", "stdout")
             if read(f"crates/{own}/{name}") != read(f"crates/{by_c}/{name}")]
@@ -187,8 +206,8 @@ def main():
     faults = ["PROMISES.md: " + fault for part in parts for fault in missing(part, stated, known)]
     faults += [f"PROMISES.md: {name} is named and is no edit" for name in sorted(named - edits)]
     faults += [f"PROMISES.md: {name} is an edit and is not named" for name in sorted(edits - named)]
-    faults += [f"PROMISES.md: '{line[:40]}..' is a row of {len(line)} characters: part it" for line in lines if len(line) > 600]
-    faults += papers(stated) + listed() + stale() + calls()
+    faults += [f"PROMISES.md: '{line[:40]}..' is a row of {len(line)} characters: part it" for line in lines if len(line) > 700]
+    faults += papers(stated) + listed() + shelves() + stale() + hinges() + calls()
     for fault in faults:
         print(fault, file=sys.stderr)
     print(f"PROMISES.md names {len(edits & named)} of {len(edits)} must-fail edits, and in {len(parts)} places what carries a promise")

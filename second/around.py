@@ -2,7 +2,7 @@
 FILMS.md.
 
 Run: python3 second/around.py   prints the text that FILMS.md describes.
-The rows are read from crates/around_films/stdin, which the proved program reads
+The rows are read from crates/test_around_films/stdin, which the proved program reads
 too.  Every region is counted anew here: nothing moves on from pixel to pixel.
 Besides, each accepted film is held to what the order promises of regions.
 """
@@ -155,7 +155,7 @@ def run_row(text, row):
 def run():
     """The whole text."""
     text = films.Text()
-    for letter, numbers in films.lines("around_films"):
+    for letter, numbers in films.lines("test_around_films"):
         row = dict(zip(AROUND, numbers))
         assert letter == "F" and len(row) == len(AROUND) == len(numbers), numbers
         run_row(text, row)

@@ -1,7 +1,7 @@
 """The byte rows of FILMS.md, run through the second program's byte calls.
 
 Run: python3 second/byte_films.py   prints the text that FILMS.md describes.
-The rows are read from crates/byte_films/stdin, which the proved program reads
+The rows are read from crates/test_byte_films/stdin, which the proved program reads
 too.
 """
 
@@ -19,7 +19,7 @@ BYTES = films.Calls(clahe.prepare_bytes, clahe.draw_bytes, clahe.enhance_bytes,
 
 def run():
     """The whole text."""
-    found = films.rows("byte_films")
+    found = films.rows("test_byte_films")
     cases = films.film_rows(found)
     text = films.Text()
     for letter, row, _ in found:

@@ -2,7 +2,7 @@
 mapping.
 
 Run: python3 second/count_films.py   prints the text that FILMS.md describes.
-The rows are read from crates/count_films/stdin, which the proved program reads
+The rows are read from crates/test_count_films/stdin, which the proved program reads
 too.
 """
 
@@ -91,7 +91,7 @@ def run_turns(text, row, turns, case):
 def run():
     """The whole text."""
     text, cases = films.Text(), {}
-    for letter, numbers in films.lines("count_films"):
+    for letter, numbers in films.lines("test_count_films"):
         columns = FILM if letter == "F" else MAPPING
         row, rest = dict(zip(columns, numbers)), numbers[len(columns):]
         assert len(row) == len(columns) and len(rest) == (0 if letter == "F" else len(TURN) * row["turns"]), numbers

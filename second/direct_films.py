@@ -2,7 +2,7 @@
 beside it, through enhance.
 
 Run: python3 second/direct_films.py   prints the text that FILMS.md describes.
-The rows are read from crates/direct_films/stdin, which the proved program reads
+The rows are read from crates/test_direct_films/stdin, which the proved program reads
 too.  Besides, each row is held to what the order promises.
 """
 
@@ -39,7 +39,7 @@ def held(row, painted, target, scratch, enhanced, picture, spare):
 def run():
     """The whole text."""
     text = films.Text()
-    for letter, numbers in films.lines("direct_films"):
+    for letter, numbers in films.lines("test_direct_films"):
         row = dict(zip(FILM, numbers))
         assert letter == "F" and len(row) == len(FILM) == len(numbers), numbers
         no, width, height, settings = row["no"], row["width"], row["height"], films.settings_of(row)

@@ -1,7 +1,7 @@
 """The film set of FILMS.md, run through the second program.
 
 Run: python3 second/films.py   prints the text that FILMS.md describes.
-The rows are read from crates/films/stdin, which the proved programs read too.
+The rows are read from crates/test_films/stdin, which the proved programs read too.
 
 The generator (no random source): g -> (g * 1103515245 + 12345) mod 2^31,
 started at the row's seed.  The digest of a buffer: h = 7, then
@@ -373,7 +373,7 @@ def run_list(text, row, data):
 
 def run():
     """The whole text."""
-    found = rows("films")
+    found = rows("test_films")
     films = film_rows(found)
     text = Text()
     for letter, row, listed in found:

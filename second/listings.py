@@ -1,8 +1,8 @@
-"""What the program `listing_set` has to print, by the second program.
+"""What the program `test_listings` has to print, by the second program.
 
-Run: python3 second/listings.py > crates/listing_set/stdout
+Run: python3 second/listings.py > crates/test_listings/stdout
 
-The inputs that stand as byte strings in crates/listing_set/src/main.rt are read from
+The inputs that stand as byte strings in crates/test_listings/src/main.rt are read from
 there (its byte strings are Python's too); the four that it makes in arrays are made
 here by what document 01 says of a file: header, then the raster.
 """
@@ -16,7 +16,7 @@ sys.dont_write_bytecode = True
 
 import listing
 
-SOURCE = os.path.join(os.path.dirname(os.path.abspath(__file__)), "..", "crates", "listing_set", "src", "main.rt")
+SOURCE = os.path.join(os.path.dirname(os.path.abspath(__file__)), "..", "crates", "test_listings", "src", "main.rt")
 
 MADE = {
     29: bytes(32768),

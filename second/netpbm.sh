@@ -34,10 +34,10 @@ def agree(what, ours, netpbm):
     agreed += 1
 
 
-# 1. The files that the program `outside` reads: the bytes of its input, a line behind each command, and what it prints of them.
-given = open("crates/outside/stdin").read().split("\n")
+# 1. The files that the program `test_netpbm` reads: the bytes of its input, a line behind each command, and what it prints of them.
+given = open("crates/test_netpbm/stdin").read().split("\n")
 stored = {command: bytes(int(n) for n in numbers.split()) for command, numbers in zip(given[::2], given[1::2])}
-printed = open("crates/outside/stdout").read()
+printed = open("crates/test_netpbm/stdout").read()
 for command, data in stored.items():
     if tool(command) != data:
         # Another edition of the tools may make other noise: the stored bytes still are theirs.
@@ -45,9 +45,9 @@ for command, data in stored.items():
     behind = printed.split(command + "\n", 1)[1]
     if not behind.startswith("refused"):
         text, last = behind.split("written ", 1)
-        agree("outside's text of: " + command, text, tool("pamtopnm -plain", data).decode())
+        agree("test_netpbm's text of: " + command, text, tool("pamtopnm -plain", data).decode())
         raw = " ".join(str(n) for n in tool("pamtopnm", data))
-        agree("outside's bytes of: " + command, last.split("\n", 1)[0], "raw: " + raw if data[:2] == b"P2" else "again: the same bytes")
+        agree("test_netpbm's bytes of: " + command, last.split("\n", 1)[0], "raw: " + raw if data[:2] == b"P2" else "again: the same bytes")
         agreed -= 1
 
 # 2. Files that the second program's writer makes: Netpbm reads the same film, and writes the same bytes. `pamtopnm` would turn maxval 1 into

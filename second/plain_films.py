@@ -1,7 +1,7 @@
 """The rows of plain files of FILMS.md, run through the second program.
 
 Run: python3 second/plain_films.py   prints the text that FILMS.md describes.
-The rows are read from crates/plain_films/stdin, which the proved program reads
+The rows are read from crates/test_plain_films/stdin, which the proved program reads
 too.
 """
 
@@ -17,7 +17,7 @@ TOP = os.path.dirname(os.path.dirname(os.path.abspath(__file__)))
 
 def rows():
     """(letter, numbers) of each row; a line that starts with # is a note."""
-    path = os.path.join(TOP, "crates", "plain_films", "stdin")
+    path = os.path.join(TOP, "crates", "test_plain_films", "stdin")
     with open(path, encoding="ascii") as text:
         lines = [line.split() for line in text if line.strip()]
     return [(line[0], [int(n) for n in line[1:]]) for line in lines

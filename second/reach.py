@@ -2,7 +2,7 @@
 FILMS.md.
 
 Run: python3 second/reach.py   prints the text that FILMS.md describes.
-The rows are read from crates/reach_films/stdin, which the proved program reads
+The rows are read from crates/test_reach_films/stdin, which the proved program reads
 too.  Besides, each row is held to what the order promises.
 """
 
@@ -129,7 +129,7 @@ def run():
     """The whole text, and of the four tiles that a pixel uses those in which a
     scratch was seen to alter it."""
     text, cases, altered = films.Text(), {}, set()
-    for letter, numbers in films.lines("reach_films"):
+    for letter, numbers in films.lines("test_reach_films"):
         columns = films.COLUMNS["F"] if letter == "F" else SCRATCH
         row = dict(zip(columns, numbers))
         assert len(row) == len(columns) == len(numbers), numbers

@@ -2,7 +2,7 @@
 room rows of FILMS.md, run through it.
 
 Run: python3 second/room_films.py   prints the text that FILMS.md describes.
-The rows are read from crates/room_films/stdin, which the proved program reads
+The rows are read from crates/test_room_films/stdin, which the proved program reads
 too.
 
 A room is a list of sets (number, width, height, settings); where a set's
@@ -265,7 +265,7 @@ def run_stored(text, no, room, known):
 def run():
     """The whole text."""
     text, cases, known, room = films.Text(), {}, {}, None
-    for letter, numbers in films.lines("room_films"):
+    for letter, numbers in films.lines("test_room_films"):
         row = dict(zip(COLUMNS[letter], numbers))
         assert len(numbers) == len(COLUMNS[letter]), numbers
         if letter == "F":

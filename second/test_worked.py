@@ -769,8 +769,8 @@ def fitted():
 
 def larges():
     """Numbers of films that no program of the toolchain has room for: sums above 32 bits, and the largest tile whose
-    division the library makes a product. The program `numbers` prints them; what it must print is held to the rules here."""
-    path = os.path.join(os.path.dirname(os.path.abspath(__file__)), "..", "crates", "numbers", "stdout")
+    division the library makes a product. The program `test_numbers` prints them; what it must print is held to the rules here."""
+    path = os.path.join(os.path.dirname(os.path.abspath(__file__)), "..", "crates", "test_numbers", "stdout")
     with open(path, encoding="ascii") as text:
         stored = dict(line.rstrip("\n").split("\t") for line in text)
     wanted = clahe.mapping_of([2048 * 2048 - 1, 1], 0, 4095, 2048 * 2048)[0]

@@ -52,10 +52,10 @@ report "$ok" 'a build that waits for another says so' "status $saw: $(head -n 1 
 mkdir -p fake
 cat >fake/rt <<END
 #!/bin/sh
-seq -f 'fn lists::f%g: proved' 400
-echo 'rt: lists proved (10 s)'
-echo 'rt: clip proved (unchanged since it was last proved)'
-[ ! -e "$room/broken" ] || { echo 'rt: scan NOT PROVED: a goal is open'; exit 1; }
+seq -f 'fn base_lists::f%g: proved' 400
+echo 'rt: base_lists proved (10 s)'
+echo 'rt: tile_clip proved (unchanged since it was last proved)'
+[ ! -e "$room/broken" ] || { echo 'rt: base_range NOT PROVED: a goal is open'; exit 1; }
 cp "$top/target/staticlib/lib\$2.a" target/staticlib/
 echo "rt: target/staticlib/lib\$2.a has the functions of \$2"
 END
@@ -68,15 +68,15 @@ proving() { # WHAT WANTED TOLD
     if [ "$saw" -eq "$2" ] && grep -q "$3" said && [ "$(wc -l <said)" -lt 40 ] && [ "$(wc -l <"$clone/target/staticlib/build.log")" -ge 400 ]; then ok=yes; else ok=no; fi
     report "$ok" "$1" "status $saw, $(wc -l <said) lines: $(head -n 1 said)"
 }
-proving 'a first build: a line a crate, the rest in a log' 0 ': 1 of [0-9]*: lists proved, 10 s$'
+proving 'a first build: a line a crate, the rest in a log' 0 ': 1 of [0-9]*: base_lists proved, 10 s$'
 saw=$(sed -n 's/.*: \([0-9]*\) of [0-9]*: \([a-z_]*\) compiled, [0-9]* s$/\1 \2/p' said | tr '\n' ' ')
-wanted=$(sed 's/#.*//; /^$/d' "$top/station/library.txt" | awk '{ print NR + 2, $1 }' | tr '\n' ' ') # behind lists and clip
+wanted=$(sed 's/#.*//; /^$/d' "$top/station/library.txt" | awk '{ print NR + 2, $1 }' | tr '\n' ' ') # behind base_lists and tile_clip
 if [ -n "$wanted" ] && [ "$saw" = "$wanted" ]; then ok=yes; else ok=no; fi
 report "$ok" 'a first build: what was proved before is counted' "$saw"
 : >broken
-proving 'a first build that fails: what failed, and the end of the log' 1 'scan NOT PROVED'
+proving 'a first build that fails: what failed, and the end of the log' 1 'base_range NOT PROVED'
 rm broken
-proving 'built again' 0 ': 1 of [0-9]*: lists proved, 10 s$'
+proving 'built again' 0 ': 1 of [0-9]*: base_lists proved, 10 s$'
 
 # what removes target/, as the gate does: program, library and the sample's rendering are as they were
 "$clone/station/render" >wrote 2>said

@@ -8,18 +8,18 @@ use mathlib.Core.Path.{_≡_, refl, sym, ap, _∙_}
 use native.Mathlib.Omega.{arith}
 use lib.Dec.{eqb}
 use lib.ListN.{length, getD}
-use Rattle.lists.specs.Lists.{all}
-use Rattle.refuse.specs.Refuse.{first}
-use Rattle.refuse.proofs.Walk.{each-first}
-use Rattle.settings.specs.declared.Settings.{Settings}
-use Rattle.settings.specs.declared.MapRecord.{MapRecord}
-use Rattle.settings.specs.declared.Window.{Window}
-use Rattle.settings.specs.Settings.{settingRows}
-use Rattle.held.specs.Held.{recordRows, windowRows}
-use Rattle.held.proofs.Tables.{record-numbers, window-numbers}
-use Rattle.profile.specs.Profile.{profileRows, byteRows}
-use Rattle.profile.proofs.Profile.{byte-numbers}
-use Rattle.profile.proofs.Outside.{outside-front}
+use Rattle.base_lists.specs.Lists.{all}
+use Rattle.base_rows.specs.Refuse.{first}
+use Rattle.base_rows.proofs.Walk.{each-first}
+use Rattle.film_settings.specs.declared.Settings.{Settings}
+use Rattle.film_settings.specs.declared.MapRecord.{MapRecord}
+use Rattle.film_settings.specs.declared.Window.{Window}
+use Rattle.film_settings.specs.Settings.{settingRows}
+use Rattle.film_record.specs.Held.{recordRows, windowRows}
+use Rattle.film_record.proofs.Tables.{record-numbers, window-numbers}
+use Rattle.byte_profile.specs.Profile.{profileRows, byteRows}
+use Rattle.byte_profile.proofs.Profile.{byte-numbers}
+use Rattle.byte_profile.proofs.Outside.{outside-front}
 use Rattle.byte_draw.specs.Bytes.{byteDrawRows}
 use Rattle.byte_draw.proofs.Tables.{rows-shared, rows-record, rows-window}
 

@@ -5,25 +5,25 @@ use mathlib.Core.List.{List, _++_}
 use mathlib.Core.Path.{_≡_, refl, sym, _∙_}
 use lib.ListN.{length, getD}
 use native.Mathlib.Omega.{arith}
-use Rattle.lists.proofs.Alls.{all-take}
-use Rattle.refuse.specs.Refuse.{first}
-use Rattle.refuse.proofs.Walk.{first-both, front, behind}
-use Rattle.scan.specs.Scan.{within}
-use Rattle.tally.proofs.Greys.{greys-all}
-use Rattle.settings.specs.declared.Settings.{Settings}
-use Rattle.settings.specs.declared.MapRecord.{MapRecord}
-use Rattle.settings.specs.declared.Window.{Window}
-use Rattle.settings.specs.Settings.{entriesOf}
-use Rattle.render.specs.Render.{rectOf}
-use Rattle.held.specs.Held.{recordRows, windowRows}
-use Rattle.draw.specs.Draw.{pixelRows}
-use Rattle.held.proofs.Tables.{record-numbered, window-numbered, window-inside}
-use Rattle.frame.proofs.Frames.{framed}
-use Rattle.draw.proofs.Tables.{pixels-within}
-use Rattle.draw.proofs.Like.{pixel-free}
-use Rattle.profile.specs.Profile.{byteRows}
-use Rattle.profile.proofs.Greys.{bytes-within}
-use Rattle.profile.proofs.Profile.{byte-numbered, byte-ready}
+use Rattle.base_lists.proofs.Alls.{all-take}
+use Rattle.base_rows.specs.Refuse.{first}
+use Rattle.base_rows.proofs.Walk.{first-both, front, behind}
+use Rattle.base_range.specs.Scan.{within}
+use Rattle.tile_count.proofs.Greys.{greys-all}
+use Rattle.film_settings.specs.declared.Settings.{Settings}
+use Rattle.film_settings.specs.declared.MapRecord.{MapRecord}
+use Rattle.film_settings.specs.declared.Window.{Window}
+use Rattle.film_settings.specs.Settings.{entriesOf}
+use Rattle.pixel_render.specs.Render.{rectOf}
+use Rattle.film_record.specs.Held.{recordRows, windowRows}
+use Rattle.film_draw.specs.Draw.{pixelRows}
+use Rattle.film_record.proofs.Tables.{record-numbered, window-numbered, window-inside}
+use Rattle.film_window.proofs.Frames.{framed}
+use Rattle.film_draw.proofs.Tables.{pixels-within}
+use Rattle.film_draw.proofs.Like.{pixel-free}
+use Rattle.byte_profile.specs.Profile.{byteRows}
+use Rattle.byte_profile.proofs.Greys.{bytes-within}
+use Rattle.byte_profile.proofs.Profile.{byte-numbered, byte-ready}
 use Rattle.byte_draw.specs.Bytes.{byteDrawRows, ByteWindowReady}
 
 -- ---- 13 and 18

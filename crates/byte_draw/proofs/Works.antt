@@ -7,20 +7,20 @@ use mathlib.Core.Path.{_≡_, sym, ap, _∙_}
 use lib.ListN.{length}
 use native.Mathlib.Nat.{mul-le-mul, le-of-eq}
 use native.Mathlib.Omega.{arith}
-use Rattle.refuse.specs.Refuse.{first, unless}
-use Rattle.refuse.proofs.Walk.{unless-refused}
-use Rattle.tally.specs.Tally.{greysOf}
-use Rattle.settings.specs.declared.Settings.{Settings}
-use Rattle.settings.specs.declared.MapRecord.{MapRecord}
-use Rattle.settings.specs.declared.Window.{Window}
-use Rattle.settings.specs.Settings.{entriesOf, clipOne}
-use Rattle.render.specs.Render.{renderOf, rectOf}
-use Rattle.draw.specs.declared.Drawn.the-variants.{Done, Refused}
-use Rattle.draw.specs.Draw.{drawnPixels, drawLeaves}
-use Rattle.draw.proofs.Works.{render-asks}
-use Rattle.draw.proofs.Like.{drawn-pixels}
+use Rattle.base_rows.specs.Refuse.{first, unless}
+use Rattle.base_rows.proofs.Walk.{unless-refused}
+use Rattle.tile_count.specs.Tally.{greysOf}
+use Rattle.film_settings.specs.declared.Settings.{Settings}
+use Rattle.film_settings.specs.declared.MapRecord.{MapRecord}
+use Rattle.film_settings.specs.declared.Window.{Window}
+use Rattle.film_settings.specs.Settings.{entriesOf, clipOne}
+use Rattle.pixel_render.specs.Render.{renderOf, rectOf}
+use Rattle.film_draw.specs.declared.Drawn.the-variants.{Done, Refused}
+use Rattle.film_draw.specs.Draw.{drawnPixels, drawLeaves}
+use Rattle.film_draw.proofs.Works.{render-asks}
+use Rattle.film_draw.proofs.Like.{drawn-pixels}
 use Rattle.byte_render.specs.Bytes.{RenderFromAsks}
-use Rattle.profile.specs.Profile.{Profile}
+use Rattle.byte_profile.specs.Profile.{Profile}
 use Rattle.byte_draw.specs.Bytes.{byteDrawRows, byteDrawOf, ByteWindowReady}
 
 -- "grid 8 by 8 only, bins 64, 128 (or 0) or 256": 16384 entries at most

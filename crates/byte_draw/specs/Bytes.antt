@@ -4,14 +4,14 @@
 use Prim.Native.Nat.{ℕ}
 use mathlib.Core.List.{List, _++_}
 use lib.ListN.{length}
-use Rattle.refuse.specs.Refuse.{Row, first, unless}
-use Rattle.settings.specs.declared.Settings.{Settings}
-use Rattle.settings.specs.declared.MapRecord.{MapRecord}
-use Rattle.settings.specs.declared.Window.{Window}
-use Rattle.draw.specs.declared.Drawn.the-variants.{Done, Refused}
-use Rattle.held.specs.Held.{recordRows, windowRows}
-use Rattle.draw.specs.Draw.{pixelRows, drawnPixels, DrawOut, drawLeaves, WindowReady}
-use Rattle.profile.specs.Profile.{byteRows, Profile}
+use Rattle.base_rows.specs.Refuse.{Row, first, unless}
+use Rattle.film_settings.specs.declared.Settings.{Settings}
+use Rattle.film_settings.specs.declared.MapRecord.{MapRecord}
+use Rattle.film_settings.specs.declared.Window.{Window}
+use Rattle.film_draw.specs.declared.Drawn.the-variants.{Done, Refused}
+use Rattle.film_record.specs.Held.{recordRows, windowRows}
+use Rattle.film_draw.specs.Draw.{pixelRows, drawnPixels, DrawOut, drawLeaves, WindowReady}
+use Rattle.byte_profile.specs.Profile.{byteRows, Profile}
 
 -- 1 to 10 with 31 after 9, "30 for a setting outside the profile, after 10", then 11 and on as in the wide call
 unfoldable pub byteDrawRows : (film w h : ℕ) (pic : List ℕ) (s : Settings) (r : MapRecord) (win : Window) (m : List ℕ) (room : ℕ) → List Row

@@ -2,15 +2,15 @@
 ghost use mathlib.Core.Bool.{true};
 ghost use mathlib.Core.Path.{_≡_};
 ghost use lib.ListN.{length};
-ghost use Rattle.lists.specs.Lists.{all};
-ghost use Rattle.refuse.specs.Refuse.{first};
-ghost use Rattle.draw.specs.Draw.{drawnPixels, drawLeaves};
-ghost use Rattle.narrow.specs.Narrow.{isByte};
+ghost use Rattle.base_lists.specs.Lists.{all};
+ghost use Rattle.base_rows.specs.Refuse.{first};
+ghost use Rattle.film_draw.specs.Draw.{drawnPixels, drawLeaves};
+ghost use Rattle.byte_narrow.specs.Narrow.{isByte};
 ghost use Rattle.byte_draw.specs.Bytes.{byteDrawRows, byteDrawOf, ByteWindowReady};
-use draw::Drawn;
-use settings::MapRecord;
-use settings::Settings;
-use settings::Window;
+use film_draw::Drawn;
+use film_settings::MapRecord;
+use film_settings::Settings;
+use film_settings::Window;
 
 // The first refusal that applies, else 0; `room` is the output's length. A byte lies in 0 to 255, so 13 and 18 are never given and not looked for; that the entries of picture and map
 // buffer are bytes is told.
@@ -27,15 +27,15 @@ fn refusal(
 ) -> u32
     ensures { λ r. ⌜ (r ≡ first (byteDrawRows film width height (now (picture .entry)) s «record» win (now (map .entry)) room)) × (all isByte (now (picture .entry)) ≡ true) × (all isByte (now (map .entry)) ≡ true) ⌝ }
 {
-    let shared = profile::shared(width, height, picture.len(), s, map.len());
+    let shared = byte_profile::shared(width, height, picture.len(), s, map.len());
     if shared != 0 {
         return shared;
     }
-    let other = held::record_refusal(film, width, height, s, record);
+    let other = film_record::record_refusal(film, width, height, s, record);
     if other != 0 {
         return other;
     }
-    held::window_refusal(width, height, win, room)
+    film_record::window_refusal(width, height, win, room)
 }
 
 // The window's bytes in the output: as they are at factor 1.0, else rendered.
@@ -53,7 +53,7 @@ fn work(
 {
     byte_render::copy_window(picture, width as usize, win, out);
     let clip = s.clip;
-    if settings::clip_one(clip) {
+    if film_settings::clip_one(clip) {
         return;
     }
     byte_render::render_from(out, win, width, height, s, map);

@@ -9,21 +9,21 @@ use lib.Seq.{take-at}
 use native.Mathlib.Nat.{le-of-eq}
 use native.Mathlib.Omega.{arith}
 use borrow.Author.Tests.{lt-ltb}
-use Rattle.lists.specs.Lists.{all, onto, blocks}
-use Rattle.lists.proofs.Tabs.{length-tab}
-use Rattle.lists.proofs.Fills.{take-onto}
-use Rattle.lists.proofs.Windows.{block, length-block}
-use Rattle.lists.proofs.Alls.{all-tab}
-use Rattle.lists.proofs.Maps.{onto-whole}
-use Rattle.scan.proofs.Spans.{within-high}
-use Rattle.grid.specs.Grid.{Fits}
-use Rattle.settings.specs.declared.Settings.{Settings}
-use Rattle.settings.specs.declared.Window.{Window}
-use Rattle.render.specs.Render.{columnPlace, rowPlace, pixelOf, rowOf, Mapped, Shown, RenderRowAsks}
-use Rattle.render.proofs.Pixels.{pixel-within}
-use Rattle.render.proofs.Rows.{grey-asks}
-use Rattle.render.proofs.Strips.{strip, strip-room, strip-asks, strips-length}
-use Rattle.narrow.specs.Narrow.{isByte}
+use Rattle.base_lists.specs.Lists.{all, onto, blocks}
+use Rattle.base_lists.proofs.Tabs.{length-tab}
+use Rattle.base_lists.proofs.Fills.{take-onto}
+use Rattle.base_lists.proofs.Windows.{block, length-block}
+use Rattle.base_lists.proofs.Alls.{all-tab}
+use Rattle.base_lists.proofs.Maps.{onto-whole}
+use Rattle.base_range.proofs.Spans.{within-high}
+use Rattle.pixel_grid.specs.Grid.{Fits}
+use Rattle.film_settings.specs.declared.Settings.{Settings}
+use Rattle.film_settings.specs.declared.Window.{Window}
+use Rattle.pixel_render.specs.Render.{columnPlace, rowPlace, pixelOf, rowOf, Mapped, Shown, RenderRowAsks}
+use Rattle.pixel_render.proofs.Pixels.{pixel-within}
+use Rattle.pixel_render.proofs.Rows.{grey-asks}
+use Rattle.pixel_render.proofs.Strips.{strip, strip-room, strip-asks, strips-length}
+use Rattle.byte_narrow.specs.Narrow.{isByte}
 use Rattle.byte_render.specs.Bytes.{ByteRowAsks, ByteAsks}
 
 module _ {w h : ℕ} {s : Settings} {m : List ℕ} {left y : ℕ} {vs : List ℕ} {room : ℕ} (asks : ByteRowAsks w h s m left y vs room) where

@@ -6,17 +6,17 @@ use mathlib.Core.Path.{_≡_, sym, ap, _∙_}
 use lib.ListN.{length, take}
 use lib.Seq.{length-take-le}
 use native.Mathlib.Omega.{arith}
-use Rattle.lists.specs.Lists.{all, onto}
-use Rattle.lists.proofs.Fills.{length-onto, take-onto}
-use Rattle.scan.specs.Scan.{within}
-use Rattle.settings.specs.declared.Settings.{Settings}
-use Rattle.settings.specs.declared.Window.{Window}
-use Rattle.settings.specs.Settings.{binsOf, entriesOf}
-use Rattle.render.specs.Render.{renderOf, Mapped}
-use Rattle.render.proofs.Laws.{render-front}
+use Rattle.base_lists.specs.Lists.{all, onto}
+use Rattle.base_lists.proofs.Fills.{length-onto, take-onto}
+use Rattle.base_range.specs.Scan.{within}
+use Rattle.film_settings.specs.declared.Settings.{Settings}
+use Rattle.film_settings.specs.declared.Window.{Window}
+use Rattle.film_settings.specs.Settings.{binsOf, entriesOf}
+use Rattle.pixel_render.specs.Render.{renderOf, Mapped}
+use Rattle.pixel_render.proofs.Laws.{render-front}
 use Rattle.byte_render.specs.Bytes.{ByteAsks, RenderFromAsks}
 
--- b is the bins as `settings::bins` gives them
+-- b is the bins as `film_settings::bins` gives them
 module _ {w h : ℕ} {s : Settings} {m : List ℕ} {win : Window} {vs : List ℕ} {b : ℕ} (asks : RenderFromAsks w h s m win vs) (bins : b ≡ binsOf s) where
   -- the mappings' entries by them
   counted : s .across * s .down * b ≡ entriesOf s

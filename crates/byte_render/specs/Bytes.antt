@@ -1,14 +1,14 @@
--- What rendering bytes asks. What is rendered is said by `render`, what is copied by `frame`: greys are the same numbers in bytes.
+-- What rendering bytes asks. What is rendered is said by `pixel_render`, what is copied by `film_window`: greys are the same numbers in bytes.
 -- w and h are the film's width and height, m the map buffer, room the length of the line that rows go through.
 -- Assumes nothing.
 use Prim.Native.Nat.{ℕ, _≤_, _<_}
 use mathlib.Core.List.{List}
 use lib.ListN.{length}
-use Rattle.grid.specs.Grid.{Fits}
-use Rattle.settings.specs.declared.Settings.{Settings}
-use Rattle.settings.specs.declared.Window.{Window}
-use Rattle.settings.specs.Settings.{entriesOf}
-use Rattle.render.specs.Render.{rowPlace, Mapped, Shown, RenderRowAsks}
+use Rattle.pixel_grid.specs.Grid.{Fits}
+use Rattle.film_settings.specs.declared.Settings.{Settings}
+use Rattle.film_settings.specs.declared.Window.{Window}
+use Rattle.film_settings.specs.Settings.{entriesOf}
+use Rattle.pixel_render.specs.Render.{rowPlace, Mapped, Shown, RenderRowAsks}
 
 -- what a row of bytes asks: what a row asks, a Max that is a byte ("Min 0, Max 255"), and a line that the row fits
 pub record ByteRowAsks (w h : ℕ) (s : Settings) (m : List ℕ) (left y : ℕ) (vs : List ℕ) (room : ℕ) : Type 0 where

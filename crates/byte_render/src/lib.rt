@@ -1,12 +1,12 @@
 // Bytes of the rendered film from mappings: each row goes through a line of 16-bit entries, so that the wide row's own function renders it.
 ghost use mathlib.Core.Path.{_≡_};
 ghost use lib.ListN.{length};
-ghost use Rattle.tally.specs.Tally.{greysOf};
-ghost use Rattle.render.specs.Render.{rowPlace, rowOf, renderOf, rectOf};
-ghost use Rattle.frame.specs.Frame.{CopyWindowAsks};
+ghost use Rattle.tile_count.specs.Tally.{greysOf};
+ghost use Rattle.pixel_render.specs.Render.{rowPlace, rowOf, renderOf, rectOf};
+ghost use Rattle.film_window.specs.Frame.{CopyWindowAsks};
 ghost use Rattle.byte_render.specs.Bytes.{ByteRowAsks, ByteAsks, RenderFromAsks};
-use settings::Settings;
-use settings::Window;
+use film_settings::Settings;
+use film_settings::Window;
 
 // Renders bytes of row y in place, from column `left` on; the line and the table are room to work in.
 fn byte_row(
@@ -24,9 +24,9 @@ fn byte_row(
     ensures { λ _. ⌜ now (pixels .exit) ≡ rowOf width s (now (map .entry)) left (rowPlace height s y) (now (pixels .entry)) ⌝ }
 {
     let n = pixels.len();
-    narrow::widen(pixels, line);
-    render::render_row(&mut line[..n], left, y, width, height, s, map, table);
-    narrow::narrow(&line[..n], pixels);
+    byte_narrow::widen(pixels, line);
+    pixel_render::render_row(&mut line[..n], left, y, width, height, s, map, table);
+    byte_narrow::narrow(&line[..n], pixels);
 }
 
 // Renders a window's bytes in place, row by row; the line and the table are room to work in.
@@ -71,8 +71,8 @@ pub fn render_from(pixels: &mut [u8], win: Window, width: u32, height: u32, s: S
     let mut line = [0u16; 4096];
     let mut wide = [0u16; 16384];
     let mut table = [0u64; 512];
-    let entries = (s.across as usize) * (s.down as usize) * (settings::bins(s) as usize);
-    narrow::widen(&map[..entries], &mut wide);
+    let entries = (s.across as usize) * (s.down as usize) * (film_settings::bins(s) as usize);
+    byte_narrow::widen(&map[..entries], &mut wide);
     render(pixels, win, width, height, s, &wide, &mut line, &mut table);
 }
 
@@ -88,7 +88,7 @@ pub fn copy_window(picture: &[u8], stride: usize, win: Window, out: &mut [u8])
         let to = from + wide;
         let at = (y as usize) * wide;
         let end = at + wide;
-        lists::copy8(&picture[from..to], &mut out[at..end]);
+        base_lists::copy8(&picture[from..to], &mut out[at..end]);
         y += 1;
     }
 }

@@ -8,21 +8,21 @@ use lib.ListN.{length, take, drop, getD, length-append}
 use lib.Seq.{take-at, length-take-le}
 use native.Mathlib.Omega.{arith}
 use borrow.Author.Tests.{lt-ltb}
-use Rattle.lists.specs.Lists.{onto, all}
-use Rattle.lists.proofs.Fills.{take-onto}
-use Rattle.lists.proofs.Maps.{onto-whole}
-use Rattle.lists.proofs.Alls.{all-at, all-from}
-use Rattle.limit.specs.declared.Clip.{Clip}
-use Rattle.limit.specs.declared.Edition.{Edition}
-use Rattle.scan.specs.Scan.{within}
-use Rattle.scan.proofs.Spans.{within-high}
-use Rattle.tally.specs.declared.Rect.{Rect}
-use Rattle.tally.specs.Tally.{greysOf, countsOf, FourAsks, FourAdded, CountRowsAsks}
-use Rattle.tally.proofs.Greys.{inside-part, length-row}
-use Rattle.clip.specs.declared.Spent.{Spent}
-use Rattle.tile.specs.Tile.{clippedBy, countsMapping, spentBy, FromCountsAsks, TileMapped}
-use Rattle.tile.proofs.Tiles.{length-counts-mapping, counts-mapping-within, tile-part, tile-asks, tile-mapped}
-use Rattle.narrow.specs.Narrow.{isByte}
+use Rattle.base_lists.specs.Lists.{onto, all}
+use Rattle.base_lists.proofs.Fills.{take-onto}
+use Rattle.base_lists.proofs.Maps.{onto-whole}
+use Rattle.base_lists.proofs.Alls.{all-at, all-from}
+use Rattle.tile_limit.specs.declared.Clip.{Clip}
+use Rattle.tile_limit.specs.declared.Edition.{Edition}
+use Rattle.base_range.specs.Scan.{within}
+use Rattle.base_range.proofs.Spans.{within-high}
+use Rattle.tile_count.specs.declared.Rect.{Rect}
+use Rattle.tile_count.specs.Tally.{greysOf, countsOf, FourAsks, FourAdded, CountRowsAsks}
+use Rattle.tile_count.proofs.Greys.{inside-part, length-row}
+use Rattle.tile_clip.specs.declared.Spent.{Spent}
+use Rattle.tile_map.specs.Tile.{clippedBy, countsMapping, spentBy, FromCountsAsks, TileMapped}
+use Rattle.tile_map.proofs.Tiles.{length-counts-mapping, counts-mapping-within, tile-part, tile-asks, tile-mapped}
+use Rattle.byte_narrow.specs.Narrow.{isByte}
 use Rattle.byte_tile.specs.ByteTile.{ByteMappingAsks}
 
 -- ---- one row

@@ -2,9 +2,9 @@
 -- Assumes nothing.
 use Prim.Native.Nat.{ℕ, _≤_}
 use mathlib.Core.List.{List}
-use Rattle.limit.specs.declared.Clip.{Clip}
-use Rattle.tally.specs.declared.Rect.{Rect}
-use Rattle.tile.specs.Tile.{MappingAsks}
+use Rattle.tile_limit.specs.declared.Clip.{Clip}
+use Rattle.tile_count.specs.declared.Rect.{Rect}
+use Rattle.tile_map.specs.Tile.{MappingAsks}
 
 -- what `mapping` asks: what the wide mapping asks, no more than the profile's "Max 255" and "bins 64, 128 (or 0) or 256", and rows no wider than the widest film's
 pub record ByteMappingAsks (pic : List ℕ) (stride : ℕ) (r : Rect) (lo hi b : ℕ) (clip : Clip) (scratch out : ℕ) : Type 0 where

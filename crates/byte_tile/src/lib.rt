@@ -2,14 +2,14 @@
 ghost use mathlib.Core.Path.{_≡_};
 ghost use Prim.Native.Nat.{_≤_};
 ghost use lib.ListN.{length};
-ghost use Rattle.lists.specs.Lists.{onto};
-ghost use Rattle.tally.specs.Tally.{greysOf, countsOf, FourAsks, FourAdded, CountRowsAsks, CountRectAsks};
-ghost use Rattle.tile.specs.Tile.{TileMapped};
+ghost use Rattle.base_lists.specs.Lists.{onto};
+ghost use Rattle.tile_count.specs.Tally.{greysOf, countsOf, FourAsks, FourAdded, CountRowsAsks, CountRectAsks};
+ghost use Rattle.tile_map.specs.Tile.{TileMapped};
 ghost use Rattle.byte_tile.specs.ByteTile.{ByteMappingAsks};
-use clip::Spent;
-use limit::Clip;
-use limit::Edition;
-use tally::Rect;
+use tile_clip::Spent;
+use tile_count::Rect;
+use tile_limit::Clip;
+use tile_limit::Edition;
 
 // Adds the greys of one row of bytes to four counts.
 fn count_bytes(
@@ -28,8 +28,8 @@ fn count_bytes(
     ensures { λ _. ⌜ FourAdded (now (row .entry)) min max bins (now (a .entry)) (now (b .entry)) (now (c .entry)) (now (d .entry)) (now (a .exit)) (now (b .exit)) (now (c .exit)) (now (d .exit)) ⌝ }
 {
     let wide = row.len();
-    narrow::widen(row, line);
-    tally::count_quarters(&line[..wide], min, max, bins, factor, a, b, c, d);
+    byte_narrow::widen(row, line);
+    tile_count::count_quarters(&line[..wide], min, max, bins, factor, a, b, c, d);
 }
 
 // Adds the greys of a rectangle of bytes to four counts, row by row: each row goes through the line.
@@ -72,7 +72,7 @@ pub fn count(
     requires { ⌜ CountRectAsks (now picture) stride rect min max bins (length (now counts)) × (bins ≤ 256) × (rect .width ≤ 4096) ⌝ }
     ensures { λ _. ⌜ now (counts .exit) ≡ onto (now (counts .entry)) (countsOf min max bins (greysOf (now (picture .entry)) stride rect)) ⌝ }
 {
-    let factor = binning::bin_factor(min, max, bins);
+    let factor = tile_bin::bin_factor(min, max, bins);
     let mut line = [0u16; 4096];
     let mut a = [0u32; 272];
     let mut b = [0u32; 272];
@@ -92,7 +92,7 @@ pub fn count(
         &mut c,
         &mut d,
     );
-    tally::add_up(&a, &b, &c, &d, bins as usize, counts);
+    tile_count::add_up(&a, &b, &c, &d, bins as usize, counts);
 }
 
 // A tile's mapping from its bytes: counted, then clipped and mapped into a line of its own, then made bytes. The counts stay in the front of the scratch. The answer is what clipping took.
@@ -115,7 +115,7 @@ pub fn mapping(
     let entries = bins as usize;
     count(picture, stride, rect, min, max, bins, scratch);
     let mut line = [0u16; 256];
-    let spent = tile::from_counts(
+    let spent = tile_map::from_counts(
         clip,
         pixels,
         min,
@@ -124,6 +124,6 @@ pub fn mapping(
         &mut line[..entries],
         edition,
     );
-    narrow::narrow(&line[..entries], out);
+    byte_narrow::narrow(&line[..entries], out);
     spent
 }

@@ -7,6 +7,6 @@ fn main() {
     let mut bytes = [0u8; 32769];
     let mut text = [0u8; 512];
     let n = io::read_full(STDIN_FILENO, &mut bytes);
-    let length = listing::laid(listing::list(&bytes[..n], &mut text));
+    let length = listing_file::laid(listing_file::list(&bytes[..n], &mut text));
     io::write_all(STDOUT_FILENO, &text[..length]);
 }

@@ -7,11 +7,11 @@ use mathlib.Core.Path.{_≡_, refl, ap, _∙_}
 use native.Mathlib.Omega.{arith}
 use lib.ListN.{length, take, drop, length-drop}
 use lib.Seq.{take-all}
-use Rattle.lists.specs.Lists.{onto}
-use Rattle.refuse.specs.Refuse.{first, unless}
-use Rattle.refuse.proofs.Walk.{unless-refused}
-use Rattle.samples.specs.Samples.{isWide, sampleBytes, unpacked}
-use Rattle.raster.specs.Raster.{rasterSize, RasterAsks}
+use Rattle.base_lists.specs.Lists.{onto}
+use Rattle.base_rows.specs.Refuse.{first, unless}
+use Rattle.base_rows.proofs.Walk.{unless-refused}
+use Rattle.pgm_samples.specs.Samples.{isWide, sampleBytes, unpacked}
+use Rattle.pgm_raster.specs.Raster.{rasterSize, RasterAsks}
 use Rattle.pgm_greys.specs.declared.Turned.the-variants as Turned
 use Rattle.pgm_greys.specs.Greys.{targetRows, turnRows, GreysOut, greysLeave, turnedOf}
 

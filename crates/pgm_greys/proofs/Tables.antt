@@ -8,12 +8,12 @@ use native.Mathlib.Omega.{arith}
 use lib.Dec.{ltb}
 use lib.ListN.{length, drop}
 use borrow.Author.Tests.{ltb-false, not-false, le-ltb, lt-ltb}
-use Rattle.lists.specs.Lists.{all}
-use Rattle.refuse.specs.Refuse.{first, numbersOf, Numbered}
-use Rattle.refuse.proofs.Walk.{each-append, first-none, first-hit, none-first, none-append, none-front, none-behind, front, behind}
-use Rattle.samples.specs.Samples.{isWide, unpacked, noneAbove}
-use Rattle.raster.specs.Raster.{headRows, rasterRows}
-use Rattle.raster.proofs.Tables.{limit-numbered, raster-numbered, within-none, exact-none, raster-asks}
+use Rattle.base_lists.specs.Lists.{all}
+use Rattle.base_rows.specs.Refuse.{first, numbersOf, Numbered}
+use Rattle.base_rows.proofs.Walk.{each-append, first-none, first-hit, none-first, none-append, none-front, none-behind, front, behind}
+use Rattle.pgm_samples.specs.Samples.{isWide, unpacked, noneAbove}
+use Rattle.pgm_raster.specs.Raster.{headRows, rasterRows}
+use Rattle.pgm_raster.proofs.Tables.{limit-numbered, raster-numbered, within-none, exact-none, raster-asks}
 use Rattle.pgm_greys.specs.Greys.{targetRows, turnRows, GreyAsks}
 
 module _ (bytes : List ℕ) (start w h m room : ℕ) where

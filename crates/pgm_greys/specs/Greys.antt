@@ -6,10 +6,10 @@ use mathlib.Core.Bool.{true}
 use mathlib.Core.List.{List, [], _∷_, _++_}
 use mathlib.Core.Path.{_≡_}
 use lib.ListN.{length, drop}
-use Rattle.lists.specs.Lists.{onto}
-use Rattle.refuse.specs.Refuse.{Row, shortRow, first, unless, Says, accepted, refused}
-use Rattle.samples.specs.Samples.{isWide, unpacked, noneAbove}
-use Rattle.raster.specs.Raster.{headRows, aboveRow, rasterRows, RasterAsks}
+use Rattle.base_lists.specs.Lists.{onto}
+use Rattle.base_rows.specs.Refuse.{Row, shortRow, first, unless, Says, accepted, refused}
+use Rattle.pgm_samples.specs.Samples.{isWide, unpacked, noneAbove}
+use Rattle.pgm_raster.specs.Raster.{headRows, aboveRow, rasterRows, RasterAsks}
 use Rattle.pgm_greys.specs.declared.Turned.{Turned}
 use Rattle.pgm_greys.specs.declared.Turned.the-variants as Turned
 

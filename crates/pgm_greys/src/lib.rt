@@ -2,10 +2,10 @@
 ghost use mathlib.Core.Path.{_≡_};
 ghost use Prim.Native.Nat.{_-_, _*_};
 ghost use lib.ListN.{length, drop};
-ghost use Rattle.lists.specs.Lists.{onto};
-ghost use Rattle.refuse.specs.Refuse.{first};
-ghost use Rattle.samples.specs.Samples.{isWide, unpacked};
-ghost use Rattle.raster.specs.Raster.{RasterAsks};
+ghost use Rattle.base_lists.specs.Lists.{onto};
+ghost use Rattle.base_rows.specs.Refuse.{first};
+ghost use Rattle.pgm_samples.specs.Samples.{isWide, unpacked};
+ghost use Rattle.pgm_raster.specs.Raster.{RasterAsks};
 ghost use Rattle.pgm_greys.specs.Greys.{targetRows, turnRows, GreyAsks, greysLeave, turnedOf};
 
 // Whether a raster was turned into greys.
@@ -40,10 +40,10 @@ fn target_refusal(
     if room < count {
         return 27;
     }
-    let wide = samples::is_wide(maxval);
+    let wide = pgm_samples::is_wide(maxval);
     let a = start;
-    let b = a + raster::raster_size(width, height, maxval);
-    if samples::none_above(&bytes[a..b], wide, count, maxval) {
+    let b = a + pgm_raster::raster_size(width, height, maxval);
+    if pgm_samples::none_above(&bytes[a..b], wide, count, maxval) {
         return 0;
     }
     26
@@ -60,12 +60,12 @@ fn grey_refusal(
 ) -> u32
     ensures { λ r. ⌜ r ≡ first (turnRows (now (bytes .entry)) start width height maxval room) ⌝ }
 {
-    let limit = raster::limit_refusal(width, height, maxval);
+    let limit = pgm_raster::limit_refusal(width, height, maxval);
     if limit != 0 {
         return limit;
     }
     let size = behind(bytes.len(), start);
-    let raster = raster::raster_refusal(width, height, maxval, size);
+    let raster = pgm_raster::raster_refusal(width, height, maxval, size);
     if raster != 0 {
         return raster;
     }
@@ -78,10 +78,10 @@ fn turn(bytes: &[u8], start: usize, width: u32, height: u32, maxval: u32, target
     ensures { λ _. ⌜ now (target .exit) ≡ onto (now (target .entry)) (unpacked (isWide maxval) (drop start (now (bytes .entry))) (width * height)) ⌝ }
 {
     let count = (width as usize) * (height as usize);
-    let wide = samples::is_wide(maxval);
+    let wide = pgm_samples::is_wide(maxval);
     let a = start;
-    let b = a + raster::raster_size(width, height, maxval);
-    samples::unpack(&bytes[a..b], wide, count, target);
+    let b = a + pgm_raster::raster_size(width, height, maxval);
+    pgm_samples::unpack(&bytes[a..b], wide, count, target);
 }
 
 // Turns the raster that stands in `bytes` from `start` on into greys; entries of target behind the last grey keep their contents.

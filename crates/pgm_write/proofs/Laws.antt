@@ -6,19 +6,19 @@ use mathlib.Core.Path.{_≡_, refl, sym, ap, _∙_}
 use native.Mathlib.Omega.{arith}
 use lib.ListN.{length, drop}
 use lib.Seq.{drop-append-seam}
-use Rattle.lists.specs.Lists.{onto}
-use Rattle.refuse.specs.Refuse.{first}
-use Rattle.refuse.proofs.Walk.{none-first}
-use Rattle.header.specs.declared.Head.the-variants as Head
-use Rattle.header.specs.Header.{headerOf, headerBytes}
-use Rattle.header.proofs.Laws.{round-trip}
-use Rattle.samples.specs.Samples.{isWide, packed, unpacked, noneAbove}
-use Rattle.samples.proofs.Trips.{unpacked-packed}
-use Rattle.raster.specs.Raster.{rasterSize, headRows, rasterRows, RasterLimits}
-use Rattle.raster.proofs.Tables.{within-none, exact-none}
-use Rattle.pgm.specs.declared.Sizes.the-variants as Sizes
-use Rattle.pgm.specs.Pgm.{readOf, sizesOf}
-use Rattle.pgm.proofs.Tables.{judged-found, read-judged}
+use Rattle.base_lists.specs.Lists.{onto}
+use Rattle.base_rows.specs.Refuse.{first}
+use Rattle.base_rows.proofs.Walk.{none-first}
+use Rattle.pgm_header.specs.declared.Head.the-variants as Head
+use Rattle.pgm_header.specs.Header.{headerOf, headerBytes}
+use Rattle.pgm_header.proofs.Laws.{round-trip}
+use Rattle.pgm_samples.specs.Samples.{isWide, packed, unpacked, noneAbove}
+use Rattle.pgm_samples.proofs.Trips.{unpacked-packed}
+use Rattle.pgm_raster.specs.Raster.{rasterSize, headRows, rasterRows, RasterLimits}
+use Rattle.pgm_raster.proofs.Tables.{within-none, exact-none}
+use Rattle.pgm_read.specs.declared.Sizes.the-variants as Sizes
+use Rattle.pgm_read.specs.Pgm.{readOf, sizesOf}
+use Rattle.pgm_read.proofs.Tables.{judged-found, read-judged}
 use Rattle.pgm_greys.specs.declared.Turned.the-variants as Turned
 use Rattle.pgm_greys.specs.Greys.{turnRows, greysLeave, turnedOf}
 use Rattle.pgm_greys.proofs.Tables.{grey-none}

@@ -5,14 +5,14 @@ use mathlib.Core.List.{List, _++_}
 use mathlib.Core.Path.{_≡_, refl, ap, _∙_}
 use native.Mathlib.Omega.{arith}
 use lib.ListN.{length, take, drop, length-drop}
-use Rattle.lists.specs.Lists.{onto}
-use Rattle.lists.proofs.Overs.{onto-tail}
-use Rattle.refuse.specs.Refuse.{first, unless}
-use Rattle.refuse.proofs.Walk.{unless-refused}
-use Rattle.header.specs.Header.{headerBytes}
-use Rattle.samples.specs.Samples.{isWide, sampleBytes, packed, PackAsks}
-use Rattle.raster.specs.Raster.{rasterSize}
-use Rattle.raster.proofs.Tables.{part-tail}
+use Rattle.base_lists.specs.Lists.{onto}
+use Rattle.base_lists.proofs.Overs.{onto-tail}
+use Rattle.base_rows.specs.Refuse.{first, unless}
+use Rattle.base_rows.proofs.Walk.{unless-refused}
+use Rattle.pgm_header.specs.Header.{headerBytes}
+use Rattle.pgm_samples.specs.Samples.{isWide, sampleBytes, packed, PackAsks}
+use Rattle.pgm_raster.specs.Raster.{rasterSize}
+use Rattle.pgm_raster.proofs.Tables.{part-tail}
 use Rattle.pgm_write.specs.declared.Written.the-variants as Written
 use Rattle.pgm_write.specs.Write.{writtenRows, WriteAsks, fileOf, WriteOut, writeLeaves, writtenOf}
 use Rattle.pgm_write.proofs.Tables.{length-file}

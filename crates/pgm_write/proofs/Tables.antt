@@ -7,14 +7,14 @@ use mathlib.Core.Path.{_≡_, refl, sym, ap}
 use lib.Dec.{ltb}
 use lib.ListN.{length, length-append}
 use borrow.Author.Tests.{ltb-false, eqb-true, not-false, not-true, ne-eqb, eq-eqb, le-ltb, lt-ltb}
-use Rattle.lists.specs.Lists.{all}
-use Rattle.refuse.specs.Refuse.{first, numbersOf, Numbered}
-use Rattle.refuse.proofs.Walk.{each-append, first-none, none-first, none-front, none-behind, front, behind}
-use Rattle.header.specs.Header.{headerBytes}
-use Rattle.samples.specs.Samples.{isWide, noneAbove}
-use Rattle.samples.proofs.Packing.{length-packed}
-use Rattle.raster.specs.Raster.{rasterSize, headRows}
-use Rattle.raster.proofs.Tables.{limit-numbered, head-within, within-none}
+use Rattle.base_lists.specs.Lists.{all}
+use Rattle.base_rows.specs.Refuse.{first, numbersOf, Numbered}
+use Rattle.base_rows.proofs.Walk.{each-append, first-none, none-first, none-front, none-behind, front, behind}
+use Rattle.pgm_header.specs.Header.{headerBytes}
+use Rattle.pgm_samples.specs.Samples.{isWide, noneAbove}
+use Rattle.pgm_samples.proofs.Packing.{length-packed}
+use Rattle.pgm_raster.specs.Raster.{rasterSize, headRows}
+use Rattle.pgm_raster.proofs.Tables.{limit-numbered, head-within, within-none}
 use Rattle.pgm_write.specs.Write.{filePictureRows, writtenRows, WriteReady, WriteAsks, fileOf}
 
 -- how many bytes a file has

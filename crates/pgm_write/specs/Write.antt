@@ -6,11 +6,11 @@ use mathlib.Core.Bool.{true}
 use mathlib.Core.List.{List, [], _∷_, _++_}
 use mathlib.Core.Path.{_≡_}
 use lib.ListN.{length}
-use Rattle.lists.specs.Lists.{onto}
-use Rattle.refuse.specs.Refuse.{Row, lengthRow, shortRow, first, unless, Says, accepted, refused}
-use Rattle.header.specs.Header.{headerBytes}
-use Rattle.samples.specs.Samples.{isWide, packed, noneAbove}
-use Rattle.raster.specs.Raster.{headRows, aboveRow, RasterLimits}
+use Rattle.base_lists.specs.Lists.{onto}
+use Rattle.base_rows.specs.Refuse.{Row, lengthRow, shortRow, first, unless, Says, accepted, refused}
+use Rattle.pgm_header.specs.Header.{headerBytes}
+use Rattle.pgm_samples.specs.Samples.{isWide, packed, noneAbove}
+use Rattle.pgm_raster.specs.Raster.{headRows, aboveRow, RasterLimits}
 use Rattle.pgm_write.specs.declared.Written.{Written}
 use Rattle.pgm_write.specs.declared.Written.the-variants as Written
 

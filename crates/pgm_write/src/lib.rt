@@ -1,8 +1,8 @@
 // Raw PGM: write.
 ghost use mathlib.Core.Path.{_≡_};
 ghost use lib.ListN.{length};
-ghost use Rattle.lists.specs.Lists.{onto};
-ghost use Rattle.refuse.specs.Refuse.{first};
+ghost use Rattle.base_lists.specs.Lists.{onto};
+ghost use Rattle.base_rows.specs.Refuse.{first};
 ghost use Rattle.pgm_write.specs.Write.{fileOf, filePictureRows, writeRows, WriteAsks, writeLeaves, writeOf};
 
 // How many bytes were written, or the refusal.
@@ -15,14 +15,14 @@ pub enum Written {
 pub fn picture_refusal(picture: &[u16], width: u32, height: u32, maxval: u32) -> u32
     ensures { λ r. ⌜ r ≡ first (filePictureRows (now (picture .entry)) width height maxval) ⌝ }
 {
-    let limit = raster::limit_refusal(width, height, maxval);
+    let limit = pgm_raster::limit_refusal(width, height, maxval);
     if limit != 0 {
         return limit;
     }
     if picture.len() != (width as usize) * (height as usize) {
         return 2;
     }
-    if !samples::greys_none_above(picture, maxval) {
+    if !pgm_samples::greys_none_above(picture, maxval) {
         return 26;
     }
     0
@@ -36,8 +36,8 @@ fn write_refusal(picture: &[u16], width: u32, height: u32, maxval: u32, room: us
     if refusal != 0 {
         return refusal;
     }
-    let header = header::header_length(width, height, maxval);
-    if room < header + raster::raster_size(width, height, maxval) {
+    let header = pgm_header::header_length(width, height, maxval);
+    if room < header + pgm_raster::raster_size(width, height, maxval) {
         return 27;
     }
     0
@@ -48,9 +48,9 @@ fn lay_file(picture: &[u16], width: u32, height: u32, maxval: u32, out: &mut [u8
     requires { ⌜ WriteAsks (now picture) width height maxval (fileOf (now picture) width height maxval) (length (now out)) ⌝ }
     ensures { λ r. ⌜ (now (out .exit) ≡ onto (now (out .entry)) (fileOf (now (picture .entry)) width height maxval)) × (r ≡ length (fileOf (now (picture .entry)) width height maxval)) ⌝ }
 {
-    let header = header::write_header(out, width, height, maxval);
-    samples::pack(picture, maxval, &mut out[header..]);
-    header + raster::raster_size(width, height, maxval)
+    let header = pgm_header::write_header(out, width, height, maxval);
+    pgm_samples::pack(picture, maxval, &mut out[header..]);
+    header + pgm_raster::raster_size(width, height, maxval)
 }
 
 // Writes a picture as a raw PGM file at the front of out; bytes behind it keep their contents.

@@ -3,8 +3,8 @@
 use mathlib.Core.Path.{sym, _∙_}
 use native.Mathlib.Omega.{arith}
 use borrow.Author.Needs.{needs}
-use Rattle.profile.proofs.Profile.{byte-ready}
-use Rattle.profile.proofs.Greys.{bytes-told}
+use Rattle.byte_profile.proofs.Profile.{byte-ready}
+use Rattle.byte_profile.proofs.Greys.{bytes-told}
 use Rattle.byte_draw.proofs.Tables.{rows-shared, rows-record, rows-window}
 use Rattle.byte_draw.proofs.refusal.Statement.{statement}
 use Rattle.byte_draw.proofs.refusal.Tie as tie

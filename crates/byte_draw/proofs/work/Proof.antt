@@ -1,7 +1,7 @@
 -- `byte_draw::work` leaves the drawn pixels: copied at factor 1.0, else rendered where they were copied to.
 -- Assumes nothing.
 use mathlib.Core.Path.{sym, _∙_}
-use Rattle.draw.proofs.Works.{copy-asks}
+use Rattle.film_draw.proofs.Works.{copy-asks}
 use Rattle.byte_draw.proofs.Works.{from-asks, work-copied, work-rendered}
 use borrow.Author.Needs.{needs}
 use Rattle.byte_draw.proofs.work.Statement.{statement}

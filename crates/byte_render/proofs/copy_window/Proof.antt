@@ -6,9 +6,9 @@ use lib.ListN.{length}
 use borrow.Rule.Slice.PartMut.{putMid}
 use native.Mathlib.Omega.{arith}
 use borrow.Author.Needs.{needs}
-use Rattle.lists.specs.Lists.{blocks}
-use Rattle.lists.proofs.Fills.{blocks-none}
-use Rattle.frame.proofs.Frames.{line, line-room, line-part, place-room, rows-next, rows-length, rows-end}
+use Rattle.base_lists.specs.Lists.{blocks}
+use Rattle.base_lists.proofs.Fills.{blocks-none}
+use Rattle.film_window.proofs.Frames.{line, line-room, line-part, place-room, rows-next, rows-length, rows-end}
 use Rattle.byte_render.proofs.copy_window.Statement.{statement}
 use Rattle.byte_render.proofs.copy_window.Tie as tie
 

@@ -5,9 +5,9 @@ use mathlib.Core.Path.{_≡_, refl}
 use lib.ListN.{length}
 use borrow.Rule.Slice.PartMut.{putMid}
 use native.Mathlib.Omega.{arith}
-use Rattle.lists.specs.Lists.{blocks}
-use Rattle.lists.proofs.Fills.{blocks-none}
-use Rattle.render.proofs.Strips.{strip, strip-room, strips-next, strips-length, strips-end}
+use Rattle.base_lists.specs.Lists.{blocks}
+use Rattle.base_lists.proofs.Fills.{blocks-none}
+use Rattle.pixel_render.proofs.Strips.{strip, strip-room, strips-next, strips-length, strips-end}
 use Rattle.byte_render.proofs.Lines.{wide-asks, bytes-asks}
 use Rattle.byte_render.proofs.render.Statement.{statement}
 use Rattle.byte_render.proofs.render.Tie as tie

@@ -3,7 +3,7 @@
 use mathlib.Core.Path.{refl}
 use native.Mathlib.Nat.{mul-le-mul, lt-of-le-of-lt}
 use lib.Dec.{lit<}
-use Rattle.settings.proofs.Ready.{entries-small}
+use Rattle.film_settings.proofs.Ready.{entries-small}
 use borrow.Author.Needs.{needs}
 use Rattle.byte_render.proofs.Widened.{part-size, part-fits, wide-bytes, wide-back}
 use Rattle.byte_render.proofs.render_from.Statement.{statement}

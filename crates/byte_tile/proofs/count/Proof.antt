@@ -2,7 +2,7 @@
 -- Assumes nothing.
 use native.Mathlib.Omega.{arith}
 use borrow.Author.Needs.{needs}
-use Rattle.tally.proofs.Fours.{ways-asks, ways-fit, ways-end}
+use Rattle.tile_count.proofs.Fours.{ways-asks, ways-fit, ways-end}
 use Rattle.byte_tile.proofs.count.Statement.{statement}
 use Rattle.byte_tile.proofs.count.Tie as tie
 

@@ -5,10 +5,10 @@ use mathlib.Core.Path.{_≡_, refl}
 use lib.ListN.{length}
 use native.Mathlib.Omega.{arith}
 use borrow.Author.Needs.{needs}
-use Rattle.lists.specs.Lists.{joined}
-use Rattle.tally.specs.Tally.{FourAdded}
-use Rattle.tally.proofs.Greys.{rowOf, inside-room, bottom-room}
-use Rattle.tally.proofs.Fours.{rows-none, rows-asks, rows-more, rows-all}
+use Rattle.base_lists.specs.Lists.{joined}
+use Rattle.tile_count.specs.Tally.{FourAdded}
+use Rattle.tile_count.proofs.Greys.{rowOf, inside-room, bottom-room}
+use Rattle.tile_count.proofs.Fours.{rows-none, rows-asks, rows-more, rows-all}
 use Rattle.byte_tile.proofs.Lines.{row-fits}
 use Rattle.byte_tile.proofs.count_rows.Statement.{statement}
 use Rattle.byte_tile.proofs.count_rows.Tie as tie

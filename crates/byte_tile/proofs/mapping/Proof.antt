@@ -2,7 +2,7 @@
 -- Assumes nothing.
 use mathlib.Core.Path.{refl}
 use borrow.Author.Needs.{needs}
-use Rattle.tile.proofs.Tiles.{tile-part}
+use Rattle.tile_map.proofs.Tiles.{tile-part}
 use Rattle.byte_tile.proofs.Lines.{line-room, byte-asks, mapping-front, mapping-part, mapping-narrow, mapping-end}
 use Rattle.byte_tile.proofs.mapping.Statement.{statement}
 use Rattle.byte_tile.proofs.mapping.Tie as tie

@@ -1,9 +1,9 @@
--- `listing::main` is safe: the text fits its array.
+-- `listing_file::main` is safe: the text fits its array.
 -- Assumes nothing.
 use mathlib.Core.Path.{sym}
 use lib.Seq.{length-take-le}
 use native.Mathlib.Omega.{arith}
-use Rattle.listing.proofs.Calls.{list-fits}
+use Rattle.listing_file.proofs.Calls.{list-fits}
 use borrow.Author.Needs.{needs}
 use Rattle.listing_program.proofs.main.Statement.{statement}
 use Rattle.listing_program.proofs.main.Tie as tie
@@ -11,8 +11,8 @@ use Rattle.listing_program.proofs.main.Reads as reads
 use Rattle.listing_program.proofs.main.Lts as lts
 use Rattle.io.proofs.read_full.Reads as read-full-reads
 use Rattle.io.proofs.write_all.Reads as write-all-reads
-use Rattle.listing.proofs.laid.Reads as laid-reads
-use Rattle.listing.proofs.list.Reads as list-reads
+use Rattle.listing_file.proofs.laid.Reads as laid-reads
+use Rattle.listing_file.proofs.list.Reads as list-reads
 
 slice-aggregate-read-full : tie.Need-slice-aggregate-read-full
 slice-aggregate-read-full c = search needs

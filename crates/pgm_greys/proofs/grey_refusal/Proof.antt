@@ -1,6 +1,6 @@
 -- The rows 22 to 25, and 27 and 26 behind them. Assumes nothing.
 use mathlib.Core.Path.{sym, _∙_}
-use Rattle.raster.proofs.Tables.{head-within, raster-asks}
+use Rattle.pgm_raster.proofs.Tables.{head-within, raster-asks}
 use Rattle.pgm_greys.proofs.Tables.{grey-limit, grey-raster, grey-target}
 use borrow.Author.Needs.{needs}
 use Rattle.pgm_greys.proofs.grey_refusal.Statement.{statement}

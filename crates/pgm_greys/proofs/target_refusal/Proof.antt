@@ -1,8 +1,8 @@
 -- The rows 27 and 26. Assumes nothing.
 use mathlib.Core.Path.{ap, _∙_}
 use native.Mathlib.Omega.{arith}
-use Rattle.samples.specs.Samples.{noneAbove}
-use Rattle.raster.proofs.Tables.{count-small}
+use Rattle.pgm_samples.specs.Samples.{noneAbove}
+use Rattle.pgm_raster.proofs.Tables.{count-small}
 use Rattle.pgm_greys.proofs.Tables.{target-short, target-fits, target-above}
 use Rattle.pgm_greys.proofs.Parts.{part-length, part-greys}
 use borrow.Author.Needs.{needs}

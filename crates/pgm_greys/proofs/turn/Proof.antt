@@ -1,6 +1,6 @@
 -- The raster's part of the bytes, handed on to the unpacker. Assumes nothing.
 use mathlib.Core.Path.{ap, _∙_}
-use Rattle.lists.specs.Lists.{onto}
+use Rattle.base_lists.specs.Lists.{onto}
 use Rattle.pgm_greys.proofs.Parts.{part-length, part-greys}
 use borrow.Author.Needs.{needs}
 use Rattle.pgm_greys.proofs.turn.Statement.{statement}

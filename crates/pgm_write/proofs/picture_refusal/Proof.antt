@@ -1,7 +1,7 @@
 -- The rows of a picture. Assumes nothing.
 use mathlib.Core.Path.{sym, _∙_}
 use native.Mathlib.Omega.{arith}
-use Rattle.raster.proofs.Tables.{head-within, count-small}
+use Rattle.pgm_raster.proofs.Tables.{head-within, count-small}
 use Rattle.pgm_write.proofs.Tables.{picture-limit, picture-size, picture-above, picture-fits}
 use borrow.Author.Needs.{needs}
 use Rattle.pgm_write.proofs.picture_refusal.Statement.{statement}

@@ -1,8 +1,8 @@
 -- The rows of write: those of the picture, then the room. Assumes nothing.
 use mathlib.Core.Path.{sym, _∙_}
 use native.Mathlib.Omega.{arith}
-use Rattle.header.proofs.Laws.{header-bytes-small}
-use Rattle.raster.proofs.Tables.{raster-small}
+use Rattle.pgm_header.proofs.Laws.{header-bytes-small}
+use Rattle.pgm_raster.proofs.Tables.{raster-small}
 use Rattle.pgm_write.proofs.Tables.{length-file, picture-film, written-front, written-short, written-fits}
 use borrow.Author.Needs.{needs}
 use Rattle.pgm_write.proofs.write_refusal.Statement.{statement}

@@ -1,4 +1,0 @@
-// Runs the byte rows of the film set through the byte calls. The independent second program prints the same text.
-fn main() {
-    byte_set::run(false);
-}

@@ -1,0 +1,39 @@
+// The engine that checks the fast one, for C: numbers and slices in, 0 or the refusal's number out.
+ghost use mathlib.Core.Path.{_≡_};
+ghost use Rattle.film_direct.specs.Direct.{directOf};
+ghost use Rattle.c_flat.specs.Flat.{settingsFrom};
+ghost use Rattle.c_flat.specs.Films.{footFrom};
+ghost use Rattle.c_engines.specs.Flat.{paintedAs, flatPainted};
+use film_prepare::Enhanced;
+
+#[no_mangle]
+pub extern "C" fn tz_direct(
+    width: u32,
+    height: u32,
+    picture: &[u16],
+    across: u32,
+    down: u32,
+    bins: u32,
+    min: u32,
+    max: u32,
+    clip: u32,
+    factor: f32,
+    target: &mut [u16],
+    scratch: &mut [u32],
+    limit: &mut u32,
+    asked: &mut f32,
+    used: &mut f64,
+    edition: u32,
+) -> u32
+    ensures { λ r. ⌜ paintedAs r (now (target .exit)) (now (scratch .exit)) (footFrom (now (limit .exit)) (now (asked .exit)) (now (used .exit))) ≡ flatPainted (directOf width height (now (picture .entry)) (settingsFrom across down bins min max clip factor edition) (now (target .entry)) (now (scratch .entry))) (footFrom (now (limit .entry)) (now (asked .entry)) (now (used .entry))) ⌝ }
+{
+    let s = c_flat::settings_from(across, down, bins, min, max, clip, factor, edition);
+    let answer = film_direct::direct(width, height, picture, s, target, scratch);
+    match answer {
+        Enhanced::Done(footer) => {
+            c_flat::put_footer(limit, asked, used, footer);
+            0
+        }
+        Enhanced::Refused(n) => n,
+    }
+}

@@ -1,4 +1,0 @@
-// Runs the count rows of the film set through the calls of counting and mapping for C. What it prints is what the program `count_films` prints.
-fn main() {
-    count_set::run(true);
-}

@@ -1,0 +1,33 @@
+-- `bin_at` gives the bin of the grey.
+-- Assumes nothing.
+use native.Mathlib.Omega.{arith}
+use Rattle.film_around.proofs.Pixels.{grey-asks, bin-is}
+use borrow.Author.Needs.{needs}
+use Rattle.film_around.proofs.bin_at.Statement.{statement}
+use Rattle.film_around.proofs.bin_at.Tie as tie
+use Rattle.film_around.proofs.bin_at.Reads as reads
+use Rattle.film_around.proofs.bin_at.Lts as lts
+use Rattle.tile_bin.proofs.bin_by.Reads as bin-by-reads
+
+mul-bin-by : tie.Need-mul-bin-by
+mul-bin-by c = search needs
+
+shared-slice-read-bin-by : tie.Need-shared-slice-read-bin-by
+shared-slice-read-bin-by c = search needs
+
+cast-bin-by : tie.Need-cast-bin-by
+cast-bin-by c = omega (arith, grey-asks (c .before .before .pre) .1)
+
+bin-by-requires : tie.Need-bin-by-requires
+bin-by-requires c κs = grey-asks (c .before .before .pre)
+
+cast-result : tie.Need-cast-result
+cast-result c = search needs
+
+returns : tie.Need-returns
+returns c = bin-is (c .before .before .before .pre) (c .bin-by .ensures)
+
+pub bin-at-spec : {M : Type 1} → statement M
+bin-at-spec =
+    tie.close
+    (tie.spec mul-bin-by shared-slice-read-bin-by cast-bin-by bin-by-requires cast-result returns)

@@ -1,0 +1,24 @@
+-- `test_text::two` meets its contract: a line with two numbers. Assumes nothing.
+use borrow.Author.Needs.{needs}
+use Rattle.test_text.specs.Text.{run, lineOf}
+use Rattle.test_text.proofs.two.Statement.{statement}
+use Rattle.test_text.proofs.two.Tie as tie
+
+start-requires : tie.Need-start-requires
+start-requires c κs = search needs
+
+field-requires : tie.Need-field-requires
+field-requires c κs = search needs
+
+field-requires-2 : tie.Need-field-requires-2
+field-requires-2 c κs = search needs
+
+end-requires : tie.Need-end-requires
+end-requires c κs = search needs
+
+returns : tie.Need-returns
+unfolding run lineOf
+returns c = cc
+
+pub two-spec : {M : Type 1} → statement M
+two-spec = tie.close (tie.spec start-requires field-requires field-requires-2 end-requires returns)
