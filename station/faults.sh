@@ -92,6 +92,32 @@ try() { # WHAT WANTED WORDS..
     judge "$what" "$wanted" $?
 }
 
+stopped_slow() { # WHAT SIGNAL:STATUS TOLD WORDS..: stopped once the time that it takes is told, with nothing left of it
+    what=$1 signal=${2%:*} status=${2#*:} sentence=$3
+    shift 3
+    if [ "$signal" = INT ] && [ -z "$undo" ]; then
+        skip "$what: this env does not set signals back"
+        return
+    fi
+    rm -f "$out" said
+    $undo "$tz" "$@" >wrote 2>said &
+    child=$!
+    turns=0
+    while [ "$turns" -lt 600 ] && ! grep -q 'it takes about' said 2>/dev/null && kill -0 "$child" 2>/dev/null; do
+        sleep 0.1
+        turns=$((turns + 1))
+    done
+    sleep 1
+    kill -s "$signal" "$child" 2>/dev/null
+    wait "$child" 2>/dev/null
+    saw=$?
+    if [ "$saw" -eq "$status" ] && grep -q "$sentence: for this film it takes about [0-9]" said && [ ! -e "$out" ] && [ ! -s wrote ] && no_leftover out; then ok=yes; else ok=no; fi
+    report "$ok" "$what" "status $saw: $(tail -n 1 said)"
+}
+
+# ---- the C files
+. "$top/station/faults/order.sh"
+
 # ---- words
 try 'no command' 64
 try 'no such command' 64 enlarge film.pgm "$out"

@@ -5,6 +5,7 @@
 #include <string.h>
 #include <unistd.h>
 
+#include "advice.h"
 #include "bins.h"
 #include "check.h"
 #include "messages.h"

@@ -17,9 +17,6 @@ enum {
     ENGINES_DIFFER = 77   /* the fast engine and the plain one leave different things */
 };
 
-/* What help prints. */
-extern const char usage[];
-
 /* What is told beside messages, once it is known whether that is wanted: nothing at all, or also what is being done, in
    one line that is written over, where standard error is a terminal. */
 void tell_nothing(void);

@@ -5,12 +5,8 @@ The film shows a plate whose wall gets thinner to the right and downward. Nine s
 ragged borders that partly lie over each other, rough inside; 180 pits of one depth lie all over it; and there is film noise.
 Only the four basic operations are used, and all chance comes from a fixed generator, so every machine draws the same bytes.
 """
-import sys
+from weld import HEIGHT, MAXVAL, WIDTH, Noise, hump, write
 
-import png
-from weld import Noise, hump
-
-WIDTH, HEIGHT, MAXVAL = 512, 384, 4095
 PITS, DEEP = 180, 120.0  # how many pits, and how much darker they are
 ROUGH = ((37, 60.0), (15, 30.0))  # the roughness of scabs: from bump to bump, and how high
 RAGGED = ((53, 0.5), (23, 0.25), (9, 0.12))  # and of their borders
@@ -100,16 +96,5 @@ def film():
             yield min(max(int(grey), 0), MAXVAL)
 
 
-def main():
-    raster = bytearray()
-    for grey in film():
-        raster += bytes((grey >> 8, grey & 255))
-    data = b"P5\n%d %d\n%d\n" % (WIDTH, HEIGHT, MAXVAL) + bytes(raster)
-    if len(sys.argv) > 1:
-        png.put(data, sys.argv[1], "--force" in sys.argv[2:])
-    else:
-        sys.stdout.buffer.write(data)
-
-
 if __name__ == "__main__":
-    main()
+    write(film())

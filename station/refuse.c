@@ -48,15 +48,9 @@ static void way_by_range(const struct run *run, struct span greys)
 static void more_settings(const struct run *run)
 {
     const tz_settings *s = &run->settings;
-    char by[48], clip[32] = "off";
-    if (is_around(run))
-        snprintf(by, sizeof by, "--side %u", (unsigned)run->job->side);
-    else
-        snprintf(by, sizeof by, "--grid %ux%u", (unsigned)s->across, (unsigned)s->down);
-    if (s->clip)
-        snprintf(clip, sizeof clip, "%.9g", (double)s->factor);
-    say_more("The settings were %s --bins %u --range %u:%u (%u greys) --clip %s --edition %s.", by, (unsigned)tz_bins_of(s),
-             (unsigned)s->min, (unsigned)s->max, s->max >= s->min ? (unsigned)(s->max - s->min) + 1u : 0u, clip,
+    struct worded w = worded_of(run);
+    say_more("The settings were %s --bins %u --range %u:%u (%u greys) --clip %s --edition %s.", w.place, (unsigned)tz_bins_of(s),
+             (unsigned)s->min, (unsigned)s->max, s->max >= s->min ? (unsigned)(s->max - s->min) + 1u : 0u, w.clip,
              s->edition == TZ_OURS ? "ours" : "1986");
 }
 

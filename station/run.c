@@ -4,18 +4,6 @@
 
 #include "bins.h"
 
-struct span span_of(const uint16_t *picture, size_t pixels)
-{
-    struct span s = {picture[0], picture[0]};
-    for (size_t i = 1; i < pixels; i++) {
-        if (picture[i] < s.least)
-            s.least = picture[i];
-        if (picture[i] > s.greatest)
-            s.greatest = picture[i];
-    }
-    return s;
-}
-
 int is_around(const struct run *run) { return run->job->command == AROUND; }
 
 uint32_t judged_pixels(const struct run *run)
@@ -24,18 +12,25 @@ uint32_t judged_pixels(const struct run *run)
                           : least_tile(&run->settings, run->sizes.width, run->sizes.height);
 }
 
+struct worded worded_of(const struct run *run)
+{
+    const tz_settings *s = &run->settings;
+    struct worded w = {"", "off"};
+    if (is_around(run))
+        snprintf(w.place, sizeof w.place, "--side %u", (unsigned)run->job->side);
+    else
+        snprintf(w.place, sizeof w.place, "--grid %ux%u", (unsigned)s->across, (unsigned)s->down);
+    if (s->clip)
+        snprintf(w.clip, sizeof w.clip, "%.9g", (double)s->factor);
+    return w;
+}
+
 void settings_words(const struct run *run, char text[SETTINGS_TEXT])
 {
     const tz_settings *s = &run->settings;
-    char by[48], clip[32] = "off";
-    if (is_around(run))
-        snprintf(by, sizeof by, "--side %u", (unsigned)run->job->side);
-    else
-        snprintf(by, sizeof by, "--grid %ux%u", (unsigned)s->across, (unsigned)s->down);
-    if (s->clip)
-        snprintf(clip, sizeof clip, "%.9g", (double)s->factor);
-    snprintf(text, SETTINGS_TEXT, "%s --bins %u --range %u:%u --clip %s%s", by, (unsigned)tz_bins_of(s), (unsigned)s->min,
-             (unsigned)s->max, clip, s->edition == TZ_OURS ? "" : " --edition 1986");
+    struct worded w = worded_of(run);
+    snprintf(text, SETTINGS_TEXT, "%s --bins %u --range %u:%u --clip %s%s", w.place, (unsigned)tz_bins_of(s), (unsigned)s->min,
+             (unsigned)s->max, w.clip, s->edition == TZ_OURS ? "" : " --edition 1986");
 }
 
 /* Refusals 5 and 6, the other way round. */

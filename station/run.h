@@ -2,8 +2,8 @@
 #ifndef TZ_RUN_H
 #define TZ_RUN_H
 
-#include "advice.h"
 #include "files.h"
+#include "greys.h"
 #include "sha256.h"
 #include "tzofnadir.h"
 #include "words.h"
@@ -43,18 +43,18 @@ struct run {
     tz_footer footer;
 };
 
-/* The least and the greatest grey of a film. */
-struct span {
-    uint16_t least, greatest;
-};
-
-struct span span_of(const uint16_t *picture, size_t pixels);
-
 /* Whether each pixel has a region of its own, in the place of the grid. */
 int is_around(const struct run *run);
 
 /* The pixels by which a factor and bins are judged: those of the least tile, or of a whole region, as nearly all have it. */
 uint32_t judged_pixels(const struct run *run);
+
+/* Of the settings what is no number as it stands: the grid or the side with its option, and the factor or `off`. */
+struct worded {
+    char place[48], clip[32];
+};
+
+struct worded worded_of(const struct run *run);
 
 /* Settings as words that give the same film again. */
 #define SETTINGS_TEXT 160

@@ -1,5 +1,5 @@
 /* What help prints. station/render prints the lines of this file without a build, so each stands in a string of its own. */
-#include "messages.h"
+#include "usage.h"
 
 const char usage[] =
     "usage: tzofnadir enhance IN.pgm OUT.pgm|OUT.png [SETTINGS] [--record FILE]\n"

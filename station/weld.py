@@ -84,9 +84,10 @@ def film():
             yield min(max(int(grey), 0), MAXVAL)
 
 
-def main():
+def write(greys):
+    """Writes a film of these greys as raw PGM, to the file that the words name or to standard output."""
     raster = bytearray()
-    for grey in film():
+    for grey in greys:
         raster += bytes((grey >> 8, grey & 255))
     data = b"P5\n%d %d\n%d\n" % (WIDTH, HEIGHT, MAXVAL) + bytes(raster)
     if len(sys.argv) > 1:
@@ -96,4 +97,4 @@ def main():
 
 
 if __name__ == "__main__":
-    main()
+    write(film())

@@ -217,28 +217,9 @@ report "$ok" 'around: several films, all refused' "status $saw: $(tail -n 1 said
 rm -rf rounds
 
 # ---- a film that takes long: the time is told beforehand; stopped, nothing is left
-begun() { # WHAT WORDS..
-    what=$1
-    shift
-    rm -f "$out" said
-    $undo "$tz" "$@" >wrote 2>said &
-    child=$!
-    turns=0
-    while [ "$turns" -lt 600 ] && ! grep -q 'it takes about' said 2>/dev/null && kill -0 "$child" 2>/dev/null; do
-        sleep 0.1
-        turns=$((turns + 1))
-    done
-    sleep 1
-    kill -s "$signal" "$child" 2>/dev/null
-    wait "$child" 2>/dev/null
-    saw=$?
-    if [ "$saw" -eq "$status" ] && grep -q 'big.pgm: each pixel has a region of its own: for this film it takes about [0-9]' said && [ ! -e "$out" ] && [ ! -s wrote ] && no_leftover out; then ok=yes; else ok=no; fi
-    report "$ok" "$what" "status $saw: $(tail -n 1 said)"
-}
 for signal in TERM:143 INT:130 ALRM:142 KILL:137; do
-    status=${signal#*:} signal=${signal%:*}
-    [ "$signal" != INT ] || [ -n "$undo" ] || { skip "around stopped by INT: this env does not set signals back"; continue; }
-    begun "around: the time is told beforehand; stopped by $signal, no film is left" around big.pgm "$out" --bins 4096
+    stopped_slow "around: the time is told beforehand; stopped by ${signal%:*}, no film is left" "$signal" \
+        'big.pgm: each pixel has a region of its own' around big.pgm "$out" --bins 4096
 done
 
 # ---- progress, on a terminal alone

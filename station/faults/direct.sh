@@ -161,31 +161,12 @@ compared: the film's own first 54912 pixels of 1100000, row by row from the top
 compared: 5 parts of 312 by 312 pixels, corners and middle, each rendered as a film of its own" plates.pgm --bins 256
 if grep -q '^plates.pgm: --whole compares all pixels, in about [0-9]' said; then ok=yes; else ok=no; fi
 report "$ok" 'check: of a large film, how long all of it takes' "$(tail -n 1 said)"
-stopped() { # WHAT WORDS..: interrupted once the time is told, and nothing is left
-    what=$1
-    shift
-    rm -f "$out" said
-    $undo "$tz" "$@" >wrote 2>said &
-    child=$!
-    turns=0
-    while [ "$turns" -lt 600 ] && ! grep -q 'it takes about' said 2>/dev/null && kill -0 "$child" 2>/dev/null; do
-        sleep 0.1
-        turns=$((turns + 1))
-    done
-    sleep 1
-    kill -s "$signal" "$child" 2>/dev/null
-    wait "$child" 2>/dev/null
-    saw=$?
-    if [ "$saw" -eq "$status" ] && grep -q 'the plain engine counts four tiles for each pixel: for this film it takes about [0-9]' said && [ ! -e "$out" ] && [ ! -s wrote ] && no_leftover out; then ok=yes; else ok=no; fi
-    report "$ok" "$what" "status $saw: $(tail -n 1 said)"
-}
+slowly='the plain engine counts four tiles for each pixel'
 for signal in TERM:143 INT:130 ALRM:142; do
-    status=${signal#*:} signal=${signal%:*}
-    [ "$signal" != INT ] || [ -n "$undo" ] || { skip "direct stopped by INT: this env does not set signals back"; continue; }
-    stopped "direct: the time is told beforehand; stopped by $signal, no film is left" direct plates.pgm "$out" --grid 2x2
+    stopped_slow "direct: the time is told beforehand; stopped by ${signal%:*}, no film is left" "$signal" "$slowly" \
+        direct plates.pgm "$out" --grid 2x2
 done
-signal=TERM status=143
-stopped 'check --whole: the time is told beforehand; stopped' check plates.pgm --whole --grid 2x2
+stopped_slow 'check --whole: the time is told beforehand; stopped' TERM:143 "$slowly" check plates.pgm --whole --grid 2x2
 
 # ---- progress, on a terminal alone
 "$tz" direct film.pgm slow.pgm 2>said

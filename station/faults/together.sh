@@ -25,13 +25,13 @@ eight_render() { # WHAT HOW_MANY
     report "$ok" "$1" "$same the same film, $not_0 ended otherwise, $left files left"
 }
 eight_render '8 station/render at once, all built' 6
-touch "$clone/station/tzofnadir.c"
+touch "$clone/station/main.c"
 eight_render '8 station/render at once, the program to be built' 1
 rm -r "$clone/target/station"
 eight_render '8 station/render at once, no program there' 1
 
 # who has to wait for another build says so
-touch "$clone/station/tzofnadir.c"
+touch "$clone/station/main.c"
 rm -f built_by_now
 # shellcheck disable=SC2016
 flock "$clone/target/station.lock" sh -c 'for i in $(seq 600); do [ -e built_by_now ] || sleep 0.1; done' &
@@ -147,8 +147,8 @@ if $drop "$clone/target/station/tzofnadir" --help >wrote 2>said; then
     film=$(sed 's/.*: //' wrote)
     if [ "$saw" -eq 0 ] && whole "$film" && [ ! -e "$clone/target/weld-rendered.pgm" ]; then ok=yes; else ok=no; fi
     report "$ok" 'a clone that may only be read: station/render' "status $saw: $(cat wrote)"
-    chmod u+w "$clone/station/tzofnadir.c"
-    touch "$clone/station/tzofnadir.c"
+    chmod u+w "$clone/station/main.c"
+    touch "$clone/station/main.c"
     cp before theirs/film.pgm
     (cd "$clone" && $drop station/render "$room/film.pgm" "$room/theirs/film.pgm" --force) 2>said
     saw=$?
