@@ -116,26 +116,10 @@ pub fn grey_by(column: Place, row: Place, factor: u64, a: u32, b: u32, c: u32, d
     quotient(weigh(column, row, a, b, c, d), column, row, factor)
 }
 
-// Two mapped values, each by its weight.
-pub fn pair(place: Place, a: u32, b: u32) -> u32
-    requires { ⌜ Sound 16 2048 place × (a ≤ 4095) × (b ≤ 4095) ⌝ }
-    ensures { λ r. ⌜ r ≡ pairOf place a b ⌝ }
-{
-    place.lowerweight * a + place.upperweight * b
-}
-
 // The weighted sum of a pixel from the row's pairs of the tiles on its left and on its right. One column on it is this sum, and the right pair more, and the left pair less.
 pub fn sides(column: Place, left: u32, right: u32) -> u64
     requires { ⌜ Sound 16 2048 column × (left ≤ 2048 * 4095) × (right ≤ 2048 * 4095) ⌝ }
     ensures { λ r. ⌜ r ≡ pairOf column left right ⌝ }
 {
     (column.lowerweight as u64) * (left as u64) + (column.upperweight as u64) * (right as u64)
-}
-
-// The grey of a pixel from those pairs: two products, and the factor in place of the division.
-pub fn grey_sides(column: Place, row: Place, factor: u64, left: u32, right: u32) -> u32
-    requires { ⌜ Sound 16 2048 column × Sound 16 2048 row × Inverse (column .span * row .span) factor × (left ≤ row .span * 4095) × (right ≤ row .span * 4095) ⌝ }
-    ensures { λ r. ⌜ r ≡ sidesOf column row left right ⌝ }
-{
-    quotient(sides(column, left, right), column, row, factor)
 }
