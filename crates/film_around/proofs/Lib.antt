@@ -1,4 +1,5 @@
 pub mod Twins
+pub mod Finds
 pub mod Table
 pub mod Pixels
 pub mod Rows

@@ -6,11 +6,10 @@ use mathlib.Core.List.{List, map}
 use mathlib.Core.Path.{_≡_, refl, sym, ap, ap₂, _∙_, subst}
 use native.Mathlib.Nat.{mul-comm}
 use native.Mathlib.Omega.{arith}
-use borrow.Rule.Slice.PartMut.{putMid}
 use lib.Arith.{digits-lt}
 use lib.ListN.{length, take, drop, getD}
 use lib.Seq.{length-take-le, getD-take, drop-drop}
-use Rattle.base_lists.specs.Lists.{times, total, all, over, onto}
+use Rattle.base_lists.specs.Lists.{times, total, all, onto}
 use Rattle.base_lists.proofs.Alls.{all-at}
 use Rattle.base_lists.proofs.Fills.{length-onto, drop-onto}
 use Rattle.base_range.specs.Scan.{within}
@@ -22,14 +21,14 @@ use Rattle.tile_count.specs.Tally.{greysOf, countsOf, Inside, Scale, CountRectA
 use Rattle.tile_count.proofs.Greys.{greys-all, length-greys}
 use Rattle.tile_count.proofs.Counts.{length-counts, total-counts, counts-by, counts-front}
 use Rattle.tile_map.specs.Tile.{clippedBy, dividedBy, mappedOf, tileMapping, Holds}
-use Rattle.tile_map.proofs.Tiles.{length-clipped-by, tile-counts-by, tile-divides-by, length-tile-mapping, getD-tile-mapping, tile-mapping-within}
+use Rattle.tile_map.proofs.Tiles.{tile-counts-by, tile-divides-by, length-tile-mapping, getD-tile-mapping, tile-mapping-within}
 use Rattle.film_settings.specs.declared.Settings.{Settings}
 use Rattle.film_tiles.proofs.Films.{clip-holds}
 use Rattle.tile_slide.specs.Slide.{regionRect, RegionAsks, SlideAsks, Slid}
 use Rattle.tile_slide.proofs.Regions.{region-inside}
+use Rattle.tile_value.specs.declared.Found.{Found}
 use Rattle.tile_value.specs.Value.{ValueAsks, ValueGiven}
-use Rattle.film_around.specs.Around.{regionPixels, regionMapping, aroundGrey, AroundReady, AroundBinAsks, AroundPixelAsks, AroundGreyed, RegionHeld, AroundStartAsks}
-use Rattle.film_around.proofs.Twins.{twin-length, twin-part, twin-front, twin-behind, twin-size}
+use Rattle.film_around.specs.Around.{regionPixels, regionMapping, aroundGrey, AroundReady, AroundBinAsks, AroundPixelAsks, AroundGreyed, RegionHeld, SpanAsks, FoundAsks, FoundIn, AroundStartAsks}
 
 -- ---- the bin of a grey
 
@@ -53,6 +52,9 @@ module _ {pic : List ℕ} {s : Settings} {at b factor : ℕ} (asks : AroundBinAs
 
 pub film-region : {w h : ℕ} {pic : List ℕ} {side : ℕ} {s : Settings} {x y : ℕ} → AroundReady w h pic side s → x < w → y < h → RegionAsks w h side x y
 film-region film l k = record { few = film .few; across = l; down = k; wide = film .widest; high = film .highest }
+
+pub film-span : {w h : ℕ} {pic : List ℕ} {side : ℕ} {s : Settings} {x y : ℕ} → AroundReady w h pic side s → x < w → y < h → SpanAsks (length pic) w h side x y
+film-span film l k = record { region = film-region film l k; whole = film .whole }
 
 -- it lies inside the film
 pub film-inside : {w h : ℕ} {pic : List ℕ} {side : ℕ} {s : Settings} {x y : ℕ} → AroundReady w h pic side s → x < w → y < h → Inside (length pic) w (regionRect w h side x y)
@@ -193,35 +195,32 @@ module _ {w h : ℕ} {pic : List ℕ} {side : ℕ} {s : Settings} {x y b factor 
         ap₂ (λ c j. getD (tileMapping (s .min) (s .max) c (s .edition) (s .clip) greys) j 0) (asks .bins)
         (q ∙ ap (λ c. binOf (s .min) (s .max) c (getD pic (y * w + x) 0)) (asks .bins))
 
-    -- the counts stand twice, and the second of them is lent
-    module _ {t′ : List ℕ} (e : t′ ≡ over t b (take b t)) where
-      part-counts : take (b + b - b) (drop b t′) ≡ countsOf (s .min) (s .max) b greys
-      part-counts = twin-part t b (asks .room) e ∙ front-counts
+    -- what looking the value up asks
+    pub found-asks : FoundAsks s n k b t
+    found-asks = record { asks = counts-asks front-counts; room = asks .room }
 
-      pub value-asks : ValueAsks (s .clip) n (s .min) (s .max) k (take (b + b - b) (drop b t′))
-      value-asks = counts-asks part-counts
+    module _ {t′ : List ℕ} {f : Found} (found : FoundIn s n k b t t′ f) where
+      pub found-held : RegionHeld w h pic side s x y b t t′
+      found-held = record { front = λ i l. found .front i l ∙ asks .front i l; behind = found .behind; size = found .size }
 
-      pub part-room : b + b ≤ length t′
-      part-room = omega (arith, twin-length t b (asks .room) e, asks .room)
+      pub found-grey : f .known ≡ true → AroundGreyed w h pic side s x y (f .value)
+      found-grey e =
+          let given : ValueGiven (s .edition) (s .clip) n (s .min) (s .max) k (take b t) (clippedBy (s .edition) (s .clip) n (take b t)) (f .value) = record { counts = refl; value = found .value e } in
+          let is = counts-value front-counts given in
+          record { grey = is ∙ own-grey; most = omega (arith, is, mapped-most) }
 
-      module _ {ds : List ℕ} {v : ℕ} (given : ValueGiven (s .edition) (s .clip) n (s .min) (s .max) k (take (b + b - b) (drop b t′)) ds v) where
-        written-length : length ds ≡ b
-        written-length =
-            ap length (given .counts)
-            ∙ length-clipped-by (s .edition) (s .clip) n (take (b + b - b) (drop b t′))
-            ∙ ap length part-counts
-            ∙ length-counts (s .min) (s .max) b greys
-
-        pub grey-held : RegionHeld w h pic side s x y b t (putMid b (b + b - b) t′ ds)
-        grey-held =
-            record {
-              front = λ i l. twin-front t b (asks .room) e ds written-length i l ∙ asks .front i l;
-              behind = twin-behind t b (asks .room) e ds written-length;
-              size = twin-size t b (asks .room) e ds written-length;
-            }
-
-        pub grey-is : AroundGreyed w h pic side s x y v
-        grey-is = let is = counts-value part-counts given in record { grey = is ∙ own-grey; most = omega (arith, is, mapped-most) }
+      -- the counts are there for another look
+      pub found-again : AroundPixelAsks w h pic side s x y b factor t′
+      found-again =
+          record {
+            film = asks .film;
+            column = asks .column;
+            row = asks .row;
+            bins = asks .bins;
+            by = asks .by;
+            room = omega (arith, asks .room, found .size);
+            front = found-held .front;
+          }
 
   -- ---- the counts moved on
 

@@ -24,7 +24,7 @@ unfolding over
 drop-over d at ys l = drop-at (take at d) (ys ++ drop (at + length ys) d) at (length-take-le at d l)
 
 -- before the place it is as it was
-front-over : (d : List ℕ) (at : ℕ) (ys : List ℕ) (k : ℕ) → at ≤ length d → k < at → getD (over d at ys) k 0 ≡ getD d k 0
+pub front-over : (d : List ℕ) (at : ℕ) (ys : List ℕ) (k : ℕ) → at ≤ length d → k < at → getD (over d at ys) k 0 ≡ getD d k 0
 front-over d at ys k l h =
     sym (getD-take at (over d at ys) k 0 h) ∙ ap (λ z. getD z k 0) (take-over d at ys l) ∙ getD-take at d k 0 h
 

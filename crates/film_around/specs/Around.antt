@@ -6,20 +6,22 @@ use mathlib.Core.Bool.{true, false, cond}
 use mathlib.Core.List.{List, [], _∷_, _++_, map}
 use mathlib.Core.Path.{_≡_}
 use lib.Dec.{ltb, eqb}
-use lib.ListN.{length, drop, getD}
+use lib.ListN.{length, take, drop, getD}
 use Rattle.base_lists.specs.Lists.{tab, joined, times, all}
 use Rattle.base_rows.specs.Refuse.{Row, row, scratchRow, targetRow, first, unless}
 use Rattle.base_range.specs.Scan.{within}
 use Rattle.tile_bin.specs.Binning.{binOf, factorOf}
 use Rattle.tile_count.specs.Tally.{greysOf, Scale}
-use Rattle.tile_map.specs.Tile.{tileMapping}
+use Rattle.tile_map.specs.Tile.{clippedBy, dividedBy, mappedOf, tileMapping}
+use Rattle.tile_value.specs.declared.Found.{Found}
+use Rattle.tile_value.specs.Value.{ValueAsks}
 use Rattle.film_settings.specs.declared.Settings.{Settings}
 use Rattle.film_settings.specs.declared.Footer.{Footer}
 use Rattle.film_settings.specs.Settings.{binsOf, clipBad, clipOne, outsideRow, sizeRows, greyRows}
 use Rattle.film_tiles.specs.Tiles.{footerOf}
 use Rattle.film_prepare.specs.declared.Enhanced.the-variants as Enhanced
 use Rattle.film_prepare.specs.Prepare.{scratchLeft, PaintOut, paintLeaves}
-use Rattle.tile_slide.specs.Slide.{regionRect}
+use Rattle.tile_slide.specs.Slide.{regionRect, RegionAsks}
 
 -- ---- the refusals
 
@@ -122,6 +124,35 @@ pub record RegionHeld (w h : ℕ) (pic : List ℕ) (side : ℕ) (s : Settings) (
   pub front : RegionCounted w h pic side s x y b t
   pub behind : drop (b + b) t ≡ drop (b + b) t₀
   pub size : length t ≡ length t₀
+
+-- what the greys of some columns and rows of a film ask
+pub record BandAsks (size stride left right bottom : ℕ) : Type 0 where
+  pub order : left ≤ right
+  pub across : right ≤ stride
+  pub wide : stride ≤ 4096
+  pub down : bottom * stride ≤ size
+  pub high : bottom ≤ 4096
+
+-- what the regions around some pixels of a row ask
+pub record SpanAsks (size w h side x y : ℕ) : Type 0 where
+  pub region : RegionAsks w h side x y
+  pub whole : size ≡ w * h
+
+-- what the value of a bin asks of the counts in the front of the scratch
+pub record FoundAsks (s : Settings) (n k b : ℕ) (t : List ℕ) : Type 0 where
+  pub asks : ValueAsks (s .clip) n (s .min) (s .max) k (take b t)
+  pub room : b + b ≤ length t
+
+-- and leaves: the counts, what lies behind twice the bins, and the value, if it is known
+pub record FoundIn (s : Settings) (n k b : ℕ) (t₀ t : List ℕ) (f : Found) : Type 0 where
+  pub front : (i : ℕ) → i < b → getD t i 0 ≡ getD t₀ i 0
+  pub behind : drop (b + b) t ≡ drop (b + b) t₀
+  pub size : length t ≡ length t₀
+  pub value : f .known ≡ true → f .value ≡ mappedOf (s .min) (s .max) (dividedBy (s .edition) (s .clip) n (take b t₀)) (clippedBy (s .edition) (s .clip) n (take b t₀)) k
+
+-- a value that is known
+abbrev pub foundAs : ℕ → Found
+foundAs r = record { known = true; value = r }
 
 -- what the first region of a row asks
 pub record AroundStartAsks (w h : ℕ) (pic : List ℕ) (side : ℕ) (s : Settings) (y b scratch : ℕ) : Type 0 where

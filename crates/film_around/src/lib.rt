@@ -1,16 +1,17 @@
 // A window around each pixel: every pixel has a region of its own, whose counts move on from pixel to pixel.
 ghost use mathlib.Core.Path.{_≡_};
 ghost use Prim.Native.Nat.{_+_, _*_, _≤_, _<_};
-ghost use lib.ListN.{length, take, getD};
+ghost use lib.ListN.{length, take, drop, getD};
 ghost use Rattle.base_lists.specs.Lists.{joined, filled, over};
 ghost use Rattle.base_rows.specs.Refuse.{first};
 ghost use Rattle.tile_bin.specs.Binning.{binOf};
 ghost use Rattle.film_settings.specs.Settings.{binsOf};
 ghost use Rattle.tile_slide.specs.Slide.{RegionAsks};
 ghost use Rattle.film_prepare.specs.Prepare.{paintLeaves};
-ghost use Rattle.film_around.specs.Around.{regionRows, aroundWorkRows, aroundRows, regionPixels, aroundRow, aroundOf, AroundBinAsks, AroundPixelAsks, AroundGreyed, RegionHeld, AroundStartAsks, AroundRowAsks, AroundPaintAsks, BehindTwiceBins};
+ghost use Rattle.film_around.specs.Around.{regionRows, aroundWorkRows, aroundRows, regionPixels, aroundRow, aroundOf, AroundBinAsks, AroundPixelAsks, AroundGreyed, RegionHeld, BandAsks, SpanAsks, FoundAsks, FoundIn, foundAs, AroundStartAsks, AroundRowAsks, AroundPaintAsks, BehindTwiceBins};
 use film_prepare::Enhanced;
 use film_settings::Settings;
+use tile_value::Found;
 
 // Refusal 39, where it applies, else 0.
 fn region_refusal(side: u32) -> u32
@@ -108,25 +109,189 @@ fn area(width: u32, height: u32, side: u32, x: u32, y: u32) -> u32
     (rect.width * rect.height) as u32
 }
 
-// The grey of the pixel in column x and row y. Its region's counts stand in the front of the scratch, and stay there.
-fn grey(
+// The least and the greatest of some greys.
+struct Greys {
+    low: u16,
+    high: u16,
+}
+
+// The bins from `low` up to `top` and with it, which is where the counts of some regions are looked for. Nothing rests on it: whether all of a region's
+// pixels are in these bins is asked of its counts.
+struct Span {
+    low: usize,
+    top: usize,
+}
+
+// The least and the greatest of these and of a row's greys.
+fn row_greys(row: &[u16], was: Greys) -> Greys {
+    let mut low = was.low;
+    let mut high = was.high;
+    let mut k = 0;
+    while k < row.len() {
+        let v = row[k];
+        low = base_range::least(low, v);
+        high = base_range::greatest(high, v);
+        k += 1;
+    }
+    Greys { low, high }
+}
+
+// Those of the columns from `left` up to `right`, of the rows from `top` up to `bottom`.
+fn band_greys(
+    picture: &[u16],
+    stride: usize,
+    left: usize,
+    right: usize,
+    top: usize,
+    bottom: usize,
+) -> Greys
+    requires { ⌜ BandAsks (length (now picture)) stride left right bottom ⌝ }
+{
+    let mut greys = Greys {
+        low: 65535,
+        high: 0,
+    };
+    let mut y = top;
+    while y < bottom {
+        let a = y * stride + left;
+        let e = y * stride + right;
+        greys = row_greys(&picture[a..e], greys);
+        y += 1;
+    }
+    greys
+}
+
+// The bin of a grey, and bin 0 for one that is none of the range.
+fn bin_near(grey: u16, min: u32, factor: u32) -> usize {
+    let v = grey as u32;
+    if v < min {
+        return 0;
+    }
+    if 4095 < v {
+        return 0;
+    }
+    tile_bin::bin_by(v, min, factor) as usize
+}
+
+// The column 63 behind x, or the film's last.
+fn last_of(width: u32, x: u32) -> u32
+    requires { ⌜ (x < width) × (width ≤ 4096) ⌝ }
+    ensures { λ r. ⌜ (x ≤ r) × (r < width) ⌝ }
+{
+    if x + 63 < width { x + 63 } else { width - 1 }
+}
+
+// The bins of the regions around 64 pixels of row y from column x on.
+fn span_of(
     picture: &[u16],
     width: u32,
     height: u32,
     side: u32,
-    s: Settings,
+    min: u32,
     x: u32,
     y: u32,
-    bins: u32,
     factor: u32,
-    scratch: &mut [u32],
-) -> u32
-    requires { ⌜ AroundPixelAsks width height (now picture) side s x y bins factor (now scratch) ⌝ }
-    ensures { λ r. ⌜ RegionHeld width height (now (picture .entry)) side s x y bins (now (scratch .entry)) (now (scratch .exit)) × AroundGreyed width height (now (picture .entry)) side s x y r ⌝ }
+) -> Span
+    requires { ⌜ SpanAsks (length (now picture)) width height side x y ⌝ }
 {
-    let at = (y as usize) * (width as usize) + (x as usize);
-    let k = bin_at(picture, s, at, bins, factor);
-    let pixels = area(width, height, side, x, y);
+    let first = tile_slide::region(width, height, side, x, y);
+    let last = tile_slide::region(width, height, side, last_of(width, x), y);
+    let right = last.left + last.width;
+    let bottom = first.top + first.height;
+    let greys = band_greys(
+        picture,
+        width as usize,
+        first.left,
+        right,
+        first.top,
+        bottom,
+    );
+    let low = bin_near(greys.low, min, factor);
+    let top = bin_near(greys.high, min, factor);
+    Span { low, top }
+}
+
+// The same, worked out for each 64th column, and kept for those behind it.
+fn span_at(
+    picture: &[u16],
+    width: u32,
+    height: u32,
+    side: u32,
+    min: u32,
+    x: u32,
+    y: u32,
+    factor: u32,
+    was: Span,
+) -> Span
+    requires { ⌜ SpanAsks (length (now picture)) width height side x y ⌝ }
+{
+    if x % 64 != 0 {
+        return was;
+    }
+    span_of(picture, width, height, side, min, x, y, factor)
+}
+
+// Copies n entries from bin `low` on to where the second half begins.
+fn twin_part(t: &mut [u32], half: usize, low: usize, n: usize)
+    requires { ⌜ (low + n ≤ half) × (half + half ≤ length (now t)) ⌝ }
+    ensures { λ _. ⌜ now (t .exit) ≡ over (now (t .entry)) half (take n (drop low (now (t .entry)))) ⌝ }
+{
+    let mut k = 0;
+    while k < n {
+        t[half + k] = t[low + k];
+        k += 1;
+    }
+}
+
+// The mapped value of bin k by the counts in the front of the scratch, of which those of the span are looked at alone. It is known where they
+// are all pixels, and no bin beside them fills up.
+fn found_in(s: Settings, pixels: u32, k: usize, bins: u32, span: Span, scratch: &mut [u32]) -> Found
+    requires { ⌜ FoundAsks s pixels k bins (now scratch) ⌝ }
+    ensures { λ f. ⌜ FoundIn s pixels k bins (now (scratch .entry)) (now (scratch .exit)) f ⌝ }
+{
+    let half = bins as usize;
+    let low = span.low;
+    let top = span.top;
+    let unknown = Found {
+        known: false,
+        value: 0,
+    };
+    if k < low {
+        return unknown;
+    }
+    if top < k {
+        return unknown;
+    }
+    if half <= top {
+        return unknown;
+    }
+    let end = top + 1;
+    let n = end - low;
+    if tile_value::through(&scratch[low..end], n - 1) != pixels as u64 {
+        return unknown;
+    }
+    twin_part(scratch, half, low, n);
+    let last = half + n;
+    let clip = s.clip;
+    let edition = s.edition;
+    tile_value::value_span(
+        clip,
+        pixels,
+        s.min,
+        s.max,
+        k,
+        half,
+        low,
+        &mut scratch[half..last],
+        edition,
+    )
+}
+
+// The same by all counts.
+fn found_whole(s: Settings, pixels: u32, k: usize, bins: u32, scratch: &mut [u32]) -> u32
+    requires { ⌜ FoundAsks s pixels k bins (now scratch) ⌝ }
+    ensures { λ r. ⌜ FoundIn s pixels k bins (now (scratch .entry)) (now (scratch .exit)) (foundAs r) ⌝ }
+{
     let each = bins as usize;
     let end = each + each;
     let clip = s.clip;
@@ -143,6 +308,33 @@ fn grey(
     )
 }
 
+// The grey of the pixel in column x and row y. Its region's counts stand in the front of the scratch, and stay there.
+fn grey(
+    picture: &[u16],
+    width: u32,
+    height: u32,
+    side: u32,
+    s: Settings,
+    x: u32,
+    y: u32,
+    bins: u32,
+    factor: u32,
+    span: Span,
+    scratch: &mut [u32],
+) -> u32
+    requires { ⌜ AroundPixelAsks width height (now picture) side s x y bins factor (now scratch) ⌝ }
+    ensures { λ r. ⌜ RegionHeld width height (now (picture .entry)) side s x y bins (now (scratch .entry)) (now (scratch .exit)) × AroundGreyed width height (now (picture .entry)) side s x y r ⌝ }
+{
+    let at = (y as usize) * (width as usize) + (x as usize);
+    let k = bin_at(picture, s, at, bins, factor);
+    let pixels = area(width, height, side, x, y);
+    let found = found_in(s, pixels, k, bins, span, scratch);
+    if found.known {
+        return found.value;
+    }
+    found_whole(s, pixels, k, bins, scratch)
+}
+
 // The same, and the counts moved on to the region around the pixel to the right.
 fn pixel(
     picture: &[u16],
@@ -154,12 +346,25 @@ fn pixel(
     y: u32,
     bins: u32,
     factor: u32,
+    span: Span,
     scratch: &mut [u32],
 ) -> u32
     requires { ⌜ AroundPixelAsks width height (now picture) side s x y bins factor (now scratch) ⌝ }
     ensures { λ r. ⌜ RegionHeld width height (now (picture .entry)) side s (x + 1) y bins (now (scratch .entry)) (now (scratch .exit)) × AroundGreyed width height (now (picture .entry)) side s x y r ⌝ }
 {
-    let shown = grey(picture, width, height, side, s, x, y, bins, factor, scratch);
+    let shown = grey(
+        picture,
+        width,
+        height,
+        side,
+        s,
+        x,
+        y,
+        bins,
+        factor,
+        span,
+        scratch,
+    );
     tile_slide::slide(
         picture,
         width,
@@ -211,9 +416,23 @@ fn paint_row(
     let bins = film_settings::bins(s);
     let factor = tile_bin::bin_factor(s.min, s.max, bins);
     start(picture, width, height, side, s, y, bins, scratch);
+    let mut span = Span { low: 0, top: 0 };
     let mut x = 0;
     while x < width {
-        let shown = pixel(picture, width, height, side, s, x, y, bins, factor, scratch);
+        span = span_at(picture, width, height, side, s.min, x, y, factor, span);
+        let shown = pixel(
+            picture,
+            width,
+            height,
+            side,
+            s,
+            x,
+            y,
+            bins,
+            factor,
+            span,
+            scratch,
+        );
         let i = x as usize;
         out[i] = shown as u16;
         x += 1;

@@ -5,4 +5,7 @@ pub mod Rounds
 pub mod Ends
 pub mod Whole
 pub mod Shares
+pub mod Parts
+pub mod Spans
+pub mod Framed
 pub mod Laws

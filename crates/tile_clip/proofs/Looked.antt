@@ -94,7 +94,7 @@ looks-few l step zero (c ∷ cs) (suc r) = go (ltb c l) (looks-few l step (step 
     go false p q = omega arith
 
 -- over plain numbers: one look more, a step on
-apart-on : (n step : ℕ) → 0 < step → suc (apart step (n - (step - 1))) ≡ apart step (suc n - 0)
+pub apart-on : (n step : ℕ) → 0 < step → suc (apart step (n - (step - 1))) ≡ apart step (suc n - 0)
 apart-on n step p = go (lt-or-ge n (step - 1))
   where
     go : (n < step - 1) ⊎ (step - 1 ≤ n) → suc ((n - (step - 1) + (step - 1)) / step) ≡ (suc n - 0 + (step - 1)) / step

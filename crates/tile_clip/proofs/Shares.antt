@@ -132,7 +132,7 @@ all-kept l q [] = refl
 all-kept l q (c ∷ cs) = omega (arith, all-kept l q cs, bin-kept l q c)
 
 -- the bins take at most q each
-taken-all : (l q : ℕ) (cs : List ℕ) → total (map (taken l q) cs) ≤ q * length cs
+pub taken-all : (l q : ℕ) (cs : List ℕ) → total (map (taken l q) cs) ≤ q * length cs
 unfolding total
 taken-all l q [] = omega arith
 taken-all l q (c ∷ cs) = omega (arith, taken-all l q cs, taken-most l q c, mul-suc q (length cs))

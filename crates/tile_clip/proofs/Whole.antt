@@ -31,7 +31,7 @@ pub gain-over : (l c : ℕ) → l ≤ c → gain l c ≡ 0
 gain-over l c h = rw (le-ltb c l h) refl
 
 -- a bin gains one at most
-gain-most : (l c : ℕ) → gain l c ≤ 1
+pub gain-most : (l c : ℕ) → gain l c ≤ 1
 gain-most l c = go (lt-or-ge c l)
   where
     go : (c < l) ⊎ (l ≤ c) → gain l c ≤ 1

@@ -1,3 +1,4 @@
 pub mod Clip
 pub mod Looks
 pub mod Asks
+pub mod Spans

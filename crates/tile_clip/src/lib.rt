@@ -1,10 +1,11 @@
 // Clipping the counts of one tile in place: the excess above the limit is handed out evenly, then what is left of it one by one.
 ghost use mathlib.Core.Path.{_≡_};
-ghost use Prim.Native.Nat.{_+_, _-_, _*_, _/_, _≤_, _<_, max};
+ghost use Prim.Native.Nat.{_+_, _-_, _*_, _/_, _≤_, _<_, min, max};
 ghost use lib.ListN.{length};
 ghost use Rattle.base_lists.specs.Lists.{total};
-ghost use Rattle.tile_clip.specs.Clip.{excess, shared, nextStart, clipped};
+ghost use Rattle.tile_clip.specs.Clip.{excess, shared, walk, nextStart, clipped};
 ghost use Rattle.tile_clip.specs.Looks.{spentOf, apart, onward, skippedOf};
+ghost use Rattle.tile_clip.specs.Spans.{TurnAsks, Turned, TurnsAsks, TurnsLeft, SpanAsks, SpanLeft};
 ghost use Rattle.tile_clip.specs.Asks.{ClipAsks, PassAsks, Passed, WalkAsks, Walked, Shut, gain, Raised, WalkStands};
 
 // What clipping a tile's counts took: the excess, and how many bins the rule's leftover walk looks at.
@@ -234,5 +235,118 @@ pub fn clip(counts: &mut [u32], limit: u32) -> Spent
     Spent {
         excess: over,
         looks,
+    }
+}
+
+// What starts left that find only some bins in a row holding anything: of what was to be handed out, and with the bins before them.
+pub struct Handed {
+    pub left: u64,
+    pub below: u64,
+}
+
+// The walk of one start over some bins in a row, from `at` on; what is left is the answer.
+fn walk_part(counts: &mut [u32], limit: u32, at: usize, step: usize, left: u64) -> u64
+    requires { ⌜ (0 < left) × (0 < step) × (step ≤ 4096) × (length (now counts) ≤ 4096) ⌝ }
+    ensures { λ r. ⌜ (now (counts .exit) ≡ walk limit step at (now (counts .entry)) left .counts) × (r ≡ walk limit step at (now (counts .entry)) left .rest) ⌝ }
+{
+    let mut r = left;
+    let mut i = at;
+    while i < counts.len() {
+        let count = counts[i];
+        let more = gains(count, limit);
+        counts[i] = count + more;
+        r -= more as u64;
+        if r == 0 {
+            return 0;
+        }
+        i += step;
+    }
+    r
+}
+
+// What is left of a where up to b are taken from it.
+fn less(a: u64, b: u64) -> u64
+    ensures { λ r. ⌜ r ≡ a - b ⌝ }
+{
+    if b < a { a - b } else { 0 }
+}
+
+// The walk of one start where all bins before the part and behind it are under the limit: of those it meets each takes one, so that they
+// are counted and not walked.
+fn turn(part: &mut [u32], limit: u32, bins: usize, lo: usize, start: usize, left: u64) -> Handed
+    requires { ⌜ TurnAsks bins lo start left (now part) ⌝ }
+    ensures { λ h. ⌜ Turned limit bins lo start left (now (part .entry)) (now (part .exit)) h ⌝ }
+{
+    let step = step_of(bins, left);
+    let met = looks_behind(lo, start, step);
+    if left <= met {
+        return Handed {
+            left: 0,
+            below: left,
+        };
+    }
+    let size = part.len();
+    let at = start + step * (met as usize) - lo;
+    let rest = walk_part(part, limit, at, step, left - met);
+    let on = at + step * (looks_behind(size, at, step) as usize) - size;
+    let above = looks_behind(bins - (lo + size), on, step);
+    Handed {
+        left: less(rest, above),
+        below: met,
+    }
+}
+
+// The starts, as long as all bins before the part and behind it are under the limit: for `most` of them.
+fn turns(
+    part: &mut [u32],
+    limit: u32,
+    bins: usize,
+    lo: usize,
+    most: usize,
+    q: u32,
+    left: u64,
+) -> Handed
+    requires { ⌜ TurnsAsks limit bins lo most q left (now part) ⌝ }
+    ensures { λ h. ⌜ TurnsLeft limit bins lo q left (now (part .entry)) (now (part .exit)) h ⌝ }
+{
+    let mut r = left;
+    let mut below: u64 = 0;
+    let mut start: usize = 0;
+    while start < most {
+        if r == 0 {
+            return Handed { left: 0, below };
+        }
+        let handed = turn(part, limit, bins, lo, start, r);
+        r = handed.left;
+        below += handed.below;
+        start += 1;
+    }
+    Handed { left: r, below }
+}
+
+// How many starts leave an empty bin with q under the limit, for certain: each gives it one at most. Fewer than there are bins serve.
+fn open_starts(limit: u32, q: u32, bins: usize) -> usize
+    requires { ⌜ (q ≤ limit) × (0 < bins) × (bins ≤ 4096) ⌝ }
+    ensures { λ r. ⌜ r ≡ min (limit - q) (bins - 1) ⌝ }
+{
+    let room = (limit - q) as usize;
+    if room < bins { room } else { bins - 1 }
+}
+
+// Clips counts of which only the bins of the part, from bin `lo` on, hold anything, as far as the others stay under the limit. Where
+// something is left, they did not, and the part is as it came out.
+pub fn clip_span(part: &mut [u32], limit: u32, bins: usize, lo: usize) -> Handed
+    requires { ⌜ SpanAsks limit bins lo (now part) ⌝ }
+    ensures { λ h. ⌜ SpanLeft limit bins lo (now (part .entry)) (now (part .exit)) h ⌝ }
+{
+    let over = excess(part, limit);
+    let q = over / bins as u64;
+    let empty = (bins - part.len()) as u64;
+    let left = share_out(part, limit, q as u32) - empty * q;
+    let most = open_starts(limit, q as u32, bins);
+    let handed = turns(part, limit, bins, lo, most, q as u32, left);
+    Handed {
+        left: handed.left,
+        below: lo as u64 * q + handed.below,
     }
 }

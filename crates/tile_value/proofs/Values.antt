@@ -2,21 +2,31 @@
 -- Assumes nothing.
 use Prim.Native.Nat.{ℕ, _+_, _-_, _*_, _/_, _≤_, _<_}
 use mathlib.Core.List.{List}
-use mathlib.Core.Path.{_≡_, refl, sym, ap, _∙_}
+use mathlib.Core.Bool.{true, false, true≢false}
+use mathlib.Core.Path.{_≡_, refl, sym, ap, ap₂, _∙_, subst}
 use native.Mathlib.Nat.{mul-le-mul}
 use native.Mathlib.Omega.{arith}
 use lib.ListN.{length, take}
+use lib.Ieee.{Float}
+use lib.Seq.{take-all}
 use Rattle.base_lists.specs.Lists.{total}
 use Rattle.base_lists.proofs.Tallies.{total-take-le}
 use Rattle.tile_limit.specs.declared.Clip.{Clip}
 use Rattle.tile_limit.specs.declared.Edition.{Edition}
 use Rattle.tile_limit.specs.declared.Edition.the-variants.{Ours, Of1986}
+use Rattle.tile_limit.specs.declared.Clip.the-variants.{Factor}
+use Rattle.tile_limit.specs.Limit.{limitOf, LimitAsks}
 use Rattle.tile_clip.specs.Clip.{clipped}
+use Rattle.tile_clip.specs.declared.Handed.{Handed}
+use Rattle.tile_clip.specs.Spans.{framed, SpanAsks, SpanLeft}
+use Rattle.tile_clip.proofs.Laws.{total-clipped}
+use Rattle.tile_clip.proofs.Framed.{length-framed, total-framed}
 use Rattle.tile_clip1986.specs.Older.{older}
-use Rattle.tile_map.specs.Tile.{clippedIn, clippedBy, dividedIn, dividedBy}
+use Rattle.tile_map.specs.Tile.{clippedIn, clippedBy, dividedIn, dividedBy, mappedOf}
 use Rattle.tile_map.proofs.Mapped.{part-le, mapped-through}
-use Rattle.tile_map.proofs.Tiles.{length-clipped-by, divided-total, divided-between}
-use Rattle.tile_value.specs.Value.{ValueAsks, ValueGiven}
+use Rattle.tile_map.proofs.Tiles.{length-clipped-by, divided-total, divided-between, limit-asks, in-asks, clipped-factor}
+use Rattle.tile_value.specs.declared.Found.{Found}
+use Rattle.tile_value.specs.Value.{ValueAsks, ValueGiven, LimitedAsks, LimitedGiven, SpanValueAsks, SpanValueGiven}
 
 -- ---- what `clip_in` leaves
 
@@ -71,3 +81,98 @@ module _ (ed : Edition) {clip : Clip} {n lo hi k : ℕ} {cs : List ℕ} (asks : 
           counts = e .0;
           value = mapped-through lo hi (clippedBy ed clip n cs) k (q ∙ ap (λ x. total (take (k + 1) x)) (e .0)) (e .1);
         }
+
+-- ---- where only some bins in a row hold anything
+
+-- all bins are b
+module _ {most n lo hi k b at : ℕ} {cs : List ℕ} (asks : LimitedAsks most n lo hi k b at cs) where
+  long : length (framed 0 b at cs) ≡ b
+  long = length-framed 0 b at cs (asks .within)
+
+  -- what clipping them asks
+  pub limited-span : SpanAsks most b at cs
+  limited-span =
+      let few : total (framed 0 b at cs) ≡ total cs + (b - length cs) * 0 = total-framed 0 b at cs (asks .within) in
+      let room : n ≤ most * b = rw long at (asks .counted .room) in
+      record {
+        some-bin = omega (arith, asks .within, asks .first, asks .last);
+        few-bins = omega (arith, long, asks .counted .few);
+        within = asks .within;
+        few-pixels = omega (arith, few, asks .counted .all-pixels, asks .counted .few-pixels);
+        holds = omega (arith, few, asks .counted .all-pixels, room);
+      }
+
+  pub not-known : {ds : List ℕ} {h : Handed} → SpanLeft most b at cs ds h → LimitedGiven most n lo hi k b at cs ds (record { known = false; value = 0 })
+  not-known left = record { size = left .size; value = λ e. absurd (true≢false (sym e)) }
+
+  module _ {ds : List ℕ} {h : Handed} (left : SpanLeft most b at cs ds h) (z : h .left ≡ 0) where
+    abbrev all : List ℕ
+    all = clipped most (framed 0 b at cs)
+
+    all-total : total all ≡ n
+    all-total = total-clipped most (framed 0 b at cs) (asks .counted .some) (omega (arith, asks .counted .all-pixels, asks .counted .room)) ∙ asks .counted .all-pixels
+
+    -- what is added up is a part of N
+    part-total : h .below + total ds ≡ total (take (at + length cs) all)
+    part-total = sym (left .sums z (length cs) (omega arith) ∙ ap (λ x. h .below + total x) (ap (λ m. take m ds) (sym (left .size)) ∙ take-all (length ds) ds (omega arith)))
+
+    pub limited-through : (k - at < length ds) × (total ds ≤ 4198400)
+    limited-through = (omega (arith, left .size, asks .first, asks .last), omega (arith, part-total, total-take-le (at + length cs) all, all-total, asks .counted .few-pixels))
+
+    module _ {m : ℕ} (q : m ≡ total (take (k - at + 1) ds)) where
+      sum-is : h .below + m ≡ total (take (k + 1) all)
+      sum-is =
+          let e : at + (k - at + 1) ≡ k + 1 = omega (arith, asks .first) in
+          ap (λ x. h .below + x) q ∙ sym (left .sums z (k - at + 1) (omega (arith, asks .first, asks .last))) ∙ ap (λ x. total (take x all)) e
+
+      pub limited-most : h .below + m ≤ n
+      limited-most = omega (arith, sum-is, total-take-le (k + 1) all, all-total)
+
+      pub limited-product : (h .below + m) * (hi - lo) ≤ 4198400 * 4095
+      limited-product = mul-le-mul {n₂ = 4198400} {m₂ = 4095} (omega (arith, limited-most, asks .counted .few-pixels)) (omega (arith, asks .top))
+
+      pub limited-quotient : (h .below + m) * (hi - lo) / n ≤ hi - lo
+      limited-quotient = part-le (h .below + m) n (hi - lo) limited-most
+
+      pub limited-given : LimitedGiven most n lo hi k b at cs ds (record { known = true; value = lo + (h .below + m) * (hi - lo) / n })
+      limited-given = record { size = left .size; value = λ e. mapped-through lo hi all k sum-is refl }
+
+-- by the clip setting: nothing is known with clip off
+pub span-off : {e : Edition} {clip : Clip} {n lo hi k b at : ℕ} {cs : List ℕ} → SpanValueGiven e clip n lo hi k b at cs cs (record { known = false; value = 0 })
+span-off = record { size = refl; value = λ e. absurd (true≢false (sym e)) }
+
+module _ {clip : Clip} {f : Float} {n lo hi k b at : ℕ} {cs : List ℕ} (asks : SpanValueAsks clip n lo hi k b at cs) (e : clip ≡ Factor f) where
+  span-long : length (framed 0 b at cs) ≡ b
+  span-long = length-framed 0 b at cs (asks .within)
+
+  pub span-bins : b ≤ 4096
+  span-bins = omega (arith, span-long, asks .whole .counted .few)
+
+  pub span-limit : LimitAsks f n b
+  span-limit = rw span-long at (limit-asks (asks .whole .counted) e)
+
+  module _ {most : ℕ} (q : most ≡ limitOf f n b) where
+    same-limit : most ≡ limitOf f n (length (framed 0 b at cs))
+    same-limit = q ∙ ap (limitOf f n) (sym span-long)
+
+    pub span-limited : LimitedAsks most n lo hi k b at cs
+    span-limited =
+        record {
+          counted = in-asks (asks .whole .counted) e same-limit;
+          some = asks .whole .some;
+          order = asks .whole .order;
+          top = asks .whole .most;
+          within = asks .within;
+          first = asks .first;
+          last = asks .last;
+        }
+
+    pub span-ours : {ds : List ℕ} {g : Found} → LimitedGiven most n lo hi k b at cs ds g → SpanValueGiven Ours clip n lo hi k b at cs ds g
+    span-ours given =
+        let x = clipped-factor Ours n (framed 0 b at cs) e same-limit (refl, refl) in
+        record { size = given .size; value = λ k′. given .value k′ ∙ ap₂ (λ m z. mappedOf lo hi m z k) (x .1) (x .0) }
+
+-- by the edition
+pub span-by : {e e′ : Edition} {clip : Clip} {n lo hi k b at : ℕ} {cs ds : List ℕ} {g : Found} → e ≡ e′ → SpanValueGiven e′ clip n lo hi k b at cs ds g
+    → SpanValueGiven e clip n lo hi k b at cs ds g
+span-by {clip = clip} {n = n} {lo = lo} {hi = hi} {k = k} {b = b} {at = at} {cs = cs} {ds = ds} {g = g} e given = subst (λ x. SpanValueGiven x clip n lo hi k b at cs ds g) (sym e) given

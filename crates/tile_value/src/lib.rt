@@ -3,8 +3,9 @@ ghost use mathlib.Core.Path.{_≡_};
 ghost use Prim.Native.Nat.{_+_, _≤_, _<_};
 ghost use lib.ListN.{length, take};
 ghost use Rattle.base_lists.specs.Lists.{total};
+ghost use Rattle.tile_limit.specs.declared.Edition.the-variants.{Ours};
 ghost use Rattle.tile_map.specs.Tile.{clippedIn, clippedBy, dividedIn, dividedBy, ClipInAsks, ClipByAsks};
-ghost use Rattle.tile_value.specs.Value.{ValueAsks, ValueGiven};
+ghost use Rattle.tile_value.specs.Value.{ValueAsks, ValueGiven, LimitedAsks, LimitedGiven, SpanValueAsks, SpanValueGiven};
 use tile_limit::Clip;
 use tile_limit::Edition;
 
@@ -37,7 +38,7 @@ fn clip_by(clip: Clip, pixels: u32, counts: &mut [u32], edition: Edition) -> u32
 }
 
 // The sum of the counts of bins 0 to k.
-fn through(counts: &[u32], k: usize) -> u64
+pub fn through(counts: &[u32], k: usize) -> u64
     requires { ⌜ (k < length (now counts)) × (total (now counts) ≤ 4198400) ⌝ }
     ensures { λ r. ⌜ r ≡ total (take (k + 1) (now (counts .entry))) ⌝ }
 {
@@ -68,4 +69,91 @@ pub fn value(
     let sum = through(&counts[..], k);
     let range = (max - min) as u64;
     min + (sum * range / (whole as u64)) as u32
+}
+
+// The mapped value of a bin, if it is known.
+pub struct Found {
+    pub known: bool,
+    pub value: u32,
+}
+
+// The mapped value of bin k at a limit in our edition, where only the bins of the part, from bin `at` on, hold anything. It is not known
+// where the others do not stay under the limit.
+fn value_limited(
+    most: u32,
+    pixels: u32,
+    min: u32,
+    max: u32,
+    k: usize,
+    bins: usize,
+    at: usize,
+    part: &mut [u32],
+) -> Found
+    requires { ⌜ LimitedAsks most pixels min max k bins at (now part) ⌝ }
+    ensures { λ f. ⌜ LimitedGiven most pixels min max k bins at (now (part .entry)) (now (part .exit)) f ⌝ }
+{
+    let handed = tile_clip::clip_span(part, most, bins, at);
+    if handed.left != 0 {
+        return Found {
+            known: false,
+            value: 0,
+        };
+    }
+    let sum = handed.below + through(&part[..], k - at);
+    let range = (max - min) as u64;
+    Found {
+        known: true,
+        value: min + (sum * range / (pixels as u64)) as u32,
+    }
+}
+
+// The same by the clip setting. With clip off there is nothing to pass over but a sum.
+fn value_ours(
+    clip: Clip,
+    pixels: u32,
+    min: u32,
+    max: u32,
+    k: usize,
+    bins: usize,
+    at: usize,
+    part: &mut [u32],
+) -> Found
+    requires { ⌜ SpanValueAsks clip pixels min max k bins at (now part) ⌝ }
+    ensures { λ f. ⌜ SpanValueGiven Ours clip pixels min max k bins at (now (part .entry)) (now (part .exit)) f ⌝ }
+{
+    match clip {
+        Clip::Off => Found {
+            known: false,
+            value: 0,
+        },
+        Clip::Factor(factor) => {
+            let most = tile_limit::limit(factor, pixels, bins as u32);
+            value_limited(most, pixels, min, max, k, bins, at, part)
+        }
+    }
+}
+
+// The mapped value of bin k where only the bins of the part, from bin `at` on, hold anything: what `value` gives for all bins, if it is
+// known. The clip rule of 1986 has no leftover to hand out, and is left to all bins.
+pub fn value_span(
+    clip: Clip,
+    pixels: u32,
+    min: u32,
+    max: u32,
+    k: usize,
+    bins: usize,
+    at: usize,
+    part: &mut [u32],
+    edition: Edition,
+) -> Found
+    requires { ⌜ SpanValueAsks clip pixels min max k bins at (now part) ⌝ }
+    ensures { λ f. ⌜ SpanValueGiven edition clip pixels min max k bins at (now (part .entry)) (now (part .exit)) f ⌝ }
+{
+    match edition {
+        Edition::Ours => value_ours(clip, pixels, min, max, k, bins, at, part),
+        Edition::Of1986 => Found {
+            known: false,
+            value: 0,
+        },
+    }
 }
