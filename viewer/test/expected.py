@@ -48,7 +48,7 @@ class Film:
     def usual(self, factor=3.0):
         """The settings that a film starts with: 8 by 8 tiles, or as many as it has pixels, and the bins that hold the factor."""
         across, down = min(8, self.width), min(8, self.height)
-        chosen = bins.chosen(self.width, self.height, across, down, 0, self.maxval, factor)
+        chosen = bins.chosen(*bins.judged(self.width, self.height, "%dx%d" % (across, down)), 0, self.maxval, factor)
         return settings(across, down, chosen, 0, self.maxval, factor)
 
     def tile_at(self, x, y, asked):
