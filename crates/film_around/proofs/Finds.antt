@@ -1,12 +1,11 @@
 -- The value of a bin by the counts in the front of the scratch: by those of some bins in a row, where these are all pixels, or by all of them.
 -- Assumes nothing.
-use Prim.Native.Nat.{ℕ, zero, suc, _+_, _-_, _*_, _≤_, _<_}
+use Prim.Native.Nat.{ℕ, zero, suc, _+_, _-_, _≤_, _<_}
 use mathlib.Core.Bool.{true, false, true≢false}
 use mathlib.Core.List.{List, [], _∷_, _++_}
 use mathlib.Core.Path.{_≡_, refl, sym, ap, ap₂, _∙_, subst}
 use lib.ListN.{length, length-drop, take, drop, getD, set, take-append-drop}
 use lib.Seq.{take-suc, take-all, length-take-le, getD-take}
-use native.Mathlib.Nat.{mul-le-mul}
 use native.Mathlib.Numerals.{add-one}
 use native.Mathlib.Omega.{arith}
 use borrow.Rule.Slice.PartMut.{putMid}
@@ -19,18 +18,13 @@ use Rattle.base_lists.proofs.Overs.{over-nil, over-step}
 use Rattle.base_lists.proofs.Fills.{length-over}
 use Rattle.base_lists.proofs.Maps.{over-part, onto-whole}
 use Rattle.base_lists.proofs.Parts.{over-here, over-later}
-use Rattle.base_lists.proofs.Blocks.{block-fits}
 use Rattle.tile_clip.specs.Spans.{framed}
 use Rattle.tile_map.specs.Tile.{clippedBy, dividedBy, mappedOf}
 use Rattle.tile_map.proofs.Tiles.{length-clipped-by}
 use Rattle.film_settings.specs.declared.Settings.{Settings}
-use Rattle.tile_slide.specs.Slide.{firstOf, endOf, regionRect}
-use Rattle.tile_slide.proofs.Regions.{region-inside, region-left, region-top, region-wide, region-high, first-most, end-most, end-some}
-use Rattle.tile_count.specs.declared.Rect.{Rect}
-use Rattle.tile_count.specs.Tally.{Inside}
 use Rattle.tile_value.specs.declared.Found.{Found}
 use Rattle.tile_value.specs.Value.{ValueAsks, ValueGiven, SpanValueAsks, SpanValueGiven}
-use Rattle.film_around.specs.Around.{BandAsks, SpanAsks, FoundAsks, FoundIn, foundAs}
+use Rattle.film_around.specs.Around.{FoundAsks, FoundIn, foundAs}
 use Rattle.film_around.proofs.Twins.{front-over, twin-length, twin-part, twin-front, twin-behind, twin-size}
 
 -- ---- the turns of `twin_part`
@@ -179,29 +173,3 @@ module _ {s : Settings} {n k b : ℕ} {t : List ℕ} (asks : FoundAsks s n k b t
           size = twin-size t b (asks .room) e ds m;
           value = λ known. given .value ∙ ap (λ cs. mappedOf (s .min) (s .max) (dividedBy (s .edition) (s .clip) n cs) (clippedBy (s .edition) (s .clip) n cs) k) same;
         }
-
--- ---- the greys of a band
-
-pub band-fits : {size stride left right bottom : ℕ} → BandAsks size stride left right bottom → (y : ℕ) → y < bottom
-    → (y * stride + right ≤ size) × (y * stride + stride ≤ 16777216)
-band-fits {size} {stride} {left} {right} {bottom} asks y h =
-    let m : bottom * stride ≤ 4096 * 4096 = mul-le-mul {n₁ = bottom} {n₂ = 4096} {m₂ = 4096} (asks .high) (asks .wide) in
-    (omega (arith, block-fits stride bottom h (asks .down), asks .across), omega (arith, block-fits stride bottom h m))
-
--- the columns of the regions from that around x to that around x′
-pub band-asks : {size w h side x y x′ : ℕ} {r r′ : Rect} → SpanAsks size w h side x y → x ≤ x′ → x′ < w → r ≡ regionRect w h side x y → r′ ≡ regionRect w h side x′ y
-    → BandAsks size w (r .left) (r′ .left + r′ .width) (r .top + r .height)
-band-asks {size} {w} {h} {side} {x} {y} {x′} {r} {r′} asks p q e e′ =
-    let inside : Inside (w * h) w (regionRect w h side x y) = region-inside (asks .region) refl in
-    let left : r .left ≡ firstOf side x = ap (λ z. z .left) e ∙ region-left w h side x y in
-    let left′ : r′ .left ≡ firstOf side x′ = ap (λ z. z .left) e′ ∙ region-left w h side x′ y in
-    let wide′ : r′ .width ≡ endOf side w x′ - firstOf side x′ = ap (λ z. z .width) e′ ∙ region-wide w h side x′ y in
-    let top : r .top ≡ firstOf side y = ap (λ z. z .top) e ∙ region-top w h side x y in
-    let high : r .height ≡ endOf side h y - firstOf side y = ap (λ z. z .height) e ∙ region-high w h side x y in
-    record {
-      order = omega (arith, left, left′, wide′, first-most side x, first-most side x′, end-some side w x′ q);
-      across = omega (arith, left′, wide′, first-most side x′, end-some side w x′ q, end-most side w x′);
-      wide = asks .region .wide;
-      down = omega (arith, asks .whole, ap (λ z. (z .top + z .height) * w) e, inside .down);
-      high = omega (arith, top, high, first-most side y, end-some side h y (asks .region .down), end-most side h y, asks .region .high);
-    }

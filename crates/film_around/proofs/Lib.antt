@@ -2,6 +2,7 @@ pub mod Twins
 pub mod Finds
 pub mod Table
 pub mod Pixels
+pub mod Parts
 pub mod Rows
 pub mod Endings
 pub mod Numbers

@@ -1,4 +1,4 @@
--- A pixel: its bin, its region's counts clipped and summed, and the counts moved on.
+-- A pixel: its bin, and its region's counts clipped and summed.
 -- Assumes nothing.
 use Prim.Native.Nat.{ℕ, _+_, _-_, _*_, _≤_, _<_}
 use mathlib.Core.Bool.{true}
@@ -24,7 +24,7 @@ use Rattle.tile_map.specs.Tile.{clippedBy, dividedBy, mappedOf, tileMapping, Ho
 use Rattle.tile_map.proofs.Tiles.{tile-counts-by, tile-divides-by, length-tile-mapping, getD-tile-mapping, tile-mapping-within}
 use Rattle.film_settings.specs.declared.Settings.{Settings}
 use Rattle.film_tiles.proofs.Films.{clip-holds}
-use Rattle.tile_slide.specs.Slide.{regionRect, RegionAsks, SlideAsks, Slid}
+use Rattle.tile_slide.specs.Slide.{regionRect, RegionAsks}
 use Rattle.tile_slide.proofs.Regions.{region-inside}
 use Rattle.tile_value.specs.declared.Found.{Found}
 use Rattle.tile_value.specs.Value.{ValueAsks, ValueGiven}
@@ -221,26 +221,3 @@ module _ {w h : ℕ} {pic : List ℕ} {side : ℕ} {s : Settings} {x y b factor 
             room = omega (arith, asks .room, found .size);
             front = found-held .front;
           }
-
-  -- ---- the counts moved on
-
-  module _ {t₁ : List ℕ} (held : RegionHeld w h pic side s x y b t t₁) where
-    pub slide-asks : SlideAsks pic w h side x y (s .min) (s .max) b factor t₁
-    slide-asks =
-        record {
-          region = pixel-region;
-          whole = asks .film .whole;
-          by = asks .by;
-          scale = pixel-scale;
-          room = omega (arith, asks .room, held .size);
-          greys = asks .film .greys;
-          front = held .front;
-        }
-
-    pub slid-held : {t₂ : List ℕ} → Slid pic w h side x y (s .min) (s .max) b t₁ t₂ → RegionHeld w h pic side s (x + 1) y b t t₂
-    slid-held {t₂} slid =
-        record {
-          front = slid .front;
-          behind = sym (drop-drop b b t₂) ∙ ap (drop b) (slid .behind) ∙ drop-drop b b t₁ ∙ held .behind;
-          size = slid .size ∙ held .size;
-        }

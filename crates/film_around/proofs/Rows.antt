@@ -1,6 +1,6 @@
--- The turns of `paint_row` and `paint`: the greys and rows passed are painted, those ahead are as they were.
+-- The turns of `paint_pixels` and `paint`: the greys and rows passed are painted, those ahead are as they were.
 -- Assumes nothing.
-use Prim.Native.Nat.{ℕ, _+_, _-_, _*_, _≤_, _<_}
+use Prim.Native.Nat.{ℕ, _+_, _-_, _*_, _%_, _≤_, _<_}
 use mathlib.Core.List.{List}
 use mathlib.Core.Path.{_≡_, refl, sym, ap, _∙_}
 use native.Mathlib.Nat.{mul-comm, mul-le-mul, mul-le-mul-right}
@@ -14,48 +14,61 @@ use Rattle.base_lists.proofs.Maps.{filled-behind}
 use Rattle.base_lists.proofs.Windows.{length-block, blocks-whole}
 use Rattle.tile_bin.specs.Binning.{factorOf}
 use Rattle.film_settings.specs.declared.Settings.{Settings}
+use Rattle.film_settings.specs.declared.Window.{Window}
 use Rattle.film_settings.specs.Settings.{binsOf}
-use Rattle.film_around.specs.Around.{aroundRow, AroundPixelAsks, RegionHeld, AroundStartAsks, AroundRowAsks, AroundPaintAsks, BehindTwiceBins}
+use Rattle.film_around.specs.Around.{aroundRow, AroundPixelAsks, RegionHeld, KeptPart, KeepAsks, PaintPixelsAsks, AroundRowAsks, AroundPaintAsks, BehindTwiceBins}
+use Rattle.film_around.proofs.Pixels.{film-span}
 
 -- ---- a row
 
 module _ {w h : ℕ} {pic : List ℕ} {side : ℕ} {s : Settings} {y out : ℕ} (t₀ : List ℕ) (asks : AroundRowAsks w h pic side s y out (length t₀)) {b : ℕ} (e : b ≡ binsOf s) where
-  -- what the bins' factor asks
-  pub factor-asks : (s .min ≤ s .max) × (s .max ≤ 4095) × (0 < b) × (b ≤ s .max - s .min + 1)
-  factor-asks =
-      let scale = asks .film .scale in
-      (scale .order, scale .most, omega (arith, scale .some, e), omega (arith, scale .reach, e))
+  -- what the pixels ask behind it
+  pub pixels-asks : {t₁ : List ℕ} {f part : ℕ} → RegionHeld w h pic side s 0 y b t₀ t₁ → f ≡ factorOf (s .min) (s .max) b → 8192 ≤ part → PaintPixelsAsks w h pic side s y b f part out t₁
+  pixels-asks begun q p =
+      record {
+        first = record {
+          film = asks .film;
+          column = asks .film .wide;
+          row = asks .row;
+          bins = e;
+          by = q;
+          room = omega (arith, asks .enough, e, begun .size);
+          front = begun .front;
+        };
+        copied = p;
+        row = asks .room;
+      }
 
-  -- what the first region asks
-  pub start-asks : AroundStartAsks w h pic side s y b (length t₀)
-  start-asks = record { film = asks .film; row = asks .row; bins = e; room = omega (arith, asks .enough, e) }
+module _ {w h : ℕ} {pic : List ℕ} {side : ℕ} {s : Settings} {y b f part out : ℕ} {t₀ : List ℕ} (asks : PaintPixelsAsks w h pic side s y b f part out t₀) where
+  -- before the first pixel
+  pub held-first : RegionHeld w h pic side s 0 y b t₀ t₀
+  held-first = record { front = asks .first .front; behind = refl; size = refl }
 
-  module _ {t₁ : List ℕ} (begun : RegionHeld w h pic side s 0 y b t₀ t₁) where
-    -- before the first pixel
-    pub held-first : RegionHeld w h pic side s 0 y b t₁ t₁
-    held-first = record { front = begun .front; behind = refl; size = refl }
+  module _ {x : ℕ} {t : List ℕ} (held : RegionHeld w h pic side s x y b t₀ t) (l : x < w) where
+    -- what the next one asks
+    pub pixel-asks : AroundPixelAsks w h pic side s x y b f t
+    pixel-asks =
+        record {
+          film = asks .first .film;
+          column = l;
+          row = asks .first .row;
+          bins = asks .first .bins;
+          by = asks .first .by;
+          room = omega (arith, asks .first .room, held .size);
+          front = held .front;
+        }
 
-    module _ {x : ℕ} {t : List ℕ} (held : RegionHeld w h pic side s x y b t₁ t) where
-      -- what the next one asks
-      pub pixel-asks : {f : ℕ} → f ≡ factorOf (s .min) (s .max) b → x < w → AroundPixelAsks w h pic side s x y b f t
-      pixel-asks q l =
-          record {
-            film = asks .film;
-            column = l;
-            row = asks .row;
-            bins = e;
-            by = q;
-            room = omega (arith, asks .enough, e, begun .size, held .size);
-            front = held .front;
-          }
+  -- and the part that is kept for it
+  pub keep-asks : {x : ℕ} {win : Window} {p : List ℕ} → x < w → length p ≡ part → (0 < x % 64 → KeptPart w h pic side x y win p) → KeepAsks w h pic side x y win p
+  keep-asks l e kept = record { asks = film-span (asks .first .film) l (asks .first .row); room = omega (arith, e, asks .copied); kept = kept }
 
-      -- the last
-      pub held-end : BehindTwiceBins s t₀ t
-      held-end =
-          record {
-            behind = ap (λ n. drop (n + n) t) (sym e) ∙ held .behind ∙ begun .behind ∙ ap (λ n. drop (n + n) t₀) e;
-            size = held .size ∙ begun .size;
-          }
+-- behind a pixel's counts
+pub held-behind : {w h : ℕ} {pic : List ℕ} {side : ℕ} {s : Settings} {x y b : ℕ} {t₀ t : List ℕ} → b ≡ binsOf s → RegionHeld w h pic side s x y b t₀ t → BehindTwiceBins s t₀ t
+held-behind {t₀ = t₀} {t = t} e held =
+    record {
+      behind = ap (λ n. drop (n + n) t) (sym e) ∙ held .behind ∙ ap (λ n. drop (n + n) t₀) e;
+      size = held .size;
+    }
 
 -- one pixel more
 pub held-next : {w h : ℕ} {pic : List ℕ} {side : ℕ} {s : Settings} {x x′ y b : ℕ} {t₁ t t′ : List ℕ} → RegionHeld w h pic side s x y b t₁ t → RegionHeld w h pic side s x′ y b t t′ → RegionHeld w h pic side s x′ y b t₁ t′

@@ -1,7 +1,7 @@
 -- Document 02, order 13: a window around each pixel, "in which every pixel has its own region".
 -- w and h are the film's width and height, pic its pixels, side the region's, o the target and t the scratch as lent.
 -- Assumes nothing.
-use Prim.Native.Nat.{ℕ, _+_, _*_, _%_, _≤_, _<_}
+use Prim.Native.Nat.{ℕ, _+_, _-_, _*_, _%_, _≤_, _<_}
 use mathlib.Core.Bool.{true, false, cond}
 use mathlib.Core.List.{List, [], _∷_, _++_, map}
 use mathlib.Core.Path.{_≡_}
@@ -15,13 +15,15 @@ use Rattle.tile_count.specs.Tally.{greysOf, Scale}
 use Rattle.tile_map.specs.Tile.{clippedBy, dividedBy, mappedOf, tileMapping}
 use Rattle.tile_value.specs.declared.Found.{Found}
 use Rattle.tile_value.specs.Value.{ValueAsks}
+use Rattle.pixel_render.specs.Render.{rectOf}
 use Rattle.film_settings.specs.declared.Settings.{Settings}
 use Rattle.film_settings.specs.declared.Footer.{Footer}
+use Rattle.film_settings.specs.declared.Window.{Window}
 use Rattle.film_settings.specs.Settings.{binsOf, clipBad, clipOne, outsideRow, sizeRows, greyRows}
 use Rattle.film_tiles.specs.Tiles.{footerOf}
 use Rattle.film_prepare.specs.declared.Enhanced.the-variants as Enhanced
 use Rattle.film_prepare.specs.Prepare.{scratchLeft, PaintOut, paintLeaves}
-use Rattle.tile_slide.specs.Slide.{regionRect, RegionAsks}
+use Rattle.tile_slide.specs.Slide.{firstOf, endOf, regionRect, RegionAsks, SlideAsks}
 
 -- ---- the refusals
 
@@ -125,18 +127,44 @@ pub record RegionHeld (w h : ℕ) (pic : List ℕ) (side : ℕ) (s : Settings) (
   pub behind : drop (b + b) t ≡ drop (b + b) t₀
   pub size : length t ≡ length t₀
 
--- what the greys of some columns and rows of a film ask
-pub record BandAsks (size stride left right bottom : ℕ) : Type 0 where
-  pub order : left ≤ right
-  pub across : right ≤ stride
-  pub wide : stride ≤ 4096
-  pub down : bottom * stride ≤ size
-  pub high : bottom ≤ 4096
-
 -- what the regions around some pixels of a row ask
 pub record SpanAsks (size w h side x y : ℕ) : Type 0 where
   pub region : RegionAsks w h side x y
   pub whole : size ≡ w * h
+
+-- a window of the film, which has the regions around 64 pixels of row y from column a on, and the one behind them
+pub record PartAround (w h side a y : ℕ) (win : Window) : Type 0 where
+  pub left : win .left ≡ firstOf side a
+  pub top : win .top ≡ firstOf side y
+  pub right : win .left + win .width ≡ endOf side w (a + 64)
+  pub bottom : win .top + win .height ≡ endOf side h y
+
+-- the pixels of a window that was copied, which stand in front
+abbrev pub frontOf : Window → List ℕ → List ℕ
+frontOf win part = take (win .height * win .width) part
+
+-- a window that was copied, and has the regions around column x and the one behind it, for the columns from each 64th on
+pub record KeptPart (w h : ℕ) (pic : List ℕ) (side x y : ℕ) (win : Window) (part : List ℕ) : Type 0 where
+  pub from : ℕ
+  pub turn : from % 64 ≡ 0
+  pub before : from ≤ x
+  pub behind : x < from + 64
+  pub place : PartAround w h side from y win
+  pub room : win .height * win .width ≤ length part
+  pub held : frontOf win part ≡ greysOf pic w (rectOf win)
+
+-- what the next column asks: room, and the window of the column before it, where it begins no new one
+pub record KeepAsks (w h : ℕ) (pic : List ℕ) (side x y : ℕ) (win : Window) (part : List ℕ) : Type 0 where
+  pub asks : SpanAsks (length pic) w h side x y
+  pub room : 8192 ≤ length part
+  pub kept : 0 < x % 64 → KeptPart w h pic side x y win part
+
+-- what moving right by a copied window asks
+pub record SlideInAsks (part : List ℕ) (win : Window) (side : ℕ) (s : Settings) (x y b factor : ℕ) (t : List ℕ) : Type 0 where
+  pub left : win .left ≤ x
+  pub top : win .top ≤ y
+  pub room : win .height * win .width ≤ length part
+  pub asks : SlideAsks (frontOf win part) (win .width) (win .height) side (x - win .left) (y - win .top) (s .min) (s .max) b factor t
 
 -- what the value of a bin asks of the counts in the front of the scratch
 pub record FoundAsks (s : Settings) (n k b : ℕ) (t : List ℕ) : Type 0 where
@@ -160,6 +188,12 @@ pub record AroundStartAsks (w h : ℕ) (pic : List ℕ) (side : ℕ) (s : Settin
   pub row : y < h
   pub bins : b ≡ binsOf s
   pub room : b + b ≤ scratch
+
+-- what the pixels of a row ask: the counts of the first one's region, and room for a window
+pub record PaintPixelsAsks (w h : ℕ) (pic : List ℕ) (side : ℕ) (s : Settings) (y b factor part out : ℕ) (t : List ℕ) : Type 0 where
+  pub first : AroundPixelAsks w h pic side s 0 y b factor t
+  pub copied : 8192 ≤ part
+  pub row : out ≡ w
 
 -- what a row asks
 pub record AroundRowAsks (w h : ℕ) (pic : List ℕ) (side : ℕ) (s : Settings) (y out scratch : ℕ) : Type 0 where

@@ -1,16 +1,17 @@
 // A window around each pixel: every pixel has a region of its own, whose counts move on from pixel to pixel.
 ghost use mathlib.Core.Path.{_≡_};
-ghost use Prim.Native.Nat.{_+_, _*_, _≤_, _<_};
+ghost use Prim.Native.Nat.{_+_, _-_, _*_, _%_, _≤_, _<_, min};
 ghost use lib.ListN.{length, take, drop, getD};
 ghost use Rattle.base_lists.specs.Lists.{joined, filled, over};
 ghost use Rattle.base_rows.specs.Refuse.{first};
 ghost use Rattle.tile_bin.specs.Binning.{binOf};
 ghost use Rattle.film_settings.specs.Settings.{binsOf};
-ghost use Rattle.tile_slide.specs.Slide.{RegionAsks};
+ghost use Rattle.tile_slide.specs.Slide.{RegionAsks, Slid};
 ghost use Rattle.film_prepare.specs.Prepare.{paintLeaves};
-ghost use Rattle.film_around.specs.Around.{regionRows, aroundWorkRows, aroundRows, regionPixels, aroundRow, aroundOf, AroundBinAsks, AroundPixelAsks, AroundGreyed, RegionHeld, BandAsks, SpanAsks, FoundAsks, FoundIn, foundAs, AroundStartAsks, AroundRowAsks, AroundPaintAsks, BehindTwiceBins};
+ghost use Rattle.film_around.specs.Around.{regionRows, aroundWorkRows, aroundRows, regionPixels, aroundRow, aroundOf, AroundBinAsks, AroundPixelAsks, AroundGreyed, RegionHeld, SpanAsks, PartAround, KeptPart, KeepAsks, frontOf, SlideInAsks, FoundAsks, FoundIn, foundAs, AroundStartAsks, PaintPixelsAsks, AroundRowAsks, AroundPaintAsks, BehindTwiceBins};
 use film_prepare::Enhanced;
 use film_settings::Settings;
+use film_settings::Window;
 use tile_value::Found;
 
 // Refusal 39, where it applies, else 0.
@@ -136,31 +137,6 @@ fn row_greys(row: &[u16], was: Greys) -> Greys {
     Greys { low, high }
 }
 
-// Those of the columns from `left` up to `right`, of the rows from `top` up to `bottom`.
-fn band_greys(
-    picture: &[u16],
-    stride: usize,
-    left: usize,
-    right: usize,
-    top: usize,
-    bottom: usize,
-) -> Greys
-    requires { ⌜ BandAsks (length (now picture)) stride left right bottom ⌝ }
-{
-    let mut greys = Greys {
-        low: 65535,
-        high: 0,
-    };
-    let mut y = top;
-    while y < bottom {
-        let a = y * stride + left;
-        let e = y * stride + right;
-        greys = row_greys(&picture[a..e], greys);
-        y += 1;
-    }
-    greys
-}
-
 // The bin of a grey, and bin 0 for one that is none of the range.
 fn bin_near(grey: u16, min: u32, factor: u32) -> usize {
     let v = grey as u32;
@@ -173,46 +149,63 @@ fn bin_near(grey: u16, min: u32, factor: u32) -> usize {
     tile_bin::bin_by(v, min, factor) as usize
 }
 
-// The column 63 behind x, or the film's last.
-fn last_of(width: u32, x: u32) -> u32
-    requires { ⌜ (x < width) × (width ≤ 4096) ⌝ }
-    ensures { λ r. ⌜ (x ≤ r) × (r < width) ⌝ }
-{
-    if x + 63 < width { x + 63 } else { width - 1 }
+// The bins of some greys.
+fn span_of(greys: &[u16], min: u32, factor: u32) -> Span {
+    let none = Greys {
+        low: 65535,
+        high: 0,
+    };
+    let found = row_greys(greys, none);
+    let low = bin_near(found.low, min, factor);
+    let top = bin_near(found.high, min, factor);
+    Span { low, top }
 }
 
-// The bins of the regions around 64 pixels of row y from column x on.
-fn span_of(
-    picture: &[u16],
-    width: u32,
-    height: u32,
-    side: u32,
-    min: u32,
-    x: u32,
-    y: u32,
-    factor: u32,
-) -> Span
-    requires { ⌜ SpanAsks (length (now picture)) width height side x y ⌝ }
+// The column 64 behind x, or the film's last.
+fn last_of(width: u32, x: u32) -> u32
+    requires { ⌜ (x < width) × (width ≤ 4096) ⌝ }
+    ensures { λ r. ⌜ r ≡ min (x + 64) (width - 1) ⌝ }
+{
+    if x + 64 < width { x + 64 } else { width - 1 }
+}
+
+// The part of the film that has the regions around 64 pixels of row y from column x on, and the one behind them.
+fn part_of(width: u32, height: u32, side: u32, x: u32, y: u32) -> Window
+    requires { ⌜ RegionAsks width height side x y ⌝ }
+    ensures { λ win. ⌜ PartAround width height side x y win ⌝ }
 {
     let first = tile_slide::region(width, height, side, x, y);
     let last = tile_slide::region(width, height, side, last_of(width, x), y);
     let right = last.left + last.width;
-    let bottom = first.top + first.height;
-    let greys = band_greys(
-        picture,
-        width as usize,
-        first.left,
-        right,
-        first.top,
-        bottom,
-    );
-    let low = bin_near(greys.low, min, factor);
-    let top = bin_near(greys.high, min, factor);
-    Span { low, top }
+    Window {
+        left: first.left as u32,
+        top: first.top as u32,
+        width: (right - first.left) as u32,
+        height: first.height as u32,
+    }
 }
 
-// The same, worked out for each 64th column, and kept for those behind it.
-fn span_at(
+// A part of the film that was copied, and the bins of its greys.
+struct Kept {
+    win: Window,
+    span: Span,
+}
+
+// A part before the first.
+fn nothing_kept() -> Kept {
+    let win = Window {
+        left: 0,
+        top: 0,
+        width: 0,
+        height: 0,
+    };
+    let span = Span { low: 0, top: 0 };
+    Kept { win, span }
+}
+
+// Copies the part around 64 pixels of row y from column x on. A column of the film lies in as many lines of the processor's memory as it has
+// rows, and where the film is 4096 wide these take each other's place there; a column of the part does not.
+fn keep(
     picture: &[u16],
     width: u32,
     height: u32,
@@ -221,14 +214,69 @@ fn span_at(
     x: u32,
     y: u32,
     factor: u32,
-    was: Span,
-) -> Span
-    requires { ⌜ SpanAsks (length (now picture)) width height side x y ⌝ }
+    part: &mut [u16],
+) -> Kept
+    requires { ⌜ SpanAsks (length (now picture)) width height side x y × (8192 ≤ length (now part)) × (x % 64 ≡ 0) ⌝ }
+    ensures { λ kept. ⌜ KeptPart width height (now (picture .entry)) side x y (kept .win) (now (part .exit)) × (length (now (part .exit)) ≡ length (now (part .entry))) ⌝ }
 {
-    if x % 64 != 0 {
+    let win = part_of(width, height, side, x, y);
+    let n = (win.height as usize) * (win.width as usize);
+    film_window::copy_window(picture, width as usize, win, &mut part[..n]);
+    let span = span_of(&part[..n], min, factor);
+    Kept { win, span }
+}
+
+// The same at each 64th column, and the part that was kept at those behind it.
+fn keep_at(
+    picture: &[u16],
+    width: u32,
+    height: u32,
+    side: u32,
+    min: u32,
+    x: u32,
+    y: u32,
+    factor: u32,
+    was: Kept,
+    part: &mut [u16],
+) -> Kept
+    requires { ⌜ KeepAsks width height (now picture) side x y (was .win) (now part) ⌝ }
+    ensures { λ kept. ⌜ KeptPart width height (now (picture .entry)) side x y (kept .win) (now (part .exit)) × (length (now (part .exit)) ≡ length (now (part .entry))) ⌝ }
+{
+    if 0 < x % 64 {
         return was;
     }
-    span_of(picture, width, height, side, min, x, y, factor)
+    keep(picture, width, height, side, min, x, y, factor, part)
+}
+
+// Moves the counts of the region around the pixel in column x and row y to the right, by the pixels of the part alone.
+fn slide_in(
+    part: &[u16],
+    win: Window,
+    side: u32,
+    s: Settings,
+    x: u32,
+    y: u32,
+    bins: u32,
+    factor: u32,
+    scratch: &mut [u32],
+)
+    requires { ⌜ SlideInAsks (now part) win side s x y bins factor (now scratch) ⌝ }
+    ensures { λ _. ⌜ Slid (frontOf win (now (part .entry))) (win .width) (win .height) side (x - win .left) (y - win .top) (s .min) (s .max) bins (now (scratch .entry)) (now (scratch .exit)) ⌝ }
+{
+    let n = (win.height as usize) * (win.width as usize);
+    tile_slide::slide(
+        &part[..n],
+        win.width,
+        win.height,
+        side,
+        x - win.left,
+        y - win.top,
+        s.min,
+        s.max,
+        bins,
+        factor,
+        scratch,
+    );
 }
 
 // Copies n entries from bin `low` on to where the second half begins.
@@ -346,12 +394,14 @@ fn pixel(
     y: u32,
     bins: u32,
     factor: u32,
-    span: Span,
+    kept: Kept,
+    part: &[u16],
     scratch: &mut [u32],
 ) -> u32
-    requires { ⌜ AroundPixelAsks width height (now picture) side s x y bins factor (now scratch) ⌝ }
+    requires { ⌜ AroundPixelAsks width height (now picture) side s x y bins factor (now scratch) × KeptPart width height (now picture) side x y (kept .win) (now part) ⌝ }
     ensures { λ r. ⌜ RegionHeld width height (now (picture .entry)) side s (x + 1) y bins (now (scratch .entry)) (now (scratch .exit)) × AroundGreyed width height (now (picture .entry)) side s x y r ⌝ }
 {
+    let span = kept.span;
     let shown = grey(
         picture,
         width,
@@ -365,19 +415,7 @@ fn pixel(
         span,
         scratch,
     );
-    tile_slide::slide(
-        picture,
-        width,
-        height,
-        side,
-        x,
-        y,
-        s.min,
-        s.max,
-        bins,
-        factor,
-        scratch,
-    );
+    slide_in(part, kept.win, side, s, x, y, bins, factor, scratch);
     shown
 }
 
@@ -399,7 +437,59 @@ fn start(
     tile_count::count(picture, width as usize, rect, s.min, s.max, bins, scratch);
 }
 
-// Row y of the film, each pixel by its own region.
+// The pixels of row y, each by its own region; the counts of the first one's are there.
+fn paint_pixels(
+    picture: &[u16],
+    width: u32,
+    height: u32,
+    side: u32,
+    s: Settings,
+    y: u32,
+    bins: u32,
+    factor: u32,
+    part: &mut [u16],
+    out: &mut [u16],
+    scratch: &mut [u32],
+)
+    requires { ⌜ PaintPixelsAsks width height (now picture) side s y bins factor (length (now part)) (length (now out)) (now scratch) ⌝ }
+    ensures { λ _. ⌜ BehindTwiceBins s (now (scratch .entry)) (now (scratch .exit)) × (now (out .exit) ≡ aroundRow width height (now (picture .entry)) side s y) ⌝ }
+{
+    let mut kept = nothing_kept();
+    let mut x = 0;
+    while x < width {
+        kept = keep_at(
+            picture,
+            width,
+            height,
+            side,
+            s.min,
+            x,
+            y,
+            factor,
+            kept,
+            part,
+        );
+        let shown = pixel(
+            picture,
+            width,
+            height,
+            side,
+            s,
+            x,
+            y,
+            bins,
+            factor,
+            kept,
+            part,
+            scratch,
+        );
+        let i = x as usize;
+        out[i] = shown as u16;
+        x += 1;
+    }
+}
+
+// Row y of the film, each pixel by its own region; owns the part, at most 127 columns of 64 rows.
 fn paint_row(
     picture: &[u16],
     width: u32,
@@ -416,27 +506,20 @@ fn paint_row(
     let bins = film_settings::bins(s);
     let factor = tile_bin::bin_factor(s.min, s.max, bins);
     start(picture, width, height, side, s, y, bins, scratch);
-    let mut span = Span { low: 0, top: 0 };
-    let mut x = 0;
-    while x < width {
-        span = span_at(picture, width, height, side, s.min, x, y, factor, span);
-        let shown = pixel(
-            picture,
-            width,
-            height,
-            side,
-            s,
-            x,
-            y,
-            bins,
-            factor,
-            span,
-            scratch,
-        );
-        let i = x as usize;
-        out[i] = shown as u16;
-        x += 1;
-    }
+    let mut part = [0u16; 8192];
+    paint_pixels(
+        picture,
+        width,
+        height,
+        side,
+        s,
+        y,
+        bins,
+        factor,
+        &mut part,
+        out,
+        scratch,
+    );
 }
 
 // The film, row by row; the scratch is left zero.
