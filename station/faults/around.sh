@@ -223,13 +223,14 @@ for signal in TERM:143 INT:130 ALRM:142 KILL:137; do
 done
 
 # ---- progress, on a terminal alone
-{ printf 'P5\n512 768\n4095\n'; raster; raster; } >tall.pgm # so that it takes seconds
-"$tz" around tall.pgm slow.pgm --force --bins 4096 2>said
+# The clip rule of 1986 looks at all bins, empty ones too, so that it takes seconds.
+{ printf 'P5\n512 1536\n4095\n'; raster; raster; raster; raster; } >tall.pgm
+"$tz" around tall.pgm slow.pgm --force --bins 4096 --edition 1986 2>said
 if ! grep -q '%' said && ! grep -q rendering said; then ok=yes; else ok=no; fi
 report "$ok" 'around: no progress where there is no terminal' "$(wc -l <said) lines"
 if command -v script >/dev/null; then
     cp slow.pgm alike.pgm
-    script -qec "'$tz' around --force tall.pgm slow.pgm --bins 4096" typed </dev/null >/dev/null 2>&1
+    script -qec "'$tz' around --force tall.pgm slow.pgm --bins 4096 --edition 1986" typed </dev/null >/dev/null 2>&1
     steps=$(tr '\r' '\n' <typed | grep -c 'tall.pgm: rendering, [0-9]* %')
     end=$(printf '\r\033[Klimit ')
     if [ "$steps" -gt 2 ] && grep -qF "$end" typed && cmp -s alike.pgm slow.pgm; then ok=yes; else ok=no; fi
