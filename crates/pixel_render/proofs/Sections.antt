@@ -1,6 +1,6 @@
 -- The turns of a loop that goes through a row section by section.
 -- Assumes nothing.
-use Prim.Native.Nat.{ℕ, _+_, _-_, _≤_, _<_}
+use Prim.Native.Nat.{ℕ, _+_, _-_, _≤_, _<_, min}
 use mathlib.Core.List.{List}
 use mathlib.Core.Path.{_≡_, ap, _∙_}
 use lib.ListN.{length, getD, take, drop}
@@ -11,7 +11,7 @@ use Rattle.base_lists.proofs.Steps.{drop-filled, filled-part}
 use Rattle.base_lists.proofs.Tabs.{tab-cong}
 use Rattle.base_lists.proofs.Windows.{getD-part, length-part}
 use Rattle.pixel_place.specs.declared.Place.{Place}
-use Rattle.pixel_place.specs.Blend.{placeOf, moved, SameTiles}
+use Rattle.pixel_place.specs.Blend.{placeOf, moved, SameTiles, lengthOf}
 use Rattle.pixel_place.proofs.Places.{run-shorter, run-place}
 use Rattle.pixel_render.specs.declared.Section.{Section}
 use Rattle.pixel_render.specs.Render.{Sectioned}
@@ -19,12 +19,18 @@ use Rattle.pixel_render.specs.Render.{Sectioned}
 -- ---- a section
 
 -- the first run of a row, or what is left of the row where that is less
-pub section-is : {w grid left at n run less : ℕ} {column : Place} → column ≡ placeOf w grid (left + at) → SameTiles w grid (left + at) column run
-    → (less ≤ run) × (less ≤ n - at) × (0 < run → 0 < n - at → 0 < less) → at < n → Sectioned w grid left at n record { column = column; end = at + less }
-section-is {w} {grid} {left} {at} {n} {run} {less} e r h l =
-    let some : 0 < less = h .2 (r .some) (omega arith) in
+pub section-is : {w grid left at n run less : ℕ} {column : Place} → column ≡ placeOf w grid (left + at) → run ≡ lengthOf w grid (left + at) column → SameTiles w grid (left + at) column run
+    → less ≡ min run (n - at) → at < n → Sectioned w grid left at n record { column = column; end = at + less }
+section-is {w} {grid} {left} {at} {n} {run} {less} e k r h l =
+    let some : 0 < less = omega (arith, r .some) in
     let size : at + less - at ≡ less = omega arith in
-    record { column = e; start = omega arith; end = omega (arith, h .1); run = rw size (run-shorter r some (h .0)) }
+    record {
+      column = e;
+      start = omega arith;
+      end = omega arith;
+      run = rw size (run-shorter r some (omega arith));
+      size = ap (λ t. at + t) (h ∙ ap (λ t. min t (n - at)) (k ∙ ap (lengthOf w grid (left + at)) e));
+    }
 
 -- ---- the turns
 

@@ -2,25 +2,32 @@
 -- Assumes nothing.
 use Prim.Native.Nat.{ℕ, _+_, _-_, _*_, _≤_, _<_}
 use mathlib.Core.List.{List}
-use mathlib.Core.Path.{_≡_, refl, sym, ap, _∙_}
+use mathlib.Core.Path.{_≡_, refl, sym, ap, ap₂, _∙_}
 use lib.ListN.{length, getD, take, drop}
 use native.Mathlib.Nat.{mul-le-mul-right}
 use native.Mathlib.Omega.{arith}
 use borrow.Rule.Slice.PartMut.{putMid}
-use Rattle.base_lists.specs.Lists.{tab, joined, blocks}
+use Rattle.base_lists.specs.Lists.{tab, sum, joined, blocks}
 use Rattle.base_lists.proofs.Tabs.{length-tab, tab-cong}
 use Rattle.base_lists.proofs.Blocks.{length-blocks, drop-blocks, blocks-step, blocks-end, block-fits}
-use Rattle.base_lists.proofs.Windows.{blocks-whole, block, getD-block, length-block}
+use Rattle.base_lists.proofs.Windows.{blocks-whole, block, block-cut, getD-block, length-block, length-part}
 use Rattle.base_lists.proofs.Alls.{all-drop, all-take}
 use Rattle.pixel_grid.specs.Grid.{Fits}
 use Rattle.pixel_place.proofs.Places.{place-sound}
 use Rattle.film_settings.specs.declared.Settings.{Settings}
 use Rattle.film_settings.specs.declared.Window.{Window}
-use Rattle.pixel_render.specs.Render.{renderedOf, rowPlace, rowOf, renderOf, Mapped, Shown, RenderRowAsks}
+use Rattle.pixel_bins.specs.Bins.{binnedOf}
+use Rattle.pixel_bins.proofs.Bins.{bins-length}
+use Rattle.pixel_render.proofs.Counts.{row-few, sum-next}
+use Rattle.pixel_render.specs.Render.{renderedOf, rowPlace, rowOf, movedRow, renderOf, movedWindow, Mapped, Shown, RenderRowAsks}
 
 -- row j of the window, rendered
 abbrev pub strip : ℕ → ℕ → Settings → List ℕ → Window → List ℕ → ℕ → List ℕ
 strip w h s m win vs j = tab (win .width) (λ i. renderedOf w h s m (win .left + i) (win .top + j) (getD vs (j * win .width + i) 0))
+
+-- how many sums of it move
+abbrev pub stripMoves : ℕ → Settings → Window → ℕ → List ℕ → ℕ → ℕ
+stripMoves w s win room vs j = movedRow w s (win .left) room (binnedOf s (take (win .width) (drop (j * win .width) vs)))
 
 -- it has the window's width
 pub length-strip : (w h : ℕ) (s : Settings) (m : List ℕ) (win : Window) (vs : List ℕ) (j : ℕ) → length (strip w h s m win vs j) ≡ win .width
@@ -72,6 +79,19 @@ module _ {w h : ℕ} {s : Settings} {m : List ℕ} {win : Window} {vs : List ℕ
       blocks-step (win .width) (strip w h s m win vs) vs (λ i k. length-strip w h s m win vs i) e
       (q ∙ ap (rowOf w s m (win .left) (rowPlace h s (win .top + j))) (strip-part j e) ∙ strip-is l)
 
+  -- and how many sums have moved by then, no more than there are pixels
+  pub strips-moved : {px : List ℕ} {j moves n r room : ℕ} → px ≡ blocks (win .width) (strip w h s m win vs) vs j → j < win .height
+      → moves ≡ sum j (stripMoves w s win room vs) → moves ≤ j * win .width → n ≡ room → r ≡ movedRow w s (win .left) n (binnedOf s (block px j (win .width)))
+      → (moves + r ≡ sum (j + 1) (stripMoves w s win room vs)) × (moves + r ≤ (j + 1) * win .width)
+  strips-moved {px} {j} {moves} {n} {r} {room} e l told few q z =
+      sum-next (win .width) (stripMoves w s win room vs) (told, few) is (omega (arith, is, row-few w s room (win .left) (binnedOf s part), bins-length s part refl, length-part vs (win .width) (j * win .width) (strip-room l)))
+    where
+      part : List ℕ
+      part = take (win .width) (drop (j * win .width) vs)
+
+      is : r ≡ stripMoves w s win room vs j
+      is = z ∙ ap₂ (movedRow w s (win .left)) q (ap (binnedOf s) (strip-part j e ∙ block-cut vs j (win .width)))
+
   -- the length stays
   pub strips-length : {px : List ℕ} {j : ℕ} → px ≡ blocks (win .width) (strip w h s m win vs) vs j → j ≤ win .height → length px ≡ length vs
   strips-length {px} {j} e l =
@@ -83,3 +103,8 @@ module _ {w h : ℕ} {s : Settings} {m : List ℕ} {win : Window} {vs : List ℕ
       blocks-end (win .width) (strip w h s m win vs) vs e l k
       ∙ blocks-whole (win .width) (strip w h s m win vs) vs (win .height) (asks .1 .size)
       ∙ sym (render-strips w h s m win vs)
+
+-- how many sums of it moved
+pub window-moved : (w : ℕ) (s : Settings) (win : Window) (room : ℕ) (vs : List ℕ) {j moves : ℕ} → moves ≡ sum j (stripMoves w s win room vs) → j ≤ win .height → win .height ≤ j → moves ≡ movedWindow w s win room vs
+unfolding movedWindow
+window-moved w s win room vs {j} e l k = let q : j ≡ win .height = omega arith in e ∙ ap (λ t. sum t (stripMoves w s win room vs)) q

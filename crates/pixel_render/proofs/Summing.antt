@@ -16,12 +16,14 @@ use Rattle.pixel_place.proofs.Laws.{grey-moved}
 use Rattle.pixel_place.proofs.Places.{place-sound}
 use Rattle.film_settings.specs.declared.Settings.{Settings}
 use Rattle.film_settings.specs.Settings.{binsOf}
+use Rattle.pixel_sums.specs.Sums.{sumsMoved}
 use Rattle.pixel_weigh.specs.Weigh.{mappedAt, cornersOf, weighedRun, WeighAsks}
 use Rattle.pixel_weigh.proofs.Tiles.{weighed-is}
 use Rattle.pixel_bins.specs.Bins.{binnedOf}
 use Rattle.pixel_bins.proofs.Bins.{bins-length, held-is, held-in}
 use Rattle.pixel_render.specs.declared.Section.{Section}
 use Rattle.pixel_render.specs.Render.{columnPlace, pixelOf, rowOf, weighedRow, RenderRowAsks, Sectioned, SumRowAsks}
+use Rattle.pixel_render.proofs.Counts.{Moving, moving-next}
 use Rattle.pixel_render.proofs.Pixels.{pixel-corners}
 use Rattle.pixel_render.proofs.Sections.{placed, ahead-is, ahead-length, section-next}
 
@@ -76,6 +78,10 @@ module _ {w : ℕ} {s : Settings} {m : List ℕ} {left : ℕ} {row : Place} {ks 
   -- one section more
   pub part-next : {ys : List ℕ} → ys ≡ weighedRun s m (part .column) row (take (part .end - i) (drop i px)) → putMid i (part .end - i) px ys ≡ filled (weighs w s m left row ks) ks (part .end)
   part-next q = section-next (weighBy s m row) (corners-alone s m row) ks e cut (q ∙ weighed-is s m (part .column) row _)
+
+  -- and how many sums move in it
+  pub part-moves : {room moves n r : ℕ} → Moving w s left room ks i moves → n ≡ room → r ≡ sumsMoved n (take (part .end - i) (drop i px)) → Moving w s left room ks (part .end) (moves + r)
+  part-moves h q z = moving-next w s left _ ks h cut (z ∙ ap₂ sumsMoved q part-is)
 
 -- the whole row
 pub parts-end : (w : ℕ) (s : Settings) (m : List ℕ) (left : ℕ) (row : Place) (ks : List ℕ) {px : List ℕ} {i : ℕ} → px ≡ filled (weighs w s m left row ks) ks i → i ≤ length ks → length ks ≤ i

@@ -2,3 +2,4 @@ pub mod Patches
 pub mod Tables
 pub mod Turns
 pub mod Steps
+pub mod Choice

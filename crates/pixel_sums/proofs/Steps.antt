@@ -1,6 +1,6 @@
--- A run pixel by pixel: the sum of each pixel, weighed or moved, how many moved, and the least and the greatest bin.
+-- A run pixel by pixel: the sum of each pixel, weighed or moved, and how many moved.
 -- Assumes nothing.
-use Prim.Native.Nat.{ℕ, zero, suc, _+_, _-_, _*_, _/_, _%_, _≤_, _<_, min, max}
+use Prim.Native.Nat.{ℕ, zero, suc, _+_, _-_, _*_, _/_, _%_, _≤_, _<_}
 use mathlib.Core.Bool.{Bool, true, false, cond}
 use mathlib.Core.List.{List}
 use mathlib.Core.Path.{_≡_, refl, sym, ap, ap₂, _∙_}
@@ -17,42 +17,8 @@ use Rattle.pixel_place.specs.declared.Place.{Place}
 use Rattle.pixel_place.specs.Blend.{pairOf, Sound, moved}
 use Rattle.pixel_place.proofs.Laws.{moved-sound, weigh-most, pair-most, side-small, sides-weighed, sides-most, sides-grey}
 use Rattle.pixel_place.proofs.Moves.{left-holds, sum-moves, sides-are}
-use Rattle.pixel_sums.specs.declared.Ends.{Ends}
 use Rattle.pixel_sums.specs.declared.Sum.{Sum}
-use Rattle.pixel_sums.specs.Sums.{blendedAt, blendedRun, sideAt, likeBefore, movedTo, movedIn, Ended, Stands, PixelAsks, RunAsks, Within}
-
--- ---- the least and the greatest
-
--- one entry more
-pub least-more : (ks : List ℕ) {k a b : ℕ} → b ≡ min a (getD ks k 0) → ((i : ℕ) → i < k → a ≤ getD ks i 0) → (i : ℕ) → i < k + 1 → b ≤ getD ks i 0
-least-more ks {k} {a} {b} e h i l = go (ltb i k) refl
-  where
-    go : (t : Bool) → ltb i k ≡ t → b ≤ getD ks i 0
-    go true p = omega (arith, e, h i (ltb-true i k p))
-    go false p =
-        let z : i ≡ k = omega (arith, ltb-false i k p) in
-        let q : getD ks i 0 ≡ getD ks k 0 = ap (λ t. getD ks t 0) z in
-        omega (arith, e, q)
-
-pub most-more : (ks : List ℕ) {k a b : ℕ} → b ≡ max a (getD ks k 0) → ((i : ℕ) → i < k → getD ks i 0 ≤ a) → (i : ℕ) → i < k + 1 → getD ks i 0 ≤ b
-most-more ks {k} {a} {b} e h i l = go (ltb i k) refl
-  where
-    go : (t : Bool) → ltb i k ≡ t → getD ks i 0 ≤ b
-    go true p = omega (arith, e, h i (ltb-true i k p))
-    go false p =
-        let z : i ≡ k = omega (arith, ltb-false i k p) in
-        let q : getD ks i 0 ≡ getD ks k 0 = ap (λ t. getD ks t 0) z in
-        omega (arith, e, q)
-
--- what a table of the bins from the least to the greatest asks
-pub ends-within : {ks : List ℕ} {r : Ends} {n room : ℕ} → Ended ks r → 0 < n → ((i : ℕ) → i < length ks → getD ks i 0 < n) → r .low ≤ r .high + 1 → 2 * (r .high + 1) ≤ room → Within (r .low) (r .high + 1) n room ks
-ends-within {ks} {r} {n} ended some bins order fits =
-    record {
-      order = order;
-      under = omega (arith, ended .top (n - 1) (λ i l. omega (arith, bins i l)));
-      fits = fits;
-      bins = λ i l. (ended .least i l, omega (arith, ended .most i l));
-    }
+use Rattle.pixel_sums.specs.Sums.{blendedAt, blendedRun, sideAt, likeBefore, movedTo, movedIn, Stands, PixelAsks, RunAsks}
 
 -- ---- one pixel
 

@@ -1,16 +1,15 @@
 -- Order 4 for every pixel: the weighted sum of each bin at the left tiles' centre, and what it moves by from column to column.
 -- a, b, c and d are the mapped values of the four tiles, upper left, upper right, lower left and lower right; ks are the bins of a run's pixels.
 -- Assumes nothing.
-use Prim.Native.Nat.{ℕ, zero, suc, _+_, _-_, _*_, _/_, _%_, _≤_, _<_}
-use mathlib.Core.Bool.{Bool, false, cond}
+use Prim.Native.Nat.{ℕ, zero, suc, _+_, _-_, _*_, _/_, _%_, _≤_, _<_, min, max}
+use mathlib.Core.Bool.{Bool, false, cond, _&&_}
 use mathlib.Core.List.{List}
 use mathlib.Core.Path.{_≡_}
-use lib.Dec.{ltb, eqb}
+use lib.Dec.{leb, ltb, eqb}
 use lib.ListN.{length, getD}
 use Rattle.base_lists.specs.Lists.{tab, filled}
 use Rattle.pixel_place.specs.declared.Place.{Place}
 use Rattle.pixel_place.specs.Blend.{greyOf, pairOf, Sound, moved}
-use Rattle.pixel_sums.specs.declared.Ends.{Ends}
 use Rattle.pixel_sums.specs.declared.Sum.{Sum}
 
 -- ---- a part of a list
@@ -80,13 +79,35 @@ movedTo ks (suc n) = movedTo ks n + cond (likeBefore ks n) 1 0
 unfoldable pub movedIn : List ℕ → ℕ
 movedIn ks = movedTo ks (length ks)
 
--- ---- what the functions ask and answer
+-- ---- from a table or pixel by pixel
 
--- bins ks lie from the least to the greatest, which is no greater than it need be
-pub record Ended (ks : List ℕ) (r : Ends) : Type 0 where
-  pub least : (i : ℕ) → i < length ks → r .low ≤ getD ks i 0
-  pub most : (i : ℕ) → i < length ks → getD ks i 0 ≤ r .high
-  pub top : (m : ℕ) → ((i : ℕ) → i < length ks → getD ks i 0 ≤ m) → r .high ≤ m
+-- the least of the first n bins: none is above 65535
+unfoldable pub leastTo : List ℕ → ℕ → ℕ
+leastTo ks zero = 65535
+leastTo ks (suc n) = min (leastTo ks n) (getD ks n 0)
+
+-- the greatest of them
+unfoldable pub greatestTo : List ℕ → ℕ → ℕ
+greatestTo ks zero = 0
+greatestTo ks (suc n) = max (greatestTo ks n) (getD ks n 0)
+
+-- the least bin of a run
+abbrev pub leastOf : List ℕ → ℕ
+leastOf ks = leastTo ks (length ks)
+
+-- and the greatest
+abbrev pub greatestOf : List ℕ → ℕ
+greatestOf ks = greatestTo ks (length ks)
+
+-- whether a table pays: the bins from `low` up to `top` are no more than `wide` pixels, and the room has two entries for each bin below `top`
+unfoldable pub paysFor : (low top wide room : ℕ) → Bool
+paysFor low top wide room = leb low top && (leb top (low + wide) && leb top (room / 2))
+
+-- how many of a run's pixels have their sum moved: all of them from a table where one pays, else "where the bin stays the same"
+unfoldable pub sumsMoved : (room : ℕ) (ks : List ℕ) → ℕ
+sumsMoved room ks = cond (paysFor (leastOf ks) (greatestOf ks + 1) (length ks) room) (length ks) (movedIn ks)
+
+-- ---- what the functions ask
 
 -- the mapped values of n bins of each of the four tiles
 pub record Tiles (a b c d : List ℕ) (n : ℕ) : Type 0 where

@@ -1,11 +1,11 @@
 // The weighted sum of each bin at the left tiles' centre and what it moves by: a run's pixels from these alone, or pixel by pixel.
-ghost use mathlib.Core.Bool.{true, cond};
+ghost use mathlib.Core.Bool.{cond};
 ghost use mathlib.Core.Path.{_≡_};
 ghost use Prim.Native.Nat.{_+_, _-_, _*_, _/_, _≤_, _<_};
 ghost use lib.Dec.{eqb};
 ghost use lib.ListN.{length, getD};
 ghost use Rattle.pixel_place.specs.Blend.{pairOf, Sound, inverseOf, Inverse, moved};
-ghost use Rattle.pixel_sums.specs.Sums.{patchOf, blendedRun, entryOf, sumAt, movedAt, movedBy, movedRun, movedIn, Ended, Tiles, Scaled, Moves, MoveAsks, Stands, PixelAsks, RunAsks, Within};
+ghost use Rattle.pixel_sums.specs.Sums.{patchOf, blendedRun, entryOf, sumAt, movedAt, movedBy, movedRun, movedIn, leastOf, greatestOf, paysFor, sumsMoved, Tiles, Scaled, Moves, MoveAsks, Stands, PixelAsks, RunAsks, Within};
 use pixel_place::Place;
 
 // The least and the greatest of some bins.
@@ -16,7 +16,7 @@ pub struct Ends {
 
 // The least and the greatest bin of a run. None is asked by itself, so that several go at once.
 fn ends_of(ks: &[u16]) -> Ends
-    ensures { λ r. ⌜ Ended (now (ks .entry)) r ⌝ }
+    ensures { λ r. ⌜ (r .low ≡ leastOf (now (ks .entry))) × (r .high ≡ greatestOf (now (ks .entry))) ⌝ }
 {
     let mut low = 65535u16;
     let mut high = 0u16;
@@ -114,10 +114,10 @@ fn move_four(pixels: &mut [u16], at: usize, table: &[u64], from: usize, most: u6
     pixels[at + 3] = h;
 }
 
-// Renders a run's pixels, whose bins stand in their places, from the table alone: four at a time, and the rest one by one.
-fn move_run(pixels: &mut [u16], table: &[u64], from: usize, most: u64)
+// Renders a run's pixels, whose bins stand in their places, from the table alone: four at a time, and the rest one by one. Answers how many moved.
+fn move_run(pixels: &mut [u16], table: &[u64], from: usize, most: u64) -> usize
     requires { ⌜ MoveAsks (now table) from most 0 (length (now pixels)) (now pixels) ⌝ }
-    ensures { λ _. ⌜ now (pixels .exit) ≡ movedRun 1125899906842624 (now (table .entry)) from most (now (pixels .entry)) ⌝ }
+    ensures { λ r. ⌜ (now (pixels .exit) ≡ movedRun 1125899906842624 (now (table .entry)) from most (now (pixels .entry))) × (r ≡ length (now (pixels .entry))) ⌝ }
 {
     let len = pixels.len();
     let many = len / 4;
@@ -127,6 +127,7 @@ fn move_run(pixels: &mut [u16], table: &[u64], from: usize, most: u64)
         n += 1;
     }
     move_part(pixels, many * 4, len, table, from, most);
+    len
 }
 
 // What stands for the division by the product of both spans.
@@ -137,10 +138,17 @@ fn spans_factor(column: Place, row: Place) -> u64
     pixel_place::factor((column.span as u64) * (row.span as u64))
 }
 
-// Renders a run's pixels from the table for spans of any size: the sums stand in it as they are, and their quotient is `pixel_place`'s.
-fn move_large(pixels: &mut [u16], table: &[u64], from: usize, most: u64, column: Place, row: Place)
+// Renders a run's pixels from the table for spans of any size: the sums stand in it as they are, and their quotient is `pixel_place`'s. Answers how many moved.
+fn move_large(
+    pixels: &mut [u16],
+    table: &[u64],
+    from: usize,
+    most: u64,
+    column: Place,
+    row: Place,
+) -> usize
     requires { ⌜ MoveAsks (now table) from most 0 (length (now pixels)) (now pixels) × Sound 16 2048 column × Sound 16 2048 row × ((i : _) → i < length (now pixels) → sumAt (now table) most (from + i) (getD (now pixels) i 0) ≤ column .span * row .span * 4095) ⌝ }
-    ensures { λ _. ⌜ now (pixels .exit) ≡ movedRun (column .span * row .span) (now (table .entry)) from most (now (pixels .entry)) ⌝ }
+    ensures { λ r. ⌜ (now (pixels .exit) ≡ movedRun (column .span * row .span) (now (table .entry)) from most (now (pixels .entry))) × (r ≡ length (now (pixels .entry))) ⌝ }
 {
     let by = spans_factor(column, row);
     let mut i = 0;
@@ -150,9 +158,10 @@ fn move_large(pixels: &mut [u16], table: &[u64], from: usize, most: u64, column:
         pixels[i] = pixel_place::quotient(sum, column, row, by) as u16;
         i += 1;
     }
+    i
 }
 
-// Renders a run's pixels from the table of its bins, which is filled first, where the spans are small enough for a factor of 2^50.
+// Renders a run's pixels from the table of its bins, which is filled first, where the spans are small enough for a factor of 2^50. Answers how many moved.
 fn table_run(
     pixels: &mut [u16],
     a: &[u16],
@@ -164,14 +173,14 @@ fn table_run(
     low: usize,
     top: usize,
     table: &mut [u64],
-)
+) -> usize
     requires { ⌜ RunAsks column row (now a) (now b) (now c) (now d) (length (now a)) (now pixels) × (column .span * row .span ≤ 524288) × Within low top (length (now a)) (length (now table)) (now pixels) ⌝ }
-    ensures { λ _. ⌜ (now (pixels .exit) ≡ blendedRun column row (now (a .entry)) (now (b .entry)) (now (c .entry)) (now (d .entry)) (now (pixels .entry))) × (length (now (table .exit)) ≡ length (now (table .entry))) ⌝ }
+    ensures { λ r. ⌜ (now (pixels .exit) ≡ blendedRun column row (now (a .entry)) (now (b .entry)) (now (c .entry)) (now (d .entry)) (now (pixels .entry))) × (length (now (table .exit)) ≡ length (now (table .entry))) × (r ≡ length (now (pixels .entry))) ⌝ }
 {
     let by = 1125899906842624 / ((column.span as u64) * (row.span as u64)) + 1;
     fill(a, b, c, d, column, row, by, low, top, table);
     let most = (row.span as u64) * 4095 * by;
-    move_run(pixels, table, column.upperweight as usize, most);
+    move_run(pixels, table, column.upperweight as usize, most)
 }
 
 // The same for spans of any size: no factor stands in the table.
@@ -186,9 +195,9 @@ fn large_run(
     low: usize,
     top: usize,
     table: &mut [u64],
-)
+) -> usize
     requires { ⌜ RunAsks column row (now a) (now b) (now c) (now d) (length (now a)) (now pixels) × Within low top (length (now a)) (length (now table)) (now pixels) ⌝ }
-    ensures { λ _. ⌜ (now (pixels .exit) ≡ blendedRun column row (now (a .entry)) (now (b .entry)) (now (c .entry)) (now (d .entry)) (now (pixels .entry))) × (length (now (table .exit)) ≡ length (now (table .entry))) ⌝ }
+    ensures { λ r. ⌜ (now (pixels .exit) ≡ blendedRun column row (now (a .entry)) (now (b .entry)) (now (c .entry)) (now (d .entry)) (now (pixels .entry))) × (length (now (table .exit)) ≡ length (now (table .entry))) × (r ≡ length (now (pixels .entry))) ⌝ }
 {
     fill(a, b, c, d, column, row, 1, low, top, table);
     let most = (row.span as u64) * 4095 * 1;
@@ -199,7 +208,7 @@ fn large_run(
         most,
         column,
         row,
-    );
+    )
 }
 
 // The pairs of both sides in one number, the right one from 2^32 on: two products for four.
@@ -308,7 +317,7 @@ fn weigh_run(
 // Whether a table of the bins from `low` up to `top` fits the room and pays for `wide` pixels: five products a bin and one a pixel are then no more than the six a pixel of the plain rule.
 fn pays(low: usize, top: usize, wide: usize, room: usize) -> bool
     requires { ⌜ (low ≤ 65535) × (wide ≤ 65535) ⌝ }
-    ensures { λ r. ⌜ (r ≡ true → (low ≤ top) × (top ≤ low + wide) × (2 * top ≤ room)) ⌝ }
+    ensures { λ r. ⌜ r ≡ paysFor low top wide room ⌝ }
 {
     if top < low {
         return false;
@@ -319,7 +328,7 @@ fn pays(low: usize, top: usize, wide: usize, room: usize) -> bool
     top <= room / 2
 }
 
-// Renders a run's pixels, whose bins stand in their places: from a table of its bins where these are no more than its pixels, else pixel by pixel. The table is room to work in, which keeps its length.
+// Renders a run's pixels, whose bins stand in their places: from a table of its bins where these are no more than its pixels, else pixel by pixel. Answers how many sums moved. The table is room to work in, which keeps its length.
 pub fn sum_run(
     pixels: &mut [u16],
     a: &[u16],
@@ -329,20 +338,18 @@ pub fn sum_run(
     column: Place,
     row: Place,
     table: &mut [u64],
-)
+) -> usize
     requires { ⌜ RunAsks column row (now a) (now b) (now c) (now d) (length (now a)) (now pixels) ⌝ }
-    ensures { λ _. ⌜ (now (pixels .exit) ≡ blendedRun column row (now (a .entry)) (now (b .entry)) (now (c .entry)) (now (d .entry)) (now (pixels .entry))) × (length (now (table .exit)) ≡ length (now (table .entry))) ⌝ }
+    ensures { λ r. ⌜ (now (pixels .exit) ≡ blendedRun column row (now (a .entry)) (now (b .entry)) (now (c .entry)) (now (d .entry)) (now (pixels .entry))) × (length (now (table .exit)) ≡ length (now (table .entry))) × (r ≡ sumsMoved (length (now (table .entry))) (now (pixels .entry))) ⌝ }
 {
     let found = ends_of(pixels);
     let low = found.low as usize;
     let top = (found.high as usize) + 1;
     if !pays(low, top, pixels.len(), table.len()) {
-        weigh_run(pixels, a, b, c, d, column, row);
-        return;
+        return weigh_run(pixels, a, b, c, d, column, row);
     }
     if 524288 < column.span * row.span {
-        large_run(pixels, a, b, c, d, column, row, low, top, table);
-        return;
+        return large_run(pixels, a, b, c, d, column, row, low, top, table);
     }
-    table_run(pixels, a, b, c, d, column, row, low, top, table);
+    table_run(pixels, a, b, c, d, column, row, low, top, table)
 }

@@ -2,6 +2,7 @@
 ghost use mathlib.Core.Path.{_≡_};
 ghost use Prim.Native.Nat.{_+_, _*_, _≤_, _<_};
 ghost use lib.ListN.{length};
+ghost use Rattle.pixel_sums.specs.Sums.{sumsMoved};
 ghost use Rattle.film_settings.specs.Settings.{binsOf};
 ghost use Rattle.pixel_weigh.specs.Weigh.{weighedRun, WeighAsks};
 use film_settings::Settings;
@@ -16,7 +17,7 @@ fn tile_at(s: Settings, j: u32, i: u32) -> usize
     number * (film_settings::bins(s) as usize)
 }
 
-// Renders pixels between the same tiles, whose bins stand in their places, from the mappings of the four tiles: the sum moves. The table is room to work in, which keeps its length.
+// Renders pixels between the same tiles, whose bins stand in their places, from the mappings of the four tiles: the sum moves. Answers how many sums moved. The table is room to work in, which keeps its length.
 pub fn weigh_sums(
     pixels: &mut [u16],
     s: Settings,
@@ -24,9 +25,9 @@ pub fn weigh_sums(
     column: Place,
     row: Place,
     table: &mut [u64],
-)
+) -> usize
     requires { ⌜ WeighAsks s (now map) column row (now pixels) ⌝ }
-    ensures { λ _. ⌜ (now (pixels .exit) ≡ weighedRun s (now (map .entry)) column row (now (pixels .entry))) × (length (now (table .exit)) ≡ length (now (table .entry))) ⌝ }
+    ensures { λ r. ⌜ (now (pixels .exit) ≡ weighedRun s (now (map .entry)) column row (now (pixels .entry))) × (length (now (table .exit)) ≡ length (now (table .entry))) × (r ≡ sumsMoved (length (now (table .entry))) (now (pixels .entry))) ⌝ }
 {
     let bins = film_settings::bins(s) as usize;
     let a = tile_at(s, row.lower, column.lower);
@@ -46,5 +47,5 @@ pub fn weigh_sums(
         column,
         row,
         table,
-    );
+    )
 }

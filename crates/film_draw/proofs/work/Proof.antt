@@ -29,7 +29,7 @@ same-length-2 c = search needs
 
 returns-2 : tie.Need-returns-2
 unfolding drawnPixels
-returns-2 c = rw (← c .before .before .before .before .before .clip-one .ensures, c .before .before .before .before .if1 .left) (c .before .before .render .ensures ∙ ap (renderOf _ _ _ _ _) (c .before .before .before .before .before .before .before .before .copy-window .ensures))
+returns-2 c = rw (← c .before .before .before .before .before .clip-one .ensures, c .before .before .before .before .if1 .left) (c .before .before .render .ensures .0 ∙ ap (renderOf _ _ _ _ _) (c .before .before .before .before .before .before .before .before .copy-window .ensures))
 
 pub work-spec : {M : Type 1} → statement M
 work-spec =

@@ -1,7 +1,9 @@
 -- `pixel_render::render_row` meets its contract: the row from its bins is the row, and the room keeps its length.
 -- Assumes nothing.
+use mathlib.Core.Path.{ap, _∙_}
 use native.Mathlib.Omega.{arith}
 use Rattle.pixel_render.proofs.Summing.{row-bins, row-summed}
+use Rattle.pixel_render.specs.Render.{movedRow}
 use Rattle.pixel_render.proofs.render_row.Statement.{statement}
 use Rattle.pixel_render.proofs.render_row.Tie as tie
 
@@ -21,7 +23,7 @@ same-length-2 : tie.Need-same-length-2
 same-length-2 c = omega arith
 
 returns : tie.Need-returns
-returns c = (row-summed (c .before .before .before .before .before .before .before .before .before .before .before .before .before .before .before .pre .2) (c .before .before .before .before .before .before .before .before .before .bins-row .ensures) (c .before .before .before .before .before .before .before .before .before .before .before .locate .ensures) (c .before .before .before .before .sum-row .ensures .0), omega (arith, c .before .before .before .before .sum-row .ensures .1))
+returns c = (row-summed (c .before .before .before .before .before .before .before .before .before .before .before .before .before .before .before .pre .2) (c .before .before .before .before .before .before .before .before .before .bins-row .ensures) (c .before .before .before .before .before .before .before .before .before .before .before .locate .ensures) (c .before .before .before .before .sum-row .ensures .0), omega (arith, c .before .before .before .before .sum-row .ensures .1), c .before .before .before .before .sum-row .ensures .2 ∙ ap (movedRow _ _ _ _) (c .before .before .before .before .before .before .before .before .before .bins-row .ensures))
 
 pub render-row-spec : {M : Type 1} → statement M
 render-row-spec =

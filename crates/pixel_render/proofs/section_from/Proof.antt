@@ -30,7 +30,7 @@ add-end : tie.Need-add-end
 add-end c = omega arith
 
 returns : tie.Need-returns
-returns c = section-is (c .before .before .locate .ensures) (c .before .run .ensures .1) (c .lesser .ensures) (c .before .before .before .pre .2)
+returns c = section-is (c .before .before .locate .ensures) (c .before .run .ensures .0) (c .before .run .ensures .1) (c .lesser .ensures) (c .before .before .before .pre .2)
 
 pub section-from-spec : {M : Type 1} → statement M
 section-from-spec =

@@ -1,10 +1,12 @@
--- `pixel_sums::ends_of` meets its contract: none of the bins passed is below the least or above the greatest.
+-- `pixel_sums::ends_of` meets its contract: the least and the greatest of the bins passed.
 -- Assumes nothing.
-use Prim.Native.Nat.{ℕ, _≤_, _<_, _-_}
-use lib.ListN.{length, getD}
+use Prim.Native.Nat.{_≤_, _-_}
+use mathlib.Core.Path.{_≡_, ap, _∙_}
+use lib.ListN.{length}
 use native.Mathlib.Omega.{arith}
 use borrow.Author.Needs.{needs}
-use Rattle.pixel_sums.proofs.Steps.{least-more, most-more}
+use Rattle.pixel_sums.proofs.Choice.{least-none, greatest-none, least-next, greatest-next}
+use Rattle.pixel_sums.specs.Sums.{leastTo, greatestTo}
 use Rattle.pixel_sums.proofs.ends_of.Statement.{statement}
 use Rattle.pixel_sums.proofs.ends_of.Tie as tie
 use Rattle.pixel_sums.proofs.ends_of.Reads as reads
@@ -13,13 +15,13 @@ use Rattle.base_range.proofs.greatest.Reads as greatest-reads
 use Rattle.base_range.proofs.least.Reads as least-reads
 
 abbrev Inv-loop : tie.InvT-loop
-Inv-loop ks low₀ high₀ i₀ low high i = (i ≤ length ks) × (low ≤ 65535) × (high ≤ 65535) × ((j : ℕ) → j < i → low ≤ getD ks j 0) × ((j : ℕ) → j < i → getD ks j 0 ≤ high) × ((m : ℕ) → ((j : ℕ) → j < i → getD ks j 0 ≤ m) → high ≤ m)
+Inv-loop ks low₀ high₀ i₀ low high i = (i ≤ length ks) × (low ≡ leastTo ks i) × (high ≡ greatestTo ks i)
 
 abbrev μ-loop : tie.MeasureT-loop
 μ-loop ks low₀ high₀ i₀ low high i = length ks - i
 
 loop-holds : tie.Need-loop-holds Inv-loop μ-loop
-loop-holds c = (omega arith, omega arith, omega arith, (λ j l. omega arith), (λ j l. omega arith), λ m h. omega arith)
+loop-holds c = (omega arith, least-none _, greatest-none _)
 
 mul-v : tie.Need-mul-v Inv-loop μ-loop
 mul-v c = omega arith
@@ -40,17 +42,12 @@ loop-less : tie.Need-loop-less Inv-loop μ-loop
 loop-less c = omega arith
 
 loop-again : tie.Need-loop-again Inv-loop μ-loop
-loop-again c = (
-  omega arith,
-  omega (arith, c .before .least .ensures),
-  omega (arith, c .greatest .ensures, c .before .before .shared-slice-known2 .given (c .before .before .before .before .loop .i)),
-  least-more (c .before .before .before .before .before .before .args .ks .now) (c .before .least .ensures) (c .before .before .before .before .loop .inv .3),
-  most-more (c .before .before .before .before .before .before .args .ks .now) (c .greatest .ensures) (c .before .before .before .before .loop .inv .4),
-  λ m h. omega (arith, c .greatest .ensures, h (c .before .before .before .before .loop .i) (omega arith), c .before .before .before .before .loop .inv .5 m (λ j l. h j (omega arith))),
-)
+loop-again c = (omega arith, least-next _ _ (c .before .before .before .before .loop .inv .1) (c .before .least .ensures), greatest-next _ _ (c .before .before .before .before .loop .inv .2) (c .greatest .ensures))
 
 returns : tie.Need-returns Inv-loop μ-loop
-returns c = record { least = λ j l. c .before .loop .inv .3 j (omega arith); most = λ j l. c .before .loop .inv .4 j (omega arith); top = λ m h. c .before .loop .inv .5 m (λ j l. h j (omega arith)) }
+returns c =
+    let whole : c .before .loop .i ≡ length (c .before .before .before .args .ks .now) = omega arith in
+    (c .before .loop .inv .1 ∙ ap (leastTo _) whole, c .before .loop .inv .2 ∙ ap (greatestTo _) whole)
 
 pub ends-of-spec : {M : Type 1} → statement M
 ends-of-spec =

@@ -64,7 +64,7 @@ same-length : tie.Need-same-length Inv-loop μ-loop
 same-length c = omega arith
 
 returns : tie.Need-returns Inv-loop μ-loop
-returns c = run-moved _ _ _ _ _ (filled-end _ _ (c .before .loop .inv .2) (omega arith) (omega arith))
+returns c = (run-moved _ _ _ _ _ (filled-end _ _ (c .before .loop .inv .2) (omega arith) (omega arith)), omega arith)
 
 pub move-large-spec : {M : Type 1} → statement M
 move-large-spec =

@@ -48,7 +48,7 @@ same-length : tie.Need-same-length Inv-loop μ-loop
 same-length c = omega arith
 
 returns : tie.Need-returns Inv-loop μ-loop
-returns c = run-moved 1125899906842624 _ _ _ _ (stretch-next 1125899906842624 (c .before .before .before .before .before .before .before .before .pre) (filled-end _ _ (c .before .before .before .before .before .loop .inv .2) (omega arith) (omega arith)) (omega arith) (omega arith) (c .before .before .move-part .ensures))
+returns c = (run-moved 1125899906842624 _ _ _ _ (stretch-next 1125899906842624 (c .before .before .before .before .before .before .before .before .pre) (filled-end _ _ (c .before .before .before .before .before .loop .inv .2) (omega arith) (omega arith)) (omega arith) (omega arith) (c .before .before .move-part .ensures)), refl)
 
 pub move-run-spec : {M : Type 1} → statement M
 move-run-spec =

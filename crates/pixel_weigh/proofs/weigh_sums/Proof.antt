@@ -93,7 +93,7 @@ same-length-2 : tie.Need-same-length-2
 same-length-2 c = omega arith
 
 returns : tie.Need-returns
-returns c = (run-summed (c .before .before .before .before .before .before .before .before .before .before .before .before .before .before .before .before .before .before .before .pre) (c .before .before .before .before .before .before .before .before .before .before .before .before .before .before .before .bins .ensures) (c .before .before .before .before .before .before .before .before .before .before .before .before .before .before .tile-at .ensures) (c .before .before .before .before .before .before .before .before .before .before .before .before .before .tile-at2 .ensures) (c .before .before .before .before .before .before .before .before .before .before .before .before .tile-at3 .ensures) (c .before .before .before .before .before .before .before .before .before .before .before .tile-at4 .ensures) (c .before .before .before .before .sum-run .ensures .0), omega (arith, c .before .before .before .before .sum-run .ensures .1))
+returns c = (run-summed (c .before .before .before .before .before .before .before .before .before .before .before .before .before .before .before .before .before .before .before .pre) (c .before .before .before .before .before .before .before .before .before .before .before .before .before .before .before .bins .ensures) (c .before .before .before .before .before .before .before .before .before .before .before .before .before .before .tile-at .ensures) (c .before .before .before .before .before .before .before .before .before .before .before .before .before .tile-at2 .ensures) (c .before .before .before .before .before .before .before .before .before .before .before .before .tile-at3 .ensures) (c .before .before .before .before .before .before .before .before .before .before .before .tile-at4 .ensures) (c .before .before .before .before .sum-run .ensures .0), omega (arith, c .before .before .before .before .sum-run .ensures .1), c .before .before .before .before .sum-run .ensures .2)
 
 pub weigh-sums-spec : {M : Type 1} → statement M
 weigh-sums-spec =
