@@ -11,7 +11,7 @@
 #include <stddef.h>
 
 enum { ROOM = 4096 };                            /* the bins for which the table has room */
-enum { A_BIN = 5, BY_TABLE = 1, WEIGHED = 4 };   /* pixel_sums::fill, pixel_sums::moved, pixel_sums::next */
+enum { A_BIN = 5, BY_TABLE = 1, WEIGHED = 4 };   /* pixel_table::fill, pixel_table::moved, pixel_sums::next */
 
 static uint32_t edge(uint32_t side, uint32_t grid, uint32_t i) { return i * side / grid; }
 

@@ -11,7 +11,8 @@ use native.Mathlib.Numerals.{add-one}
 use native.Mathlib.Omega.{arith}
 use Rattle.base_lists.proofs.Tabs.{and-left, and-right}
 use Rattle.pixel_sums.proofs.Steps.{moved-few}
-use Rattle.pixel_sums.specs.Sums.{movedTo, movedIn, leastTo, greatestTo, leastOf, greatestOf, paysFor, sumsMoved, Within}
+use Rattle.pixel_table.specs.Table.{Within}
+use Rattle.pixel_sums.specs.Sums.{movedTo, movedIn, leastTo, greatestTo, leastOf, greatestOf, paysFor, sumsMoved}
 
 -- ---- the least and the greatest
 

@@ -1,5 +1,2 @@
-pub mod Patches
-pub mod Tables
-pub mod Turns
 pub mod Steps
 pub mod Choice

@@ -18,7 +18,8 @@ use Rattle.pixel_place.specs.Blend.{pairOf, Sound, moved}
 use Rattle.pixel_place.proofs.Laws.{moved-sound, weigh-most, pair-most, side-small, sides-weighed, sides-most, sides-grey}
 use Rattle.pixel_place.proofs.Moves.{left-holds, sum-moves, sides-are}
 use Rattle.pixel_sums.specs.declared.Sum.{Sum}
-use Rattle.pixel_sums.specs.Sums.{blendedAt, blendedRun, sideAt, likeBefore, movedTo, movedIn, Stands, PixelAsks, RunAsks}
+use Rattle.pixel_table.specs.Table.{blendedAt, blendedRun, sideAt, RunAsks}
+use Rattle.pixel_sums.specs.Sums.{likeBefore, movedTo, movedIn, Stands, PixelAsks}
 
 -- ---- one pixel
 

@@ -12,7 +12,7 @@ use Rattle.base_lists.proofs.Windows.{getD-part, length-part}
 use Rattle.pixel_place.specs.declared.Place.{Place}
 use Rattle.pixel_place.specs.Blend.{Sound, moved}
 use Rattle.pixel_place.proofs.Laws.{sound-wider}
-use Rattle.pixel_sums.specs.Sums.{blendedAt, blendedRun, Tiles, RunAsks}
+use Rattle.pixel_table.specs.Table.{blendedAt, blendedRun, Tiles, RunAsks}
 use Rattle.film_settings.specs.declared.Settings.{Settings}
 use Rattle.film_settings.specs.Settings.{binsOf, entriesOf}
 use Rattle.pixel_weigh.specs.Weigh.{mappedAt, cornersOf, weighedRun, Maps, WeighAsks}

@@ -10,9 +10,9 @@ use Rattle.pixel_sums.proofs.sum_run.Tie as tie
 use Rattle.pixel_sums.proofs.sum_run.Reads as reads
 use Rattle.pixel_sums.proofs.sum_run.Lts as lts
 use Rattle.pixel_sums.proofs.ends_of.Reads as ends-of-reads
-use Rattle.pixel_sums.proofs.large_run.Reads as large-run-reads
+use Rattle.pixel_table.proofs.large_run.Reads as large-run-reads
 use Rattle.pixel_sums.proofs.pays.Reads as pays-reads
-use Rattle.pixel_sums.proofs.table_run.Reads as table-run-reads
+use Rattle.pixel_table.proofs.table_run.Reads as table-run-reads
 use Rattle.pixel_sums.proofs.weigh_run.Reads as weigh-run-reads
 
 ends-of-requires : tie.Need-ends-of-requires

@@ -13,7 +13,7 @@ use Rattle.pixel_sums.proofs.weigh_run.Reads as reads
 use Rattle.pixel_sums.proofs.weigh_run.Lts as lts
 use Rattle.pixel_place.proofs.quotient.Reads as quotient-reads
 use Rattle.pixel_sums.proofs.next.Reads as next-reads
-use Rattle.pixel_sums.proofs.spans_factor.Reads as spans-factor-reads
+use Rattle.pixel_table.proofs.spans_factor.Reads as spans-factor-reads
 
 abbrev Inv-loop : tie.InvT-loop
 Inv-loop pixels₀ a b c d column row by at₀ i₀ pixels at i = (i ≤ length pixels₀) × (length pixels ≡ length pixels₀) × (pixels ≡ filled (blended column row a b c d pixels₀) pixels₀ i) × Before column row a b c d pixels₀ i at

@@ -1,16 +1,16 @@
--- `pixel_sums::large_run` meets its contract: the sums stand in the table as they are.
+-- `pixel_table::large_run` meets its contract: the sums stand in the table as they are.
 -- Assumes nothing.
 use Prim.Native.Nat.{_*_}
 use mathlib.Core.Path.{refl}
-use Rattle.pixel_sums.proofs.Tables.{none-scaled}
-use Rattle.pixel_sums.proofs.Turns.{none-divides, table-length, run-asks, run-blended, run-sums}
+use Rattle.pixel_table.proofs.Tables.{none-scaled}
+use Rattle.pixel_table.proofs.Turns.{none-divides, table-length, run-asks, run-blended, run-sums}
 use borrow.Author.Needs.{needs}
-use Rattle.pixel_sums.proofs.large_run.Statement.{statement}
-use Rattle.pixel_sums.proofs.large_run.Tie as tie
-use Rattle.pixel_sums.proofs.large_run.Reads as reads
-use Rattle.pixel_sums.proofs.large_run.Lts as lts
-use Rattle.pixel_sums.proofs.fill.Reads as fill-reads
-use Rattle.pixel_sums.proofs.move_large.Reads as move-large-reads
+use Rattle.pixel_table.proofs.large_run.Statement.{statement}
+use Rattle.pixel_table.proofs.large_run.Tie as tie
+use Rattle.pixel_table.proofs.large_run.Reads as reads
+use Rattle.pixel_table.proofs.large_run.Lts as lts
+use Rattle.pixel_table.proofs.fill.Reads as fill-reads
+use Rattle.pixel_table.proofs.move_large.Reads as move-large-reads
 
 fill-requires : tie.Need-fill-requires
 fill-requires c κs = (none-scaled (c .before .before .before .before .before .before .before .pre .0 .column) (c .before .before .before .before .before .before .before .pre .0 .row), c .before .before .before .before .before .before .before .pre .0 .tiles, c .before .before .before .before .before .before .before .pre .1 .order, c .before .before .before .before .before .before .before .pre .1 .under, c .before .before .before .before .before .before .before .pre .0 .few, c .before .before .before .before .before .before .before .pre .1 .fits)

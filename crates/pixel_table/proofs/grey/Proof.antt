@@ -1,13 +1,13 @@
--- `pixel_sums::grey` meets its contract: the shift is the division.
+-- `pixel_table::grey` meets its contract: the shift is the division.
 -- Assumes nothing.
 use mathlib.Core.Path.{refl}
-use Rattle.pixel_sums.proofs.Turns.{moved-is}
+use Rattle.pixel_table.proofs.Turns.{moved-is}
 use borrow.Author.Needs.{needs}
-use Rattle.pixel_sums.proofs.grey.Statement.{statement}
-use Rattle.pixel_sums.proofs.grey.Tie as tie
-use Rattle.pixel_sums.proofs.grey.Reads as reads
-use Rattle.pixel_sums.proofs.grey.Lts as lts
-use Rattle.pixel_sums.proofs.moved.Reads as moved-reads
+use Rattle.pixel_table.proofs.grey.Statement.{statement}
+use Rattle.pixel_table.proofs.grey.Tie as tie
+use Rattle.pixel_table.proofs.grey.Reads as reads
+use Rattle.pixel_table.proofs.grey.Lts as lts
+use Rattle.pixel_table.proofs.moved.Reads as moved-reads
 
 moved-requires : tie.Need-moved-requires
 moved-requires c κs = search needs

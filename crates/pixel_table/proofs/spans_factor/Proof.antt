@@ -1,10 +1,10 @@
--- `pixel_sums::spans_factor` meets its contract: the product of two sound spans is above 0 and fits 64 bits.
+-- `pixel_table::spans_factor` meets its contract: the product of two sound spans is above 0 and fits 64 bits.
 -- Assumes nothing.
 use native.Mathlib.Omega.{arith}
 use native.Mathlib.Nat.{mul-le-mul}
 use Rattle.pixel_place.proofs.Laws.{spans-some}
-use Rattle.pixel_sums.proofs.spans_factor.Statement.{statement}
-use Rattle.pixel_sums.proofs.spans_factor.Tie as tie
+use Rattle.pixel_table.proofs.spans_factor.Statement.{statement}
+use Rattle.pixel_table.proofs.spans_factor.Tie as tie
 
 cast-factor : tie.Need-cast-factor
 cast-factor c = omega arith

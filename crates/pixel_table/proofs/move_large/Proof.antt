@@ -1,4 +1,4 @@
--- `pixel_sums::move_large` meets its contract: the pixels passed are rendered, those ahead hold their bins.
+-- `pixel_table::move_large` meets its contract: the pixels passed are rendered, those ahead hold their bins.
 -- Assumes nothing.
 use Prim.Native.Nat.{_≤_, _-_, _*_}
 use mathlib.Core.Path.{_≡_, refl}
@@ -6,14 +6,14 @@ use lib.ListN.{length, length-set}
 use native.Mathlib.Omega.{arith}
 use Rattle.base_lists.specs.Lists.{filled}
 use Rattle.base_lists.proofs.Fills.{filled-none, filled-end}
-use Rattle.pixel_sums.proofs.Turns.{movedOn, pixel-asks, pixel-next, large-fits, large-small, run-moved}
-use Rattle.pixel_sums.proofs.move_large.Statement.{statement}
-use Rattle.pixel_sums.proofs.move_large.Tie as tie
-use Rattle.pixel_sums.proofs.move_large.Reads as reads
-use Rattle.pixel_sums.proofs.move_large.Lts as lts
+use Rattle.pixel_table.proofs.Turns.{movedOn, pixel-asks, pixel-next, large-fits, large-small, run-moved}
+use Rattle.pixel_table.proofs.move_large.Statement.{statement}
+use Rattle.pixel_table.proofs.move_large.Tie as tie
+use Rattle.pixel_table.proofs.move_large.Reads as reads
+use Rattle.pixel_table.proofs.move_large.Lts as lts
 use Rattle.pixel_place.proofs.quotient.Reads as quotient-reads
-use Rattle.pixel_sums.proofs.moved.Reads as moved-reads
-use Rattle.pixel_sums.proofs.spans_factor.Reads as spans-factor-reads
+use Rattle.pixel_table.proofs.moved.Reads as moved-reads
+use Rattle.pixel_table.proofs.spans_factor.Reads as spans-factor-reads
 
 abbrev Inv-loop : tie.InvT-loop
 Inv-loop pixels₀ table from most column row by i₀ pixels i = (i ≤ length pixels₀) × (length pixels ≡ length pixels₀) × (pixels ≡ filled (movedOn (column .span * row .span) table from most pixels₀) pixels₀ i)

@@ -1,17 +1,17 @@
--- `pixel_sums::move_part` meets its contract: the pixels passed are rendered, those ahead hold their bins.
+-- `pixel_table::move_part` meets its contract: the pixels passed are rendered, those ahead hold their bins.
 -- Assumes nothing.
 use Prim.Native.Nat.{_≤_, _-_}
 use mathlib.Core.Path.{_≡_, refl}
 use lib.ListN.{length, length-set}
 use native.Mathlib.Omega.{arith}
-use Rattle.pixel_sums.proofs.Patches.{patch-none, patch-end}
-use Rattle.pixel_sums.specs.Sums.{patchOf, movedBy}
-use Rattle.pixel_sums.proofs.Turns.{turn-asks, turn-next}
-use Rattle.pixel_sums.proofs.move_part.Statement.{statement}
-use Rattle.pixel_sums.proofs.move_part.Tie as tie
-use Rattle.pixel_sums.proofs.move_part.Reads as reads
-use Rattle.pixel_sums.proofs.move_part.Lts as lts
-use Rattle.pixel_sums.proofs.grey.Reads as grey-reads
+use Rattle.pixel_table.proofs.Patches.{patch-none, patch-end}
+use Rattle.pixel_table.specs.Table.{patchOf, movedBy}
+use Rattle.pixel_table.proofs.Turns.{turn-asks, turn-next}
+use Rattle.pixel_table.proofs.move_part.Statement.{statement}
+use Rattle.pixel_table.proofs.move_part.Tie as tie
+use Rattle.pixel_table.proofs.move_part.Reads as reads
+use Rattle.pixel_table.proofs.move_part.Lts as lts
+use Rattle.pixel_table.proofs.grey.Reads as grey-reads
 
 abbrev Inv-loop : tie.InvT-loop
 Inv-loop pixels₀ at end table from most i₀ pixels i = (at ≤ i) × (i ≤ end) × (length pixels ≡ length pixels₀) × (pixels ≡ patchOf (movedBy 1125899906842624 table from most) pixels₀ at i)

@@ -1,18 +1,18 @@
--- `pixel_sums::table_run` meets its contract: a factor of 2^50 stands in the table.
+-- `pixel_table::table_run` meets its contract: a factor of 2^50 stands in the table.
 -- Assumes nothing.
 use Prim.Native.Nat.{_*_}
 use native.Mathlib.Nat.{div-le-self}
 use native.Mathlib.Omega.{arith}
 use Rattle.pixel_place.proofs.Laws.{spans-some}
-use Rattle.pixel_sums.proofs.Tables.{factor-scaled, most-room}
-use Rattle.pixel_sums.proofs.Turns.{factor-divides, table-length, run-asks, run-blended}
+use Rattle.pixel_table.proofs.Tables.{factor-scaled, most-room}
+use Rattle.pixel_table.proofs.Turns.{factor-divides, table-length, run-asks, run-blended}
 use borrow.Author.Needs.{needs}
-use Rattle.pixel_sums.proofs.table_run.Statement.{statement}
-use Rattle.pixel_sums.proofs.table_run.Tie as tie
-use Rattle.pixel_sums.proofs.table_run.Reads as reads
-use Rattle.pixel_sums.proofs.table_run.Lts as lts
-use Rattle.pixel_sums.proofs.fill.Reads as fill-reads
-use Rattle.pixel_sums.proofs.move_run.Reads as move-run-reads
+use Rattle.pixel_table.proofs.table_run.Statement.{statement}
+use Rattle.pixel_table.proofs.table_run.Tie as tie
+use Rattle.pixel_table.proofs.table_run.Reads as reads
+use Rattle.pixel_table.proofs.table_run.Lts as lts
+use Rattle.pixel_table.proofs.fill.Reads as fill-reads
+use Rattle.pixel_table.proofs.move_run.Reads as move-run-reads
 
 cast-by : tie.Need-cast-by
 cast-by c = search needs

@@ -1,4 +1,4 @@
--- `pixel_sums::move_run` meets its contract: the pixels passed are rendered, those ahead hold their bins.
+-- `pixel_table::move_run` meets its contract: the pixels passed are rendered, those ahead hold their bins.
 -- Assumes nothing.
 use Prim.Native.Nat.{_*_, _/_, _-_, _≤_}
 use mathlib.Core.Path.{_≡_, refl}
@@ -6,13 +6,13 @@ use lib.ListN.{length}
 use native.Mathlib.Omega.{arith}
 use Rattle.base_lists.specs.Lists.{filled}
 use Rattle.base_lists.proofs.Fills.{filled-none, filled-end}
-use Rattle.pixel_sums.proofs.Turns.{movedOn, stretch-asks, stretch-next, run-moved}
-use Rattle.pixel_sums.proofs.move_run.Statement.{statement}
-use Rattle.pixel_sums.proofs.move_run.Tie as tie
-use Rattle.pixel_sums.proofs.move_run.Reads as reads
-use Rattle.pixel_sums.proofs.move_run.Lts as lts
-use Rattle.pixel_sums.proofs.move_four.Reads as move-four-reads
-use Rattle.pixel_sums.proofs.move_part.Reads as move-part-reads
+use Rattle.pixel_table.proofs.Turns.{movedOn, stretch-asks, stretch-next, run-moved}
+use Rattle.pixel_table.proofs.move_run.Statement.{statement}
+use Rattle.pixel_table.proofs.move_run.Tie as tie
+use Rattle.pixel_table.proofs.move_run.Reads as reads
+use Rattle.pixel_table.proofs.move_run.Lts as lts
+use Rattle.pixel_table.proofs.move_four.Reads as move-four-reads
+use Rattle.pixel_table.proofs.move_part.Reads as move-part-reads
 
 abbrev Inv-loop : tie.InvT-loop
 Inv-loop pixels₀ table from most len many n₀ pixels n = (n ≤ length pixels₀ / 4) × (length pixels ≡ length pixels₀) × (pixels ≡ filled (movedOn 1125899906842624 table from most pixels₀) pixels₀ (n * 4))

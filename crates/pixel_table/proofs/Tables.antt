@@ -12,8 +12,8 @@ use native.Mathlib.Omega.{arith}
 use Rattle.pixel_place.specs.declared.Place.{Place}
 use Rattle.pixel_place.specs.Blend.{pairOf, Sound}
 use Rattle.pixel_place.proofs.Laws.{pair-most}
-use Rattle.pixel_sums.proofs.Patches.{patch-next, patch-end, patch-same}
-use Rattle.pixel_sums.specs.Sums.{patchOf, sideAt, startSum, stepOf, entryOf, Tiles, Scaled}
+use Rattle.pixel_table.proofs.Patches.{patch-next, patch-end, patch-same}
+use Rattle.pixel_table.specs.Table.{patchOf, sideAt, startSum, stepOf, entryOf, Tiles, Scaled}
 
 -- ---- entries
 

@@ -1,18 +1,18 @@
--- `pixel_sums::fill` meets its contract: the entries of the bins passed are made, and none leaves 64 bits.
+-- `pixel_table::fill` meets its contract: the entries of the bins passed are made, and none leaves 64 bits.
 -- Assumes nothing.
 use Prim.Native.Nat.{_≤_, _-_, _*_}
 use mathlib.Core.Path.{_≡_, refl}
 use lib.ListN.{length, length-set}
 use native.Mathlib.Omega.{arith}
-use Rattle.pixel_sums.specs.Sums.{patchOf}
-use Rattle.pixel_sums.proofs.Patches.{patch-none}
-use Rattle.pixel_sums.proofs.Tables.{rawOf, upper-room, lower-room, most-room, pair-room, pair-under, start-room, fill-next, fill-end}
+use Rattle.pixel_table.specs.Table.{patchOf}
+use Rattle.pixel_table.proofs.Patches.{patch-none}
+use Rattle.pixel_table.proofs.Tables.{rawOf, upper-room, lower-room, most-room, pair-room, pair-under, start-room, fill-next, fill-end}
 use borrow.Author.Needs.{needs}
-use Rattle.pixel_sums.proofs.fill.Statement.{statement}
-use Rattle.pixel_sums.proofs.fill.Tie as tie
-use Rattle.pixel_sums.proofs.fill.Reads as reads
-use Rattle.pixel_sums.proofs.fill.Lts as lts
-use Rattle.pixel_sums.proofs.side.Reads as side-reads
+use Rattle.pixel_table.proofs.fill.Statement.{statement}
+use Rattle.pixel_table.proofs.fill.Tie as tie
+use Rattle.pixel_table.proofs.fill.Reads as reads
+use Rattle.pixel_table.proofs.fill.Lts as lts
+use Rattle.pixel_table.proofs.side.Reads as side-reads
 
 abbrev Inv-loop : tie.InvT-loop
 Inv-loop a b c d by low top table₀ span upper lower most k₀ table k = (low ≤ k) × (k ≤ top) × (length table ≡ length table₀) × (table ≡ patchOf (rawOf span upper lower most a b c d) table₀ (2 * low) (2 * k))

@@ -1,14 +1,14 @@
--- `pixel_sums::move_four` meets its contract: each of the four greys is worked out from what stood in its place.
+-- `pixel_table::move_four` meets its contract: each of the four greys is worked out from what stood in its place.
 -- Assumes nothing.
 use lib.ListN.{length-set}
 use native.Mathlib.Omega.{arith}
-use Rattle.pixel_sums.proofs.Turns.{four-asks, four-are}
+use Rattle.pixel_table.proofs.Turns.{four-asks, four-are}
 use borrow.Author.Needs.{needs}
-use Rattle.pixel_sums.proofs.move_four.Statement.{statement}
-use Rattle.pixel_sums.proofs.move_four.Tie as tie
-use Rattle.pixel_sums.proofs.move_four.Reads as reads
-use Rattle.pixel_sums.proofs.move_four.Lts as lts
-use Rattle.pixel_sums.proofs.grey.Reads as grey-reads
+use Rattle.pixel_table.proofs.move_four.Statement.{statement}
+use Rattle.pixel_table.proofs.move_four.Tie as tie
+use Rattle.pixel_table.proofs.move_four.Reads as reads
+use Rattle.pixel_table.proofs.move_four.Lts as lts
+use Rattle.pixel_table.proofs.grey.Reads as grey-reads
 
 add-x : tie.Need-add-x
 add-x c = search needs

@@ -16,9 +16,9 @@ use Rattle.base_lists.proofs.Inverses.{by-inverse}
 use Rattle.pixel_place.specs.declared.Place.{Place}
 use Rattle.pixel_place.specs.Blend.{sidesOf, moved}
 use Rattle.pixel_place.proofs.Laws.{mean-most, sides-grey}
-use Rattle.pixel_sums.proofs.Patches.{patch-read, patch-next, patch-end, patch-none, patch-fills}
-use Rattle.pixel_sums.specs.Sums.{patchOf, blendedAt, blendedRun, sideAt, startSum, stepOf, entryOf, sumAt, movedAt, movedBy, movedRun, Scaled, Moves, MoveAsks, RunAsks, Within}
-use Rattle.pixel_sums.proofs.Tables.{entry-start, entry-step, pair-fits, sum-moved}
+use Rattle.pixel_table.proofs.Patches.{patch-read, patch-next, patch-end, patch-none, patch-fills}
+use Rattle.pixel_table.specs.Table.{patchOf, blendedAt, blendedRun, sideAt, startSum, stepOf, entryOf, sumAt, movedAt, movedBy, movedRun, Scaled, Moves, MoveAsks, RunAsks, Within}
+use Rattle.pixel_table.proofs.Tables.{entry-start, entry-step, pair-fits, sum-moved}
 
 -- ---- patches
 

@@ -14,7 +14,7 @@ use Rattle.base_lists.proofs.Fills.{filled-step, filled-end}
 use Rattle.base_lists.proofs.Windows.{getD-behind}
 use Rattle.base_lists.proofs.Tallies.{getD-filled, filled-cong, filled-tab}
 use Rattle.base_lists.proofs.Puts.{put, put-before, put-from, filled-over}
-use Rattle.pixel_sums.specs.Sums.{patchOf}
+use Rattle.pixel_table.specs.Table.{patchOf}
 
 -- a patch is a filling
 patch-is : (f : ℕ → ℕ → ℕ) (d : List ℕ) (at end : ℕ) → patchOf f d at end ≡ filled (put f d at) d end
