@@ -8,12 +8,8 @@ ghost use Rattle.pixel_place.specs.Blend.{pairOf, Sound, moved};
 ghost use Rattle.pixel_table.specs.Table.{blendedRun, RunAsks};
 ghost use Rattle.pixel_sums.specs.Sums.{movedIn, leastOf, greatestOf, paysFor, sumsMoved, Stands, PixelAsks};
 use pixel_place::Place;
-
-// The least and the greatest of some bins.
-pub struct Ends {
-    pub low: u16,
-    pub high: u16,
-}
+use pixel_table::Ends;
+use pixel_table::Spot;
 
 // The least and the greatest bin of a run. None is asked by itself, so that several go at once.
 fn ends_of(ks: &[u16]) -> Ends
@@ -65,36 +61,27 @@ struct Sum {
 }
 
 // The weighted sum of pixel i, of bin k: where the pixel before it had that bin its sum moves.
-fn next(
-    was: Sum,
-    k: u16,
-    i: usize,
-    a: &[u16],
-    b: &[u16],
-    c: &[u16],
-    d: &[u16],
-    column: Place,
-    row: Place,
-) -> Sum
-    requires { ⌜ PixelAsks column row (now a) (now b) (now c) (now d) (length (now a)) i k × (was .moved ≤ i) × (k ≡ was .bin → (0 < i) × Stands column row (now a) (now b) (now c) (now d) (i - 1) k was) ⌝ }
-    ensures { λ r. ⌜ Stands column row (now (a .entry)) (now (b .entry)) (now (c .entry)) (now (d .entry)) i k r × (r .moved ≡ was .moved + cond (eqb k (was .bin)) 1 0) ⌝ }
+fn next(was: Sum, k: u16, i: usize, a: &[u16], b: &[u16], c: &[u16], d: &[u16], spot: Spot) -> Sum
+    requires { ⌜ PixelAsks (spot .column) (spot .row) (now a) (now b) (now c) (now d) (length (now a)) i k × (was .moved ≤ i) × (k ≡ was .bin → (0 < i) × Stands (spot .column) (spot .row) (now a) (now b) (now c) (now d) (i - 1) k was) ⌝ }
+    ensures { λ r. ⌜ Stands (spot .column) (spot .row) (now (a .entry)) (now (b .entry)) (now (c .entry)) (now (d .entry)) i k r × (r .moved ≡ was .moved + cond (eqb k (was .bin)) 1 0) ⌝ }
 {
     if k == was.bin {
         // Order 4: "let the weighted sum move by the mapped differences where the bin stays the same".
         let sum = was.sum + (was.right as u64) - (was.left as u64);
+        let moved = was.moved + 1;
         return Sum {
             bin: k,
             left: was.left,
             right: was.right,
             sum,
-            moved: was.moved + 1,
+            moved,
         };
     }
     let n = k as usize;
-    let pairs = pairs_of(row, a[n], b[n], c[n], d[n]);
+    let pairs = pairs_of(spot.row, a[n], b[n], c[n], d[n]);
     let left = (pairs % 4294967296) as u32;
     let right = (pairs / 4294967296) as u32;
-    let sum = pixel_place::sides(along(column, i), left, right);
+    let sum = pixel_place::sides(along(spot.column, i), left, right);
     Sum {
         bin: k,
         left,
@@ -105,19 +92,11 @@ fn next(
 }
 
 // Renders a run's pixels, whose bins stand in their places, pixel by pixel: weighed from the four tiles, or moved. Answers how many moved.
-fn weigh_run(
-    pixels: &mut [u16],
-    a: &[u16],
-    b: &[u16],
-    c: &[u16],
-    d: &[u16],
-    column: Place,
-    row: Place,
-) -> usize
-    requires { ⌜ RunAsks column row (now a) (now b) (now c) (now d) (length (now a)) (now pixels) ⌝ }
-    ensures { λ r. ⌜ (now (pixels .exit) ≡ blendedRun column row (now (a .entry)) (now (b .entry)) (now (c .entry)) (now (d .entry)) (now (pixels .entry))) × (r ≡ movedIn (now (pixels .entry))) ⌝ }
+fn weigh_run(pixels: &mut [u16], a: &[u16], b: &[u16], c: &[u16], d: &[u16], spot: Spot) -> usize
+    requires { ⌜ RunAsks (spot .column) (spot .row) (now a) (now b) (now c) (now d) (length (now a)) (now pixels) ⌝ }
+    ensures { λ r. ⌜ (now (pixels .exit) ≡ blendedRun (spot .column) (spot .row) (now (a .entry)) (now (b .entry)) (now (c .entry)) (now (d .entry)) (now (pixels .entry))) × (r ≡ movedIn (now (pixels .entry))) ⌝ }
 {
-    let by = pixel_table::spans_factor(column, row);
+    let by = pixel_table::spans_factor(spot.column, spot.row);
     let mut at = Sum {
         bin: 65535,
         left: 0,
@@ -127,18 +106,20 @@ fn weigh_run(
     };
     let mut i = 0;
     while i < pixels.len() {
-        at = next(at, pixels[i], i, a, b, c, d, column, row);
-        pixels[i] = pixel_place::quotient(at.sum, column, row, by) as u16;
+        at = next(at, pixels[i], i, a, b, c, d, spot);
+        pixels[i] = pixel_place::quotient(at.sum, spot.column, spot.row, by) as u16;
         i += 1;
     }
     at.moved
 }
 
-// Whether a table of the bins from `low` up to `top` fits the room and pays for `wide` pixels: five products a bin and one a pixel are then no more than the six a pixel of the plain rule.
-fn pays(low: usize, top: usize, wide: usize, room: usize) -> bool
-    requires { ⌜ (low ≤ 65535) × (wide ≤ 65535) ⌝ }
-    ensures { λ r. ⌜ r ≡ paysFor low top wide room ⌝ }
+// Whether a table of the bins from the least to the greatest fits the room and pays for `wide` pixels: five products a bin and one a pixel are then no more than the six a pixel of the plain rule.
+fn pays(ends: Ends, wide: usize, room: usize) -> bool
+    requires { ⌜ wide ≤ 65535 ⌝ }
+    ensures { λ r. ⌜ r ≡ paysFor (ends .low) (ends .high + 1) wide room ⌝ }
 {
+    let low = ends.low as usize;
+    let top = (ends.high as usize) + 1;
     if top < low {
         return false;
     }
@@ -162,14 +143,13 @@ pub fn sum_run(
     requires { ⌜ RunAsks column row (now a) (now b) (now c) (now d) (length (now a)) (now pixels) ⌝ }
     ensures { λ r. ⌜ (now (pixels .exit) ≡ blendedRun column row (now (a .entry)) (now (b .entry)) (now (c .entry)) (now (d .entry)) (now (pixels .entry))) × (length (now (table .exit)) ≡ length (now (table .entry))) × (r ≡ sumsMoved (length (now (table .entry))) (now (pixels .entry))) ⌝ }
 {
-    let found = ends_of(pixels);
-    let low = found.low as usize;
-    let top = (found.high as usize) + 1;
-    if !pays(low, top, pixels.len(), table.len()) {
-        return weigh_run(pixels, a, b, c, d, column, row);
+    let spot = Spot { column, row };
+    let ends = ends_of(pixels);
+    if !pays(ends, pixels.len(), table.len()) {
+        return weigh_run(pixels, a, b, c, d, spot);
     }
     if 524288 < column.span * row.span {
-        return pixel_table::large_run(pixels, a, b, c, d, column, row, low, top, table);
+        return pixel_table::large_run(pixels, a, b, c, d, spot, ends, table);
     }
-    pixel_table::table_run(pixels, a, b, c, d, column, row, low, top, table)
+    pixel_table::table_run(pixels, a, b, c, d, spot, ends, table)
 }

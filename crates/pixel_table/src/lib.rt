@@ -6,6 +6,18 @@ ghost use Rattle.pixel_place.specs.Blend.{Sound, inverseOf, Inverse};
 ghost use Rattle.pixel_table.specs.Table.{patchOf, blendedRun, entryOf, sumAt, movedAt, movedBy, movedRun, Tiles, Scaled, Moves, MoveAsks, RunAsks, Within};
 use pixel_place::Place;
 
+// A pixel's places among the tile columns and the tile rows.
+pub struct Spot {
+    pub column: Place,
+    pub row: Place,
+}
+
+// The least and the greatest of some bins.
+pub struct Ends {
+    pub low: u16,
+    pub high: u16,
+}
+
 // A bin's pair on one side, times the factor, which the row's weights have in them already.
 fn side(upper: u64, lower: u64, above: u16, below: u16) -> u64
     requires { ⌜ upper * above + lower * below < 4611686018427387904 ⌝ }
@@ -14,26 +26,26 @@ fn side(upper: u64, lower: u64, above: u16, below: u16) -> u64
     upper * (above as u64) + lower * (below as u64)
 }
 
-// Fills the table for the bins from `low` up to `top`: five products each.
+// Fills the table for the bins from the least to the greatest: five products each.
 fn fill(
     a: &[u16],
     b: &[u16],
     c: &[u16],
     d: &[u16],
-    column: Place,
-    row: Place,
+    spot: Spot,
     by: u64,
-    low: usize,
-    top: usize,
+    ends: Ends,
     table: &mut [u64],
 )
-    requires { ⌜ Scaled by column row × Tiles (now a) (now b) (now c) (now d) (length (now a)) × (low ≤ top) × (top ≤ length (now a)) × (length (now a) ≤ 4096) × (2 * top ≤ length (now table)) ⌝ }
-    ensures { λ _. ⌜ now (table .exit) ≡ patchOf (entryOf by column row (now (a .entry)) (now (b .entry)) (now (c .entry)) (now (d .entry))) (now (table .entry)) (2 * low) (2 * top) ⌝ }
+    requires { ⌜ Scaled by (spot .column) (spot .row) × Tiles (now a) (now b) (now c) (now d) (length (now a)) × (ends .low ≤ ends .high + 1) × (ends .high + 1 ≤ length (now a)) × (length (now a) ≤ 4096) × (2 * (ends .high + 1) ≤ length (now table)) ⌝ }
+    ensures { λ _. ⌜ now (table .exit) ≡ patchOf (entryOf by (spot .column) (spot .row) (now (a .entry)) (now (b .entry)) (now (c .entry)) (now (d .entry))) (now (table .entry)) (2 * ends .low) (2 * (ends .high + 1)) ⌝ }
 {
-    let span = column.span as u64;
-    let upper = (row.lowerweight as u64) * by;
-    let lower = (row.upperweight as u64) * by;
-    let most = (row.span as u64) * 4095 * by;
+    let span = spot.column.span as u64;
+    let upper = (spot.row.lowerweight as u64) * by;
+    let lower = (spot.row.upperweight as u64) * by;
+    let most = (spot.row.span as u64) * 4095 * by;
+    let low = ends.low as usize;
+    let top = (ends.high as usize) + 1;
     let mut k = low;
     while k < top {
         let left = side(upper, lower, a[k], c[k]);
@@ -144,19 +156,17 @@ pub fn table_run(
     b: &[u16],
     c: &[u16],
     d: &[u16],
-    column: Place,
-    row: Place,
-    low: usize,
-    top: usize,
+    spot: Spot,
+    ends: Ends,
     table: &mut [u64],
 ) -> usize
-    requires { ⌜ RunAsks column row (now a) (now b) (now c) (now d) (length (now a)) (now pixels) × (column .span * row .span ≤ 524288) × Within low top (length (now a)) (length (now table)) (now pixels) ⌝ }
-    ensures { λ r. ⌜ (now (pixels .exit) ≡ blendedRun column row (now (a .entry)) (now (b .entry)) (now (c .entry)) (now (d .entry)) (now (pixels .entry))) × (length (now (table .exit)) ≡ length (now (table .entry))) × (r ≡ length (now (pixels .entry))) ⌝ }
+    requires { ⌜ RunAsks (spot .column) (spot .row) (now a) (now b) (now c) (now d) (length (now a)) (now pixels) × (spot .column .span * spot .row .span ≤ 524288) × Within (ends .low) (ends .high + 1) (length (now a)) (length (now table)) (now pixels) ⌝ }
+    ensures { λ r. ⌜ (now (pixels .exit) ≡ blendedRun (spot .column) (spot .row) (now (a .entry)) (now (b .entry)) (now (c .entry)) (now (d .entry)) (now (pixels .entry))) × (length (now (table .exit)) ≡ length (now (table .entry))) × (r ≡ length (now (pixels .entry))) ⌝ }
 {
-    let by = 1125899906842624 / ((column.span as u64) * (row.span as u64)) + 1;
-    fill(a, b, c, d, column, row, by, low, top, table);
-    let most = (row.span as u64) * 4095 * by;
-    move_run(pixels, table, column.upperweight as usize, most)
+    let by = 1125899906842624 / ((spot.column.span as u64) * (spot.row.span as u64)) + 1;
+    fill(a, b, c, d, spot, by, ends, table);
+    let most = (spot.row.span as u64) * 4095 * by;
+    move_run(pixels, table, spot.column.upperweight as usize, most)
 }
 
 // The same for spans of any size: no factor stands in the table.
@@ -166,23 +176,21 @@ pub fn large_run(
     b: &[u16],
     c: &[u16],
     d: &[u16],
-    column: Place,
-    row: Place,
-    low: usize,
-    top: usize,
+    spot: Spot,
+    ends: Ends,
     table: &mut [u64],
 ) -> usize
-    requires { ⌜ RunAsks column row (now a) (now b) (now c) (now d) (length (now a)) (now pixels) × Within low top (length (now a)) (length (now table)) (now pixels) ⌝ }
-    ensures { λ r. ⌜ (now (pixels .exit) ≡ blendedRun column row (now (a .entry)) (now (b .entry)) (now (c .entry)) (now (d .entry)) (now (pixels .entry))) × (length (now (table .exit)) ≡ length (now (table .entry))) × (r ≡ length (now (pixels .entry))) ⌝ }
+    requires { ⌜ RunAsks (spot .column) (spot .row) (now a) (now b) (now c) (now d) (length (now a)) (now pixels) × Within (ends .low) (ends .high + 1) (length (now a)) (length (now table)) (now pixels) ⌝ }
+    ensures { λ r. ⌜ (now (pixels .exit) ≡ blendedRun (spot .column) (spot .row) (now (a .entry)) (now (b .entry)) (now (c .entry)) (now (d .entry)) (now (pixels .entry))) × (length (now (table .exit)) ≡ length (now (table .entry))) × (r ≡ length (now (pixels .entry))) ⌝ }
 {
-    fill(a, b, c, d, column, row, 1, low, top, table);
-    let most = (row.span as u64) * 4095 * 1;
+    fill(a, b, c, d, spot, 1, ends, table);
+    let most = (spot.row.span as u64) * 4095 * 1;
     move_large(
         pixels,
         table,
-        column.upperweight as usize,
+        spot.column.upperweight as usize,
         most,
-        column,
-        row,
+        spot.column,
+        spot.row,
     )
 }

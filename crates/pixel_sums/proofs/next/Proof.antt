@@ -24,8 +24,8 @@ cast-sum-2 c = search needs
 sub-sum : tie.Need-sub-sum
 sub-sum c = omega (arith, step-holds (c .before .before .before .before .before .before .before .before .before .pre .0) (c .before .before .before .before .before .before .before .before .before .pre .2 (c .before .before .before .if1 .taken) .0) (c .before .before .before .before .before .before .before .before .before .pre .2 (c .before .before .before .if1 .taken) .1))
 
-add-t20 : tie.Need-add-t20
-add-t20 c = search needs
+add-moved : tie.Need-add-moved
+add-moved c = search needs
 
 returns : tie.Need-returns
 returns c = (
@@ -96,7 +96,7 @@ next-spec =
     add-sum
     cast-sum-2
     sub-sum
-    add-t20
+    add-moved
     returns
     mul-pairs-of
     shared-slice-read-pairs-of

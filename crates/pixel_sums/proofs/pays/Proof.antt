@@ -7,6 +7,15 @@ use Rattle.pixel_sums.proofs.pays.Tie as tie
 use Rattle.pixel_sums.proofs.pays.Reads as reads
 use Rattle.pixel_sums.proofs.pays.Lts as lts
 
+cast-low : tie.Need-cast-low
+cast-low c = search needs
+
+cast-top : tie.Need-cast-top
+cast-top c = search needs
+
+add-top : tie.Need-add-top
+add-top c = search needs
+
 returns : tie.Need-returns
 returns c = pays-none _ _ _ _ (c .if1 .taken)
 
@@ -20,4 +29,4 @@ returns-3 : tie.Need-returns-3
 returns-3 c = pays-room _ _ _ _ (c .before .if1 .left) (c .if2 .left)
 
 pub pays-spec : {M : Type 1} → statement M
-pays-spec = tie.close (tie.spec returns add-if2 returns-2 returns-3)
+pays-spec = tie.close (tie.spec cast-low cast-top add-top returns add-if2 returns-2 returns-3)

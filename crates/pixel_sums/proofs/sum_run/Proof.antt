@@ -18,15 +18,6 @@ use Rattle.pixel_sums.proofs.weigh_run.Reads as weigh-run-reads
 ends-of-requires : tie.Need-ends-of-requires
 ends-of-requires c κs = search needs
 
-cast-low : tie.Need-cast-low
-cast-low c = search needs
-
-cast-top : tie.Need-cast-top
-cast-top c = search needs
-
-add-top : tie.Need-add-top
-add-top c = search needs
-
 pays-requires : tie.Need-pays-requires
 pays-requires c κs = search needs
 
@@ -37,13 +28,13 @@ same-length : tie.Need-same-length
 same-length c = search needs
 
 returns : tie.Need-returns
-returns c = (c .before .before .weigh-run .ensures .0, search needs, moved-like _ _ (c .before .before .before .before .before .before .before .before .ends-of .ensures .0) (c .before .before .before .before .before .before .before .before .ends-of .ensures .1) (c .before .before .before .before .before .pays .ensures) (not-true _ (c .before .before .before .before .if1 .taken)) (c .before .before .weigh-run .ensures .1))
+returns c = (c .before .before .weigh-run .ensures .0, search needs, moved-like _ _ (c .before .before .before .before .before .before .ends-of .ensures .0) (c .before .before .before .before .before .before .ends-of .ensures .1) (c .before .before .before .before .before .pays .ensures) (not-true _ (c .before .before .before .before .if1 .taken)) (c .before .before .weigh-run .ensures .1))
 
 mul-if2 : tie.Need-mul-if2
-mul-if2 c = omega (arith, mul-le-mul (c .before .before .before .before .before .before .before .before .before .before .before .before .before .before .pre .column .bound) (c .before .before .before .before .before .before .before .before .before .before .before .before .before .before .pre .row .bound))
+mul-if2 c = omega (arith, mul-le-mul (c .before .before .before .before .before .before .before .before .before .before .before .before .pre .column .bound) (c .before .before .before .before .before .before .before .before .before .before .before .before .pre .row .bound))
 
 large-run-requires : tie.Need-large-run-requires
-large-run-requires c κs = (c .before .before .before .before .before .before .before .before .before .before .before .before .before .before .before .before .before .pre, pays-within _ _ (c .before .before .before .before .before .before .before .before .before .ends-of .ensures .0) (c .before .before .before .before .before .before .before .before .before .ends-of .ensures .1) (c .before .before .before .before .before .before .pays .ensures) (not-false _ (c .before .before .before .before .before .if1 .left)) (c .before .before .before .before .before .before .before .before .before .before .before .before .before .before .before .before .before .pre .some) (c .before .before .before .before .before .before .before .before .before .before .before .before .before .before .before .before .before .pre .bins))
+large-run-requires c κs = (c .before .before .before .before .before .before .before .before .before .before .before .before .before .before .before .pre, pays-within _ _ (c .before .before .before .before .before .before .before .ends-of .ensures .0) (c .before .before .before .before .before .before .before .ends-of .ensures .1) (c .before .before .before .before .before .before .pays .ensures) (not-false _ (c .before .before .before .before .before .if1 .left)) (c .before .before .before .before .before .before .before .before .before .before .before .before .before .before .before .pre .some) (c .before .before .before .before .before .before .before .before .before .before .before .before .before .before .before .pre .bins))
 
 same-length-2 : tie.Need-same-length-2
 same-length-2 c = search needs
@@ -52,10 +43,10 @@ same-length-3 : tie.Need-same-length-3
 same-length-3 c = search needs
 
 returns-2 : tie.Need-returns-2
-returns-2 c = (c .before .before .before .before .large-run .ensures .0, c .before .before .before .before .large-run .ensures .1, moved-all _ _ (c .before .before .before .before .before .before .before .before .before .before .before .before .before .before .ends-of .ensures .0) (c .before .before .before .before .before .before .before .before .before .before .before .before .before .before .ends-of .ensures .1) (c .before .before .before .before .before .before .before .before .before .before .before .pays .ensures) (not-false _ (c .before .before .before .before .before .before .before .before .before .before .if1 .left)) (c .before .before .before .before .large-run .ensures .2))
+returns-2 c = (c .before .before .before .before .large-run .ensures .0, c .before .before .before .before .large-run .ensures .1, moved-all _ _ (c .before .before .before .before .before .before .before .before .before .before .before .before .ends-of .ensures .0) (c .before .before .before .before .before .before .before .before .before .before .before .before .ends-of .ensures .1) (c .before .before .before .before .before .before .before .before .before .before .before .pays .ensures) (not-false _ (c .before .before .before .before .before .before .before .before .before .before .if1 .left)) (c .before .before .before .before .large-run .ensures .2))
 
 table-run-requires : tie.Need-table-run-requires
-table-run-requires c κs = (c .before .before .before .before .before .before .before .before .before .before .before .before .before .before .before .before .before .pre, c .before .before .if2 .left, pays-within _ _ (c .before .before .before .before .before .before .before .before .before .ends-of .ensures .0) (c .before .before .before .before .before .before .before .before .before .ends-of .ensures .1) (c .before .before .before .before .before .before .pays .ensures) (not-false _ (c .before .before .before .before .before .if1 .left)) (c .before .before .before .before .before .before .before .before .before .before .before .before .before .before .before .before .before .pre .some) (c .before .before .before .before .before .before .before .before .before .before .before .before .before .before .before .before .before .pre .bins))
+table-run-requires c κs = (c .before .before .before .before .before .before .before .before .before .before .before .before .before .before .before .pre, c .before .before .if2 .left, pays-within _ _ (c .before .before .before .before .before .before .before .ends-of .ensures .0) (c .before .before .before .before .before .before .before .ends-of .ensures .1) (c .before .before .before .before .before .before .pays .ensures) (not-false _ (c .before .before .before .before .before .if1 .left)) (c .before .before .before .before .before .before .before .before .before .before .before .before .before .before .before .pre .some) (c .before .before .before .before .before .before .before .before .before .before .before .before .before .before .before .pre .bins))
 
 same-length-4 : tie.Need-same-length-4
 same-length-4 c = search needs
@@ -64,16 +55,13 @@ same-length-5 : tie.Need-same-length-5
 same-length-5 c = search needs
 
 returns-3 : tie.Need-returns-3
-returns-3 c = (c .before .before .before .before .table-run .ensures .0, c .before .before .before .before .table-run .ensures .1, moved-all _ _ (c .before .before .before .before .before .before .before .before .before .before .before .before .before .before .ends-of .ensures .0) (c .before .before .before .before .before .before .before .before .before .before .before .before .before .before .ends-of .ensures .1) (c .before .before .before .before .before .before .before .before .before .before .before .pays .ensures) (not-false _ (c .before .before .before .before .before .before .before .before .before .before .if1 .left)) (c .before .before .before .before .table-run .ensures .2))
+returns-3 c = (c .before .before .before .before .table-run .ensures .0, c .before .before .before .before .table-run .ensures .1, moved-all _ _ (c .before .before .before .before .before .before .before .before .before .before .before .before .ends-of .ensures .0) (c .before .before .before .before .before .before .before .before .before .before .before .before .ends-of .ensures .1) (c .before .before .before .before .before .before .before .before .before .before .before .pays .ensures) (not-false _ (c .before .before .before .before .before .before .before .before .before .before .if1 .left)) (c .before .before .before .before .table-run .ensures .2))
 
 pub sum-run-spec : {M : Type 1} → statement M
 sum-run-spec =
     tie.close
     (tie.spec
     ends-of-requires
-    cast-low
-    cast-top
-    add-top
     pays-requires
     weigh-run-requires
     same-length

@@ -16,10 +16,10 @@ use Rattle.pixel_sums.proofs.next.Reads as next-reads
 use Rattle.pixel_table.proofs.spans_factor.Reads as spans-factor-reads
 
 abbrev Inv-loop : tie.InvT-loop
-Inv-loop pixels₀ a b c d column row by at₀ i₀ pixels at i = (i ≤ length pixels₀) × (length pixels ≡ length pixels₀) × (pixels ≡ filled (blended column row a b c d pixels₀) pixels₀ i) × Before column row a b c d pixels₀ i at
+Inv-loop pixels₀ a b c d spot by at₀ i₀ pixels at i = (i ≤ length pixels₀) × (length pixels ≡ length pixels₀) × (pixels ≡ filled (blended (spot .column) (spot .row) a b c d pixels₀) pixels₀ i) × Before (spot .column) (spot .row) a b c d pixels₀ i at
 
 abbrev μ-loop : tie.MeasureT-loop
-μ-loop pixels₀ a b c d column row by at₀ i₀ pixels at i = length pixels₀ - i
+μ-loop pixels₀ a b c d spot by at₀ i₀ pixels at i = length pixels₀ - i
 
 spans-factor-requires : tie.Need-spans-factor-requires Inv-loop μ-loop
 spans-factor-requires c κs = (c .before .before .before .before .before .pre .column, c .before .before .before .before .before .pre .row)

@@ -28,7 +28,7 @@ cast-move-large : tie.Need-cast-move-large
 cast-move-large c = search needs
 
 move-large-requires : tie.Need-move-large-requires
-move-large-requires c κs = (run-asks (c .before .before .before .before .before .before .before .before .before .before .before .before .before .before .pre .0) (c .before .before .before .before .before .before .before .before .before .before .before .before .before .before .args .column .span * c .before .before .before .before .before .before .before .before .before .before .before .before .before .before .args .row .span) (none-scaled (c .before .before .before .before .before .before .before .before .before .before .before .before .before .before .pre .0 .column) (c .before .before .before .before .before .before .before .before .before .before .before .before .before .before .pre .0 .row)) (none-divides (c .before .before .before .before .before .before .before .before .before .before .before .before .before .before .args .column .span * c .before .before .before .before .before .before .before .before .before .before .before .before .before .before .args .row .span)) (c .before .before .before .before .before .before .before .before .before .before .before .before .before .before .args .table .now) (c .before .before .before .before .before .before .before .before .before .before .before .before .before .before .pre .1) (c .before .before .before .before .before .before .fill .ensures), c .before .before .before .before .before .before .before .before .before .before .before .before .before .before .pre .0 .column, c .before .before .before .before .before .before .before .before .before .before .before .before .before .before .pre .0 .row, λ i l. run-sums (c .before .before .before .before .before .before .before .before .before .before .before .before .before .before .pre .0) (c .before .before .before .before .before .before .before .before .before .before .before .before .before .before .args .column .span * c .before .before .before .before .before .before .before .before .before .before .before .before .before .before .args .row .span) (none-scaled (c .before .before .before .before .before .before .before .before .before .before .before .before .before .before .pre .0 .column) (c .before .before .before .before .before .before .before .before .before .before .before .before .before .before .pre .0 .row)) (none-divides (c .before .before .before .before .before .before .before .before .before .before .before .before .before .before .args .column .span * c .before .before .before .before .before .before .before .before .before .before .before .before .before .before .args .row .span)) (c .before .before .before .before .before .before .before .before .before .before .before .before .before .before .args .table .now) (c .before .before .before .before .before .before .before .before .before .before .before .before .before .before .pre .1) (c .before .before .before .before .before .before .fill .ensures) i l refl)
+move-large-requires c κs = (run-asks (c .before .before .before .before .before .before .before .before .before .before .before .before .before .before .pre .0) (c .before .before .before .before .before .before .before .before .before .before .before .before .before .before .args .spot .column .span * c .before .before .before .before .before .before .before .before .before .before .before .before .before .before .args .spot .row .span) (none-scaled (c .before .before .before .before .before .before .before .before .before .before .before .before .before .before .pre .0 .column) (c .before .before .before .before .before .before .before .before .before .before .before .before .before .before .pre .0 .row)) (none-divides (c .before .before .before .before .before .before .before .before .before .before .before .before .before .before .args .spot .column .span * c .before .before .before .before .before .before .before .before .before .before .before .before .before .before .args .spot .row .span)) (c .before .before .before .before .before .before .before .before .before .before .before .before .before .before .args .table .now) (c .before .before .before .before .before .before .before .before .before .before .before .before .before .before .pre .1) (c .before .before .before .before .before .before .fill .ensures), c .before .before .before .before .before .before .before .before .before .before .before .before .before .before .pre .0 .column, c .before .before .before .before .before .before .before .before .before .before .before .before .before .before .pre .0 .row, λ i l. run-sums (c .before .before .before .before .before .before .before .before .before .before .before .before .before .before .pre .0) (c .before .before .before .before .before .before .before .before .before .before .before .before .before .before .args .spot .column .span * c .before .before .before .before .before .before .before .before .before .before .before .before .before .before .args .spot .row .span) (none-scaled (c .before .before .before .before .before .before .before .before .before .before .before .before .before .before .pre .0 .column) (c .before .before .before .before .before .before .before .before .before .before .before .before .before .before .pre .0 .row)) (none-divides (c .before .before .before .before .before .before .before .before .before .before .before .before .before .before .args .spot .column .span * c .before .before .before .before .before .before .before .before .before .before .before .before .before .before .args .spot .row .span)) (c .before .before .before .before .before .before .before .before .before .before .before .before .before .before .args .table .now) (c .before .before .before .before .before .before .before .before .before .before .before .before .before .before .pre .1) (c .before .before .before .before .before .before .fill .ensures) i l refl)
 
 same-length : tie.Need-same-length
 same-length c = search needs
@@ -37,7 +37,7 @@ same-length-2 : tie.Need-same-length-2
 same-length-2 c = search needs
 
 returns : tie.Need-returns
-returns c = (run-blended (c .before .before .before .before .before .before .before .before .before .before .before .before .before .before .before .before .before .pre .0) (c .before .before .before .before .before .before .before .before .before .before .before .before .before .before .before .before .before .args .column .span * c .before .before .before .before .before .before .before .before .before .before .before .before .before .before .before .before .before .args .row .span) (none-scaled (c .before .before .before .before .before .before .before .before .before .before .before .before .before .before .before .before .before .pre .0 .column) (c .before .before .before .before .before .before .before .before .before .before .before .before .before .before .before .before .before .pre .0 .row)) (none-divides (c .before .before .before .before .before .before .before .before .before .before .before .before .before .before .before .before .before .args .column .span * c .before .before .before .before .before .before .before .before .before .before .before .before .before .before .before .before .before .args .row .span)) (c .before .before .before .before .before .before .before .before .before .before .before .before .before .before .before .before .before .args .table .now) (c .before .before .before .before .before .before .before .before .before .before .before .before .before .before .before .before .before .pre .1) (c .before .before .before .before .before .before .before .before .before .fill .ensures) (c .before .before .move-large .ensures .0), table-length (c .before .before .before .before .before .before .before .before .before .before .before .before .before .before .before .before .before .pre .0) (c .before .before .before .before .before .before .before .before .before .before .before .before .before .before .before .before .before .args .column .span * c .before .before .before .before .before .before .before .before .before .before .before .before .before .before .before .before .before .args .row .span) (none-scaled (c .before .before .before .before .before .before .before .before .before .before .before .before .before .before .before .before .before .pre .0 .column) (c .before .before .before .before .before .before .before .before .before .before .before .before .before .before .before .before .before .pre .0 .row)) (none-divides (c .before .before .before .before .before .before .before .before .before .before .before .before .before .before .before .before .before .args .column .span * c .before .before .before .before .before .before .before .before .before .before .before .before .before .before .before .before .before .args .row .span)) (c .before .before .before .before .before .before .before .before .before .before .before .before .before .before .before .before .before .args .table .now) (c .before .before .before .before .before .before .before .before .before .before .before .before .before .before .before .before .before .pre .1) (c .before .before .before .before .before .before .before .before .before .fill .ensures), c .before .before .move-large .ensures .1)
+returns c = (run-blended (c .before .before .before .before .before .before .before .before .before .before .before .before .before .before .before .before .before .pre .0) (c .before .before .before .before .before .before .before .before .before .before .before .before .before .before .before .before .before .args .spot .column .span * c .before .before .before .before .before .before .before .before .before .before .before .before .before .before .before .before .before .args .spot .row .span) (none-scaled (c .before .before .before .before .before .before .before .before .before .before .before .before .before .before .before .before .before .pre .0 .column) (c .before .before .before .before .before .before .before .before .before .before .before .before .before .before .before .before .before .pre .0 .row)) (none-divides (c .before .before .before .before .before .before .before .before .before .before .before .before .before .before .before .before .before .args .spot .column .span * c .before .before .before .before .before .before .before .before .before .before .before .before .before .before .before .before .before .args .spot .row .span)) (c .before .before .before .before .before .before .before .before .before .before .before .before .before .before .before .before .before .args .table .now) (c .before .before .before .before .before .before .before .before .before .before .before .before .before .before .before .before .before .pre .1) (c .before .before .before .before .before .before .before .before .before .fill .ensures) (c .before .before .move-large .ensures .0), table-length (c .before .before .before .before .before .before .before .before .before .before .before .before .before .before .before .before .before .pre .0) (c .before .before .before .before .before .before .before .before .before .before .before .before .before .before .before .before .before .args .spot .column .span * c .before .before .before .before .before .before .before .before .before .before .before .before .before .before .before .before .before .args .spot .row .span) (none-scaled (c .before .before .before .before .before .before .before .before .before .before .before .before .before .before .before .before .before .pre .0 .column) (c .before .before .before .before .before .before .before .before .before .before .before .before .before .before .before .before .before .pre .0 .row)) (none-divides (c .before .before .before .before .before .before .before .before .before .before .before .before .before .before .before .before .before .args .spot .column .span * c .before .before .before .before .before .before .before .before .before .before .before .before .before .before .before .before .before .args .spot .row .span)) (c .before .before .before .before .before .before .before .before .before .before .before .before .before .before .before .before .before .args .table .now) (c .before .before .before .before .before .before .before .before .before .before .before .before .before .before .before .before .before .pre .1) (c .before .before .before .before .before .before .before .before .before .fill .ensures), c .before .before .move-large .ensures .1)
 
 pub large-run-spec : {M : Type 1} → statement M
 large-run-spec =

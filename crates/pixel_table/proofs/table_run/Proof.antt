@@ -27,7 +27,7 @@ div-by : tie.Need-div-by
 div-by c = spans-some (c .before .before .before .before .before .before .before .before .pre .0 .column) (c .before .before .before .before .before .before .before .before .pre .0 .row)
 
 add-by : tie.Need-add-by
-add-by c = omega (arith, div-le-self 1125899906842624 (c .before .before .before .before .before .before .before .before .args .column .span * c .before .before .before .before .before .before .before .before .args .row .span))
+add-by c = omega (arith, div-le-self 1125899906842624 (c .before .before .before .before .before .before .before .before .args .spot .column .span * c .before .before .before .before .before .before .before .before .args .spot .row .span))
 
 fill-requires : tie.Need-fill-requires
 fill-requires c κs = (factor-scaled (c .before .before .before .before .before .before .before .before .before .pre .0 .column) (c .before .before .before .before .before .before .before .before .before .pre .0 .row) (c .before .before .before .before .before .before .before .before .before .pre .1), c .before .before .before .before .before .before .before .before .before .pre .0 .tiles, c .before .before .before .before .before .before .before .before .before .pre .2 .order, c .before .before .before .before .before .before .before .before .before .pre .2 .under, c .before .before .before .before .before .before .before .before .before .pre .0 .few, c .before .before .before .before .before .before .before .before .before .pre .2 .fits)
@@ -45,7 +45,7 @@ cast-move-run : tie.Need-cast-move-run
 cast-move-run c = search needs
 
 move-run-requires : tie.Need-move-run-requires
-move-run-requires c κs = run-asks (c .before .before .before .before .before .before .before .before .before .before .before .before .before .before .before .before .pre .0) 1125899906842624 (factor-scaled (c .before .before .before .before .before .before .before .before .before .before .before .before .before .before .before .before .pre .0 .column) (c .before .before .before .before .before .before .before .before .before .before .before .before .before .before .before .before .pre .0 .row) (c .before .before .before .before .before .before .before .before .before .before .before .before .before .before .before .before .pre .1)) (factor-divides (c .before .before .before .before .before .before .before .before .before .before .before .before .before .before .before .before .args .column .span * c .before .before .before .before .before .before .before .before .before .before .before .before .before .before .before .before .args .row .span) (spans-some (c .before .before .before .before .before .before .before .before .before .before .before .before .before .before .before .before .pre .0 .column) (c .before .before .before .before .before .before .before .before .before .before .before .before .before .before .before .before .pre .0 .row)) (c .before .before .before .before .before .before .before .before .before .before .before .before .before .before .before .before .pre .1)) (c .before .before .before .before .before .before .before .before .before .before .before .before .before .before .before .before .args .table .now) (c .before .before .before .before .before .before .before .before .before .before .before .before .before .before .before .before .pre .2) (c .before .before .before .before .before .before .fill .ensures)
+move-run-requires c κs = run-asks (c .before .before .before .before .before .before .before .before .before .before .before .before .before .before .before .before .pre .0) 1125899906842624 (factor-scaled (c .before .before .before .before .before .before .before .before .before .before .before .before .before .before .before .before .pre .0 .column) (c .before .before .before .before .before .before .before .before .before .before .before .before .before .before .before .before .pre .0 .row) (c .before .before .before .before .before .before .before .before .before .before .before .before .before .before .before .before .pre .1)) (factor-divides (c .before .before .before .before .before .before .before .before .before .before .before .before .before .before .before .before .args .spot .column .span * c .before .before .before .before .before .before .before .before .before .before .before .before .before .before .before .before .args .spot .row .span) (spans-some (c .before .before .before .before .before .before .before .before .before .before .before .before .before .before .before .before .pre .0 .column) (c .before .before .before .before .before .before .before .before .before .before .before .before .before .before .before .before .pre .0 .row)) (c .before .before .before .before .before .before .before .before .before .before .before .before .before .before .before .before .pre .1)) (c .before .before .before .before .before .before .before .before .before .before .before .before .before .before .before .before .args .table .now) (c .before .before .before .before .before .before .before .before .before .before .before .before .before .before .before .before .pre .2) (c .before .before .before .before .before .before .fill .ensures)
 
 same-length : tie.Need-same-length
 same-length c = search needs
@@ -54,7 +54,7 @@ same-length-2 : tie.Need-same-length-2
 same-length-2 c = search needs
 
 returns : tie.Need-returns
-returns c = (run-blended (c .before .before .before .before .before .before .before .before .before .before .before .before .before .before .before .before .before .before .before .pre .0) 1125899906842624 (factor-scaled (c .before .before .before .before .before .before .before .before .before .before .before .before .before .before .before .before .before .before .before .pre .0 .column) (c .before .before .before .before .before .before .before .before .before .before .before .before .before .before .before .before .before .before .before .pre .0 .row) (c .before .before .before .before .before .before .before .before .before .before .before .before .before .before .before .before .before .before .before .pre .1)) (factor-divides (c .before .before .before .before .before .before .before .before .before .before .before .before .before .before .before .before .before .before .before .args .column .span * c .before .before .before .before .before .before .before .before .before .before .before .before .before .before .before .before .before .before .before .args .row .span) (spans-some (c .before .before .before .before .before .before .before .before .before .before .before .before .before .before .before .before .before .before .before .pre .0 .column) (c .before .before .before .before .before .before .before .before .before .before .before .before .before .before .before .before .before .before .before .pre .0 .row)) (c .before .before .before .before .before .before .before .before .before .before .before .before .before .before .before .before .before .before .before .pre .1)) (c .before .before .before .before .before .before .before .before .before .before .before .before .before .before .before .before .before .before .before .args .table .now) (c .before .before .before .before .before .before .before .before .before .before .before .before .before .before .before .before .before .before .before .pre .2) (c .before .before .before .before .before .before .before .before .before .fill .ensures) (c .before .before .move-run .ensures .0), table-length (c .before .before .before .before .before .before .before .before .before .before .before .before .before .before .before .before .before .before .before .pre .0) 1125899906842624 (factor-scaled (c .before .before .before .before .before .before .before .before .before .before .before .before .before .before .before .before .before .before .before .pre .0 .column) (c .before .before .before .before .before .before .before .before .before .before .before .before .before .before .before .before .before .before .before .pre .0 .row) (c .before .before .before .before .before .before .before .before .before .before .before .before .before .before .before .before .before .before .before .pre .1)) (factor-divides (c .before .before .before .before .before .before .before .before .before .before .before .before .before .before .before .before .before .before .before .args .column .span * c .before .before .before .before .before .before .before .before .before .before .before .before .before .before .before .before .before .before .before .args .row .span) (spans-some (c .before .before .before .before .before .before .before .before .before .before .before .before .before .before .before .before .before .before .before .pre .0 .column) (c .before .before .before .before .before .before .before .before .before .before .before .before .before .before .before .before .before .before .before .pre .0 .row)) (c .before .before .before .before .before .before .before .before .before .before .before .before .before .before .before .before .before .before .before .pre .1)) (c .before .before .before .before .before .before .before .before .before .before .before .before .before .before .before .before .before .before .before .args .table .now) (c .before .before .before .before .before .before .before .before .before .before .before .before .before .before .before .before .before .before .before .pre .2) (c .before .before .before .before .before .before .before .before .before .fill .ensures), c .before .before .move-run .ensures .1)
+returns c = (run-blended (c .before .before .before .before .before .before .before .before .before .before .before .before .before .before .before .before .before .before .before .pre .0) 1125899906842624 (factor-scaled (c .before .before .before .before .before .before .before .before .before .before .before .before .before .before .before .before .before .before .before .pre .0 .column) (c .before .before .before .before .before .before .before .before .before .before .before .before .before .before .before .before .before .before .before .pre .0 .row) (c .before .before .before .before .before .before .before .before .before .before .before .before .before .before .before .before .before .before .before .pre .1)) (factor-divides (c .before .before .before .before .before .before .before .before .before .before .before .before .before .before .before .before .before .before .before .args .spot .column .span * c .before .before .before .before .before .before .before .before .before .before .before .before .before .before .before .before .before .before .before .args .spot .row .span) (spans-some (c .before .before .before .before .before .before .before .before .before .before .before .before .before .before .before .before .before .before .before .pre .0 .column) (c .before .before .before .before .before .before .before .before .before .before .before .before .before .before .before .before .before .before .before .pre .0 .row)) (c .before .before .before .before .before .before .before .before .before .before .before .before .before .before .before .before .before .before .before .pre .1)) (c .before .before .before .before .before .before .before .before .before .before .before .before .before .before .before .before .before .before .before .args .table .now) (c .before .before .before .before .before .before .before .before .before .before .before .before .before .before .before .before .before .before .before .pre .2) (c .before .before .before .before .before .before .before .before .before .fill .ensures) (c .before .before .move-run .ensures .0), table-length (c .before .before .before .before .before .before .before .before .before .before .before .before .before .before .before .before .before .before .before .pre .0) 1125899906842624 (factor-scaled (c .before .before .before .before .before .before .before .before .before .before .before .before .before .before .before .before .before .before .before .pre .0 .column) (c .before .before .before .before .before .before .before .before .before .before .before .before .before .before .before .before .before .before .before .pre .0 .row) (c .before .before .before .before .before .before .before .before .before .before .before .before .before .before .before .before .before .before .before .pre .1)) (factor-divides (c .before .before .before .before .before .before .before .before .before .before .before .before .before .before .before .before .before .before .before .args .spot .column .span * c .before .before .before .before .before .before .before .before .before .before .before .before .before .before .before .before .before .before .before .args .spot .row .span) (spans-some (c .before .before .before .before .before .before .before .before .before .before .before .before .before .before .before .before .before .before .before .pre .0 .column) (c .before .before .before .before .before .before .before .before .before .before .before .before .before .before .before .before .before .before .before .pre .0 .row)) (c .before .before .before .before .before .before .before .before .before .before .before .before .before .before .before .before .before .before .before .pre .1)) (c .before .before .before .before .before .before .before .before .before .before .before .before .before .before .before .before .before .before .before .args .table .now) (c .before .before .before .before .before .before .before .before .before .before .before .before .before .before .before .before .before .before .before .pre .2) (c .before .before .before .before .before .before .before .before .before .fill .ensures), c .before .before .move-run .ensures .1)
 
 pub table-run-spec : {M : Type 1} → statement M
 table-run-spec =
