@@ -62,19 +62,23 @@ function meanBlocks(library, {at, stride, isSpent}, place, out) {
   out.set(library.room.u16(to, out.length));
 }
 
-// source: where the window's first grey stands in the library's memory, how many greys a row has, and whether they are not needed
-// any more. place: of the film (place.js). spare: a buffer that may be written over, so that moving a film all day leaves nothing
-// to clear away.
-export function cellsOf(library, source, place, spare) {
-  const {columns, rows} = place;
+// Room for the cells of a place. spare: a buffer that may be written over, so that moving a film all day leaves nothing to clear
+// away.
+export function cellRoom({columns, rows}, spare) {
   const bytes = 2 * columns * rows;
   const buffer = spare && spare.byteLength >= bytes && spare.byteLength <= 4 * bytes ? spare : new ArrayBuffer(bytes);
-  const out = new Uint16Array(buffer, 0, columns * rows);
-  if (bytes > 0) layCells(library, source, place, out);
-  return buffer;
+  return new Uint16Array(buffer, 0, columns * rows);
 }
 
-function layCells(library, source, place, out) {
+// source: where the window's first grey stands in the library's memory, how many greys a row has, and whether they are not needed
+// any more. place: of the film (place.js).
+export function cellsOf(library, source, place, spare) {
+  const out = cellRoom(place, spare);
+  if (out.length > 0) layCells(library, source, place, out);
+  return out.buffer;
+}
+
+export function layCells(library, source, place, out) {
   const {columns, rows, zoom} = place;
   if (zoom.block > 1 && zoom.block <= MOST_BLOCK) return meanBlocks(library, source, place, out);
   const {stride} = source;

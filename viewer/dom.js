@@ -23,5 +23,12 @@ export function tell(text, isPlain = false) {
   message.classList.toggle('plain', isPlain);
 }
 
+// A canvas that is sized anew is made anew, which takes time.
+export function sizeTo(canvas, {width, height}) {
+  if (canvas.width === width && canvas.height === height) return;
+  canvas.width = width;
+  canvas.height = height;
+}
+
 export function frames() { return [...document.querySelectorAll('.frame')]; }
 export function canvases() { return [element('canvas-scanned'), element('canvas-rendered')]; }

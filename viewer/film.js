@@ -1,8 +1,9 @@
 // One film: opened from a file's bytes, settled for settings, drawn, probed and saved. Each film has an instance of the
 // module for itself, and its counts, mappings, record and footer stay with it until it is closed.
 import {MOST_ENTRIES, MOST_SCRATCH, MOST_SIDE, USUAL_BINS, makeLibrary, settingsOf, tilingOf} from './calls.js';
-import {cellsOf, meanOf} from './cells.js';
+import {cellRoom, cellsOf, layCells, meanOf} from './cells.js';
 import {renderingName} from './names.js';
+import {rowsOf} from './place.js';
 import {isAsScanned, regionAbout, sidesOf, usedTiles} from './reach.js';
 import {recordText} from './record.js';
 import {isPlain, moreOfFile, moreOfRendering, moreOfSettings, refused} from './refuse.js';
@@ -14,6 +15,9 @@ const MOST_PLAIN = 6 * MOST_SIDE * MOST_SIDE + 65536;
 
 // How much of a file that begins with these bytes is read.
 export function mostBytes(bytes) { return isPlain(bytes) ? MOST_PLAIN : MOST_RAW; }
+
+// How many pixels are drawn at a time for cells: so few stay in the processor's cache until the cells are made of them.
+const STRIP = 1 << 17;
 
 // The counts buffer is too short: what mapping says last of settings that are in order.
 const NO_COUNTS = 33;
@@ -169,13 +173,27 @@ export function scanCells(film, place, spare) {
   return cellsOf(film.library, {at, stride: film.width, isSpent: false}, place, spare);
 }
 
+// The rendered side of a place in its cells, some rows at a time; of own regions, which are kept, all at once. Gives {refusal}, or
+// nothing.
+export function layRendered(film, s, place, out) {
+  const {columns, rows, width, height} = place;
+  const step = s.around ? rows : Math.max(1, Math.floor(STRIP * rows / (width * height)));
+  for (let first = 0; first < rows; first += step) {
+    const strip = rowsOf(place, first, Math.min(step, rows - first));
+    const drawn = drawWindow(film, s, strip);
+    if (drawn.refusal) return drawn;
+    layCells(film.library, drawn, strip, out.subarray(columns * first, columns * (first + strip.rows)));
+  }
+  return {};
+}
+
 // Scanned and rendered side of a window as greys, in the cells of its zoom. place: where the film lies (place.js), and whether the
 // scanned side is there already, as it is while settings alone are moved; spare: buffers to write over.
 export function picture(film, s, place, spare = {}) {
-  const drawn = drawWindow(film, s, place);
+  const cells = cellRoom(place, spare.rendered);
+  const drawn = layRendered(film, s, place, cells);
   if (drawn.refusal) return drawn;
-  const rendered = cellsOf(film.library, drawn, place, spare.rendered); // first: the scan's may be laid where it was drawn
-  return {scanned: place.scannedIsThere ? null : scanCells(film, place, spare.scanned), rendered};
+  return {scanned: place.scannedIsThere ? null : scanCells(film, place, spare.scanned), rendered: cells.buffer};
 }
 
 // The same of own regions that are not all drawn yet: what is missing is no cell. Below 1:1 the cells of a large film take as

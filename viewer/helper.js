@@ -4,11 +4,13 @@
 // which compares them, and a part of another film is refused like a whole window. Own regions, which have neither record nor
 // mappings, are drawn from the first row down by the one worker and from the last one up by the other.
 import {MOST_ENTRIES, MOST_SCRATCH, USUAL_BINS, makeLedger, makeLibrary} from './calls.js';
-import {picture, pieceOf, scanCells, settle} from './film.js';
-import {cellEnd, cellStart} from './place.js';
+import {cellRoom} from './cells.js';
+import {layRendered, picture, pieceOf, scanCells, settle} from './film.js';
+import {rowsOf} from './place.js';
 import {blockDrawn, keepDrawnBlock, lastBlock, restOf} from './regions.js';
 
 const SHARED_PIXELS = 1 << 20; // a smaller window is as soon drawn by one
+const OWN_SHARE = 0.54; // of a window: the second worker has to be told of its part, and to answer
 const ROOM = 4 * 1048576; // bytes beside the pixels: stack, mappings, and what is drawn of the smallest of these
 
 // ---- the first worker's side ----
@@ -62,15 +64,6 @@ function dropHelp() {
 // A film that is closed.
 export function forgetHelp(film) { if (film.number === beside.number) dropHelp(); }
 
-// A place in two, at a row of cells.
-function halvesOf(place) {
-  const {zoom, cellY, rows, top, height, film} = place;
-  const half = rows >> 1;
-  const from = cellStart(zoom, cellY + half);
-  return [{...place, rows: half, height: cellEnd(zoom, cellY + half - 1, film.height) - top},
-    {...place, rows: rows - half, cellY: cellY + half, top: from, height: top + height - from}];
-}
-
 function mapsOf(film, s) {
   return film.library.room.u16(film.map, s.across * s.down * (s.bins || USUAL_BINS)).slice().buffer;
 }
@@ -80,18 +73,19 @@ export async function sharedPicture(film, s, place, spare) {
   if (s.around || beside.number !== film.number || place.width * place.height < SHARED_PIXELS || place.rows < 2) {
     return picture(film, s, place, spare);
   }
-  const [upper, lower] = halvesOf(place);
+  const own = Math.floor(OWN_SHARE * place.rows);
+  const lower = rowsOf(place, own, place.rows - own);
   const maps = mapsOf(film, s);
   const other = askBeside({kind: 'part', settings: s, record: film.record, maps, place: lower}, [maps]);
-  const own = picture(film, s, {...upper, scannedIsThere: true});
+  const cells = cellRoom(place, spare.rendered);
+  const drawn = layRendered(film, s, rowsOf(place, 0, own), cells);
   const scanned = place.scannedIsThere ? null : scanCells(film, place, spare.scanned);
   const rest = await other;
-  if (own.refusal) return own;
-  if (!rest.cells) return picture(film, s, place, spare);
-  const rendered = new Uint16Array(place.columns * place.rows);
-  rendered.set(new Uint16Array(own.rendered));
-  rendered.set(new Uint16Array(rest.cells), upper.columns * upper.rows);
-  return {scanned, rendered: rendered.buffer};
+  if (drawn.refusal) return drawn;
+  const below = cells.subarray(place.columns * own);
+  if (rest.cells) below.set(new Uint16Array(rest.cells));
+  const last = rest.cells ? {} : layRendered(film, s, lower, below); // the second one has no such film any more
+  return last.refusal ? last : {scanned, rendered: cells.buffer};
 }
 
 // What film.js gives for a piece of own regions, by both workers where there is enough to do.

@@ -1,7 +1,7 @@
 // Looking: which part of the film is seen, and how it comes on the screen. Both pictures are always of the same window, so they
 // move together.
 import {keepTimes, tellBusy} from './ask.js';
-import {canvases, element, frames, made, setText} from './dom.js';
+import {canvases, element, frames, made, setText, sizeTo} from './dom.js';
 import {fillPanel} from './panel.js';
 import {parts} from './parts.js';
 import {STEPS, cellAt, cellCount, cellOfPixel, covers, fitZoom, heldZoom, isWhole, placeOf, stepBeside, toDot, toFilm,
@@ -25,9 +25,10 @@ export const look = {
   places: [], // the places of the two panes: of one film, or of two
   pair: 0, // the number of the film that is looked at beside another
   kept: new Map(), // of each film, by its number, the cells that were drawn last: its pictures, and what they were made with
-  drawings: 0, // how many drawings were kept
+  drawings: 0, // how many drawings were kept: each side is known by the number of its own
   spare: {}, // buffers that are kept no longer, for the worker to write over
-  sheets: [{key: ''}, {key: ''}], // the cells as dots, for the two canvases
+  sheets: [{key: '', painted: ''}, {key: '', painted: ''}], // the cells as dots, for the two canvases, and what is on these
+  overlaid: [false, false], // whether something is drawn over the panes
   pointer: null, // where the pointer is on the stage
   mode: 'side',
   turn: 'rendered',
@@ -99,8 +100,10 @@ export function pairIsThere(other, film) {
 // window needs no drawing, and what the margin does not have is painted when the library has drawn it.
 export function keepDrawn(film, drawn, {scanned, rendered}) {
   const before = look.kept.get(film.number) || {};
+  const drawing = ++look.drawings;
   look.kept.delete(film.number);
-  look.kept.set(film.number, {...drawn, scanned: scanned || before.scanned, rendered, drawing: ++look.drawings});
+  look.kept.set(film.number, {...drawn, scanned: scanned || before.scanned, rendered,
+    drawings: {...before.drawings, ...(scanned && {scanned: drawing}), rendered: drawing}});
   if (before.rendered) look.spare.rendered = before.rendered;
   if (before.scanned && scanned) look.spare.scanned = before.scanned;
   if (look.kept.size > MOST_KEPT) look.kept.delete(look.kept.keys().next().value);
@@ -121,7 +124,7 @@ function keptFits(kept, place) {
 function layOnSheet(sheet, {film, side}, kept) {
   const {columns, rows, turn} = kept.place;
   const display = displayOf(film, side);
-  const key = [film.number, side, kept.drawing, ...Object.values(display), ...Object.values(turn)].join();
+  const key = [film.number, side, kept.drawings[side], ...Object.values(display), ...Object.values(turn)].join();
   if (sheet.key === key) return;
   const [wide, high] = turn.aside ? [rows, columns] : [columns, rows];
   if (!sheet.canvas) sheet.canvas = document.createElement('canvas');
@@ -145,28 +148,35 @@ function sheetEdge(place, drawn) {
   return [place.edgeX + right * zoom.shown, place.edgeY + down * zoom.shown];
 }
 
-// A canvas that is sized anew is made anew, which takes time.
-function sizeTo(canvas, pane) {
-  if (canvas.width === pane.width && canvas.height === pane.height) return;
-  canvas.width = pane.width;
-  canvas.height = pane.height;
+function clearPane(i) {
+  const canvas = canvases()[i];
+  canvas.getContext('2d').clearRect(0, 0, canvas.width, canvas.height);
+  look.sheets[i].painted = '';
 }
 
-function clearCanvas(canvas) { canvas.getContext('2d').clearRect(0, 0, canvas.width, canvas.height); }
+// Whether there is something of a film for its pane. Of a film beside another its older picture is none.
+function isPaintable({film, side}, kept, place) {
+  if (!kept || !kept[side] || kept.place.columns === 0 || kept.place.rows === 0) return false;
+  return film === state.film || (isOfSettings(kept, film) && keptFits(kept, place));
+}
 
+// What a canvas shows already is left there: a canvas that is touched goes to the screen anew, as the scanned one would with every
+// factor.
 function paintPane(i, pane, place) {
-  const canvas = canvases()[i];
   const sheet = look.sheets[i];
   const kept = keptOf(pane.film);
-  sizeTo(canvas, place.pane);
-  clearCanvas(canvas);
-  if (!kept || !kept[pane.side] || kept.place.columns === 0 || kept.place.rows === 0) return;
-  if (pane.film !== state.film && !(isOfSettings(kept, pane.film) && keptFits(kept, place))) return;
+  sizeTo(canvases()[i], place.pane);
+  if (!isPaintable(pane, kept, place)) return clearPane(i);
   layOnSheet(sheet, pane, kept);
-  const pen = canvas.getContext('2d');
-  pen.imageSmoothingEnabled = false; // a pixel is a square
   const {shown} = place.zoom;
-  pen.drawImage(sheet.canvas, ...sheetEdge(place, kept.place), sheet.canvas.width * shown, sheet.canvas.height * shown);
+  const box = [...sheetEdge(place, kept.place), sheet.canvas.width * shown, sheet.canvas.height * shown];
+  const key = [sheet.key, ...box, place.pane.width, place.pane.height].join();
+  if (sheet.painted === key) return;
+  clearPane(i);
+  const pen = canvases()[i].getContext('2d');
+  pen.imageSmoothingEnabled = false; // a pixel is a square
+  pen.drawImage(sheet.canvas, ...box);
+  sheet.painted = key;
 }
 
 // The places of both panes, where the film that is looked at lies at this one.
@@ -207,7 +217,7 @@ export function paintKept(film) {
 
 // No picture stays up: neither half.
 export function clearPanes() {
-  canvases().forEach(clearCanvas);
+  [0, 1].forEach(clearPane);
   look.painted = null;
   look.places = [];
   setText('how', '');
@@ -327,18 +337,21 @@ export function drawOverlays() {
   for (const [i, pane] of panes().entries()) {
     const canvas = frames()[i].querySelector('.overlay');
     const place = pane.film && look.painted ? look.places[i] : null;
-    if (!place || parts.overlays.length === 0) {
-      canvas.width = canvas.width && 0;
-      continue;
-    }
-    sizeTo(canvas, place.pane);
-    const pen = canvas.getContext('2d');
-    pen.clearRect(0, 0, canvas.width, canvas.height);
-    for (const draw of parts.overlays) {
-      pen.save();
-      draw(pen, place, pane.film, pane.side);
-      pen.restore();
-    }
+    if (place) sizeTo(canvas, place.pane);
+    else canvas.width = canvas.width && 0;
+    const overlays = place ? parts.overlays.filter(({has}) => has(pane.film)) : [];
+    if (overlays.length > 0 || look.overlaid[i]) drawOver(canvas, overlays, place, pane);
+    look.overlaid[i] = overlays.length > 0;
+  }
+}
+
+function drawOver(canvas, overlays, place, pane) {
+  const pen = canvas.getContext('2d');
+  pen.clearRect(0, 0, canvas.width, canvas.height);
+  for (const {draw} of overlays) {
+    pen.save();
+    draw(pen, place, pane.film, pane.side);
+    pen.restore();
   }
 }
 

@@ -69,11 +69,18 @@ function drawLine(pen, place, line, outline) {
   }
 }
 
+function shapePlaced(film) { return placing.film === film ? shapeNow() : null; }
+
+function hasOutlines(film) {
+  if (!film.ready) return false;
+  const {line, region, marks} = readingOf(film);
+  return Boolean(line || region || marks.length > 0 || shapePlaced(film));
+}
+
 // side is not asked for: both pictures have the same outlines.
 function drawOutlines(pen, place, film) {
-  if (!film || !film.ready) return;
   const {line, region, marks, chosen} = readingOf(film);
-  const shape = placing.film === film ? shapeNow() : null;
+  const shape = shapePlaced(film);
   if (line) drawLine(pen, place, line, OUTLINES.line);
   if (region) drawBox(pen, place, region, OUTLINES.region, 'region');
   for (const mark of marks) {
@@ -85,4 +92,4 @@ function drawOutlines(pen, place, film) {
   else if (shape) drawBox(pen, place, shape.box, OUTLINES.placing, '');
 }
 
-addOverlay(drawOutlines);
+addOverlay(drawOutlines, hasOutlines);

@@ -1,6 +1,6 @@
 // The overview: all of the film, small, and on it the part that is on the screen. A hand on it moves that part.
 import {pump} from './ask.js';
-import {element} from './dom.js';
+import {element, sizeTo} from './dom.js';
 import {centreOn, look} from './look.js';
 import {addWatch} from './parts.js';
 import {fullZoom, isWhole, placeOf, toDot, toFilm} from './place.js';
@@ -52,21 +52,31 @@ function outlineOf(film, there, seen) {
   return [left, top, right - left, bottom - top];
 }
 
+let overviewKey = ''; // what it was drawn for: settings that are moved leave it alone
+
 function drawOverview(seen) {
   const film = filmReady();
   const canvas = element('overview');
   canvas.parentElement.hidden = !film;
   if (!film) return;
   const there = placeThere(film);
-  canvas.width = there.pane.width;
-  canvas.height = there.pane.height;
-  if (!isDrawn(film)) return pump();
+  const isThere = isDrawn(film);
+  const outline = isThere && seen && !isWhole(seen) ? outlineOf(film, there, seen) : null;
+  const key = [film.number, isThere, there.zoom.p, ...Object.values(there.pane), ...Object.values(there.turn),
+    ...Object.values(displayOf(film, 'scanned')), outline].join();
+  if (key !== overviewKey) paintOverview(canvas, film, there, outline);
+  overviewKey = key;
+  if (!isThere) pump();
+}
+
+function paintOverview(canvas, film, there, outline) {
+  sizeTo(canvas, there.pane);
+  canvas.dataset.part = outline ? outline.map(Math.round).join(' ') : '';
   const pen = canvas.getContext('2d');
+  pen.clearRect(0, 0, canvas.width, canvas.height);
+  if (!isDrawn(film)) return;
   paintThumb(pen, film, there);
-  canvas.dataset.part = '';
-  if (!seen || isWhole(seen)) return;
-  const outline = outlineOf(film, there, seen);
-  canvas.dataset.part = outline.map(Math.round).join(' ');
+  if (!outline) return;
   pen.lineWidth = 3;
   pen.strokeStyle = '#000';
   pen.strokeRect(...outline);

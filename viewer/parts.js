@@ -8,8 +8,9 @@ export const parts = {sections: [], overlays: [], watches: [], keys: [], tools: 
 export function addSection(section) { parts.sections.push(section); }
 
 // A drawing over both pictures, never into their pixels: draw(pen, place, film, side), where pen is a 2D context in dots of the
-// pane, cleared before; place: for toDot and toFilm (place.js); side: 'scanned' or 'rendered'.
-export function addOverlay(draw) { parts.overlays.push(draw); }
+// pane, cleared before; place: for toDot and toFilm (place.js); side: 'scanned' or 'rendered'. has(film): whether there is
+// anything to be drawn over a film.
+export function addOverlay(draw, has) { parts.overlays.push({draw, has}); }
 
 // act(place) is called behind every painting, and with null where nothing is on the panes.
 export function addWatch(act) { parts.watches.push(act); }

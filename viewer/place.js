@@ -161,6 +161,14 @@ export function dotsShowing(place, box) {
   return {x: edgeX + right.first, y: edgeY + below.first, width: right.count, height: below.count};
 }
 
+// Some of a place's rows of cells, from the given one of them on.
+export function rowsOf(place, first, rows) {
+  const {zoom, cellY, film} = place;
+  const top = cellStart(zoom, cellY + first);
+  const end = Math.min(place.top + place.height, cellEnd(zoom, cellY + first + rows - 1, film.height));
+  return {...place, rows, cellY: cellY + first, top, height: end - top};
+}
+
 // Whether a film's window holds another.
 export function covers(outer, inner) {
   return outer.left <= inner.left && outer.top <= inner.top && outer.left + outer.width >= inner.left + inner.width &&

@@ -30,12 +30,12 @@ function reachNow(film, kind) {
   return kept ? reachOf(film, kept.axes, kept.settings, box) : null;
 }
 
+function shadedNow(film) { return KINDS.map(kind => shading[kind] && reachNow(film, kind)).filter(Boolean); }
+
 // One path for both, so that what both reach is not shaded twice.
 function drawReach(pen, place, film) {
   const path = new Path2D();
-  for (const kind of KINDS) {
-    const reach = shading[kind] && reachNow(film, kind);
-    if (!reach) continue;
+  for (const reach of shadedNow(film)) {
     const {x, y, width, height} = dotsShowing(place, reach);
     path.rect(x, y, width, height);
   }
@@ -74,5 +74,5 @@ export function wireReach() {
   addWatch(fillReach);
 }
 
-addOverlay(drawReach);
+addOverlay(drawReach, film => shadedNow(film).length > 0);
 addKey({keys: ['s'], what: 'shade what the chosen mark (without one: the region) can reach', act: turnShading});

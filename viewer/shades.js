@@ -18,12 +18,25 @@ export function shadeTable(display) {
   return table;
 }
 
+// Eight a turn, since the turns of so short a loop take longer than what is done in them.
+function shadeInOrder(cells, table, dots) {
+  const whole = dots.length - dots.length % 8;
+  for (let i = 0; i < whole; i += 8) {
+    dots[i] = table[cells[i]];
+    dots[i + 1] = table[cells[i + 1]];
+    dots[i + 2] = table[cells[i + 2]];
+    dots[i + 3] = table[cells[i + 3]];
+    dots[i + 4] = table[cells[i + 4]];
+    dots[i + 5] = table[cells[i + 5]];
+    dots[i + 6] = table[cells[i + 6]];
+    dots[i + 7] = table[cells[i + 7]];
+  }
+  for (let i = whole; i < dots.length; i++) dots[i] = table[cells[i]];
+}
+
 // Lays cells, row by row as the film has them, on dots as they are seen: mirrored and turned.
 export function shadeCells(cells, columns, rows, turn, table, dots) {
-  if (!turn.aside && !turn.reverseX && !turn.reverseY) {
-    for (let i = 0; i < dots.length; i++) dots[i] = table[cells[i]];
-    return;
-  }
+  if (!turn.aside && !turn.reverseX && !turn.reverseY) return shadeInOrder(cells, table, dots);
   const wide = turn.aside ? rows : columns;
   const high = turn.aside ? columns : rows;
   const stepX = turn.reverseX ? -1 : 1;
