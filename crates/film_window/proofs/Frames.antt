@@ -1,20 +1,23 @@
 -- The rows of a window: where they lie in the picture, what is looked for in them, and how they are copied.
 -- Assumes nothing.
-use Prim.Native.Nat.{ℕ, _+_, _-_, _*_, _≤_, _<_}
-use mathlib.Core.Bool.{Bool, true, false}
+use Prim.Native.Nat.{ℕ, _+_, _-_, _*_, _≤_, _<_, min, max}
+use mathlib.Core.Bool.{Bool, true, false, _&&_}
 use mathlib.Core.List.{List, append-nil}
 use mathlib.Core.Path.{_≡_, refl, sym, ap, _∙_}
-use lib.ListN.{length, take, drop, length-drop}
+use lib.Dec.{leb}
+use lib.ListN.{length, take, drop, getD, length-drop}
 use lib.Seq.{drop-length, length-take-le}
 use native.Mathlib.Nat.{le-of-eq, mul-comm, mul-le-mul-right}
 use native.Mathlib.Omega.{arith}
 use borrow.Rule.Slice.PartMut.{putMid}
+use borrow.Author.Tests.{le-leb}
 use Rattle.base_lists.specs.Lists.{joined, all, onto, blocks}
 use Rattle.base_lists.proofs.Tabs.{every-not}
 use Rattle.base_lists.proofs.Fills.{joined-suc}
 use Rattle.base_lists.proofs.Blocks.{blocks-step, blocks-end, block-fits, length-blocks}
 use Rattle.base_lists.proofs.Alls.{all-both, all-joined-every}
 use Rattle.base_lists.proofs.Maps.{onto-whole}
+use Rattle.base_range.proofs.Spans.{Spans, spans-next}
 use Rattle.tile_count.specs.Tally.{greysOf}
 use Rattle.tile_count.proofs.Greys.{rowOf, greys-rows, length-row, row-room, part-row}
 use Rattle.film_settings.specs.declared.Window.{Window}
@@ -38,6 +41,19 @@ line-room {win = win} f y h = row-room (rectOf win) (f .across) (f .down) y h
 pub line-part : (pic : List ℕ) (stride : ℕ) (win : Window) → Framed (length pic) stride win → (y : ℕ) → y < win .height
     → take ((win .top + y) * stride + win .left + win .width - ((win .top + y) * stride + win .left)) (drop ((win .top + y) * stride + win .left) pic) ≡ line pic stride win y
 line-part pic stride win f y h = part-row pic stride (rectOf win) (f .across) (f .down) y h
+
+-- ---- a row, looked at where the range begins at 0
+
+-- no grey as yet
+pub above-first : (hi : ℕ) (xs : List ℕ) → Spans 0 hi (take 0 xs) 0 0
+unfolding all
+above-first hi xs = record { told = sym (le-leb 0 hi (omega arith)) }
+
+-- one grey more: the least stays 0
+pub above-next : (hi : ℕ) (xs : List ℕ) {i b : ℕ} → Spans 0 hi (take i xs) 0 b → i < length xs → Spans 0 hi (take (i + 1) xs) 0 (max b (getD xs i 0))
+above-next hi xs {i} {b} h l =
+    let none : min 0 (getD xs i 0) ≡ 0 = omega arith in
+    record { told = spans-next 0 hi xs h l .told ∙ ap (λ a. leb 0 a && leb (max b (getD xs i 0)) hi) none }
 
 -- ---- the rows, looked at one by one
 

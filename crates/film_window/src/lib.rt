@@ -8,6 +8,29 @@ ghost use Rattle.pixel_render.specs.Render.{rectOf};
 ghost use Rattle.film_window.specs.Frame.{Framed, CopyWindowAsks};
 use film_settings::Window;
 
+// Whether no grey of a row is above Max. Looking for the greatest alone takes half the steps of looking for the least as well, so that more of a row that is not in the cache is on its way at once.
+fn none_above(row: &[u16], max: u32) -> bool
+    ensures { λ r. ⌜ r ≡ all (within 0 max) (now (row .entry)) ⌝ }
+{
+    let mut high = 0u16;
+    let mut k = 0;
+    while k < row.len() {
+        high = base_range::greatest(high, row[k]);
+        k += 1;
+    }
+    high as u32 <= max
+}
+
+// Whether all greys of a row lie in Min to Max.
+fn row_within(row: &[u16], min: u32, max: u32) -> bool
+    ensures { λ r. ⌜ r ≡ all (within min max) (now (row .entry)) ⌝ }
+{
+    if min == 0 {
+        return none_above(row, max);
+    }
+    base_range::all_within(row, min, max)
+}
+
 // Whether all pixels of the window lie in Min to Max.
 pub fn window_within(picture: &[u16], stride: usize, win: Window, min: u32, max: u32) -> bool
     requires { ⌜ Framed (length (now picture)) stride win ⌝ }
@@ -17,7 +40,7 @@ pub fn window_within(picture: &[u16], stride: usize, win: Window, min: u32, max:
     while y < win.height {
         let a = ((win.top as usize) + (y as usize)) * stride + (win.left as usize);
         let e = a + (win.width as usize);
-        if !base_range::all_within(&picture[a..e], min, max) {
+        if !row_within(&picture[a..e], min, max) {
             return false;
         }
         y += 1;
