@@ -26,7 +26,7 @@ fn pixel_refusal(width: u32, picture: &[u16], s: Settings, win: Window, map: &[u
         return 0;
     }
     let entries = (s.across as usize) * (s.down as usize) * (film_settings::bins(s) as usize);
-    if !base_range::all_within(&map[..entries], s.min, s.max) {
+    if !film_window::greys_within(&map[..entries], s.min, s.max) {
         return 18;
     }
     0

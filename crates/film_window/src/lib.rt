@@ -8,27 +8,27 @@ ghost use Rattle.pixel_render.specs.Render.{rectOf};
 ghost use Rattle.film_window.specs.Frame.{Framed, CopyWindowAsks};
 use film_settings::Window;
 
-// Whether no grey of a row is above Max. Looking for the greatest alone takes half the steps of looking for the least as well, so that more of a row that is not in the cache is on its way at once.
-fn none_above(row: &[u16], max: u32) -> bool
-    ensures { λ r. ⌜ r ≡ all (within 0 max) (now (row .entry)) ⌝ }
+// Whether no grey is above Max. Looking for the greatest alone takes half the steps of looking for the least as well, so that more of what is not in the cache is on its way at once.
+fn none_above(greys: &[u16], max: u32) -> bool
+    ensures { λ r. ⌜ r ≡ all (within 0 max) (now (greys .entry)) ⌝ }
 {
     let mut high = 0u16;
     let mut k = 0;
-    while k < row.len() {
-        high = base_range::greatest(high, row[k]);
+    while k < greys.len() {
+        high = base_range::greatest(high, greys[k]);
         k += 1;
     }
     high as u32 <= max
 }
 
-// Whether all greys of a row lie in Min to Max.
-fn row_within(row: &[u16], min: u32, max: u32) -> bool
-    ensures { λ r. ⌜ r ≡ all (within min max) (now (row .entry)) ⌝ }
+// Whether all these greys lie in Min to Max, by fewer steps where Min is 0.
+pub fn greys_within(greys: &[u16], min: u32, max: u32) -> bool
+    ensures { λ r. ⌜ r ≡ all (within min max) (now (greys .entry)) ⌝ }
 {
     if min == 0 {
-        return none_above(row, max);
+        return none_above(greys, max);
     }
-    base_range::all_within(row, min, max)
+    base_range::all_within(greys, min, max)
 }
 
 // Whether all pixels of the window lie in Min to Max.
@@ -40,7 +40,7 @@ pub fn window_within(picture: &[u16], stride: usize, win: Window, min: u32, max:
     while y < win.height {
         let a = ((win.top as usize) + (y as usize)) * stride + (win.left as usize);
         let e = a + (win.width as usize);
-        if !row_within(&picture[a..e], min, max) {
+        if !greys_within(&picture[a..e], min, max) {
             return false;
         }
         y += 1;

@@ -43,19 +43,19 @@ cast-entries-3 c = search needs
 mul-entries-2 : tie.Need-mul-entries-2
 mul-entries-2 c = record { fits = lt-of-le-of-lt (entries-small _ _ _ (c .before .before .before .before .before .before .before .before .before .pre .acrossmost) (c .before .before .before .before .before .before .before .before .before .pre .downmost) (rw (c .bins .ensures) (c .before .before .before .before .before .before .before .before .before .pre .binsmost))) (lit< tt) }
 
-slice-aggregate-all-within : tie.Need-slice-aggregate-all-within
-slice-aggregate-all-within c = sym (length-take-le _ _ (rw (c .before .bins .ensures) (c .before .before .before .before .before .before .before .before .before .before .pre .fitting)))
+slice-aggregate-greys-within : tie.Need-slice-aggregate-greys-within
+slice-aggregate-greys-within c = sym (length-take-le _ _ (rw (c .before .bins .ensures) (c .before .before .before .before .before .before .before .before .before .before .pre .fitting)))
 
-all-within-requires : tie.Need-all-within-requires
-all-within-requires c κs = search needs
+greys-within-requires : tie.Need-greys-within-requires
+greys-within-requires c κs = search needs
 
 returns-3 : tie.Need-returns-3
 unfolding first pixelRows
-returns-3 c = rw (← c .before .before .before .before .before .before .before .before .before .window-within .ensures, c .before .before .before .before .before .before .before .before .if1 .left, ← c .before .before .before .before .before .before .before .clip-one .ensures, c .before .before .before .before .before .before .if2 .left, ← c .before .before .before .bins .ensures, ← c .before .all-within .ensures, c .if3 .taken) refl
+returns-3 c = rw (← c .before .before .before .before .before .before .before .before .before .window-within .ensures, c .before .before .before .before .before .before .before .before .if1 .left, ← c .before .before .before .before .before .before .before .clip-one .ensures, c .before .before .before .before .before .before .if2 .left, ← c .before .before .before .bins .ensures, ← c .before .greys-within .ensures, c .if3 .taken) refl
 
 returns-4 : tie.Need-returns-4
 unfolding first pixelRows
-returns-4 c = rw (← c .before .before .before .before .before .before .before .before .before .window-within .ensures, c .before .before .before .before .before .before .before .before .if1 .left, ← c .before .before .before .before .before .before .before .clip-one .ensures, c .before .before .before .before .before .before .if2 .left, ← c .before .before .before .bins .ensures, ← c .before .all-within .ensures, c .if3 .left) refl
+returns-4 c = rw (← c .before .before .before .before .before .before .before .before .before .window-within .ensures, c .before .before .before .before .before .before .before .before .if1 .left, ← c .before .before .before .before .before .before .before .clip-one .ensures, c .before .before .before .before .before .before .if2 .left, ← c .before .before .before .bins .ensures, ← c .before .greys-within .ensures, c .if3 .left) refl
 
 pub pixel-refusal-spec : {M : Type 1} → statement M
 pixel-refusal-spec =
@@ -71,7 +71,7 @@ pixel-refusal-spec =
     bins-requires
     cast-entries-3
     mul-entries-2
-    slice-aggregate-all-within
-    all-within-requires
+    slice-aggregate-greys-within
+    greys-within-requires
     returns-3
     returns-4)

@@ -51,23 +51,23 @@ cast-e c = search needs
 add-e : tie.Need-add-e Inv-loop μ-loop
 add-e c = omega (arith, room (c .before .before .before))
 
-mul-row-within : tie.Need-mul-row-within Inv-loop μ-loop
-mul-row-within c = scaled-fits _ (length (c .before .before .before .before .before .before .before .args .picture .now)) 2 (omega (arith, room (c .before .before .before), c .before .before .before .before .before .before .before .pre .some)) (search needs)
+mul-greys-within : tie.Need-mul-greys-within Inv-loop μ-loop
+mul-greys-within c = scaled-fits _ (length (c .before .before .before .before .before .before .before .args .picture .now)) 2 (omega (arith, room (c .before .before .before), c .before .before .before .before .before .before .before .pre .some)) (search needs)
 
-sub-row-within : tie.Need-sub-row-within Inv-loop μ-loop
-sub-row-within c = search needs
+sub-greys-within : tie.Need-sub-greys-within Inv-loop μ-loop
+sub-greys-within c = search needs
 
-part-row-within-start : tie.Need-part-row-within-start Inv-loop μ-loop
-part-row-within-start c = search needs
+part-greys-within-start : tie.Need-part-greys-within-start Inv-loop μ-loop
+part-greys-within-start c = search needs
 
-part-row-within-end : tie.Need-part-row-within-end Inv-loop μ-loop
-part-row-within-end c = omega (arith, room (c .before .before .before))
+part-greys-within-end : tie.Need-part-greys-within-end Inv-loop μ-loop
+part-greys-within-end c = omega (arith, room (c .before .before .before))
 
-row-within-requires : tie.Need-row-within-requires Inv-loop μ-loop
-row-within-requires c κs = search needs
+greys-within-requires : tie.Need-greys-within-requires Inv-loop μ-loop
+greys-within-requires c κs = search needs
 
 returns : tie.Need-returns Inv-loop μ-loop
-returns c = sym (lines-not _ _ _ _ (c .before .before .before .before .before .before .if1 .taken) (sym (c .before .row-within .ensures) ∙ not-true _ (c .if2 .taken)) (line-part _ _ _ (c .before .before .before .before .before .before .before .before .before .before .pre) _ (c .before .before .before .before .before .before .if1 .taken)))
+returns c = sym (lines-not _ _ _ _ (c .before .before .before .before .before .before .if1 .taken) (sym (c .before .greys-within .ensures) ∙ not-true _ (c .if2 .taken)) (line-part _ _ _ (c .before .before .before .before .before .before .before .before .before .before .pre) _ (c .before .before .before .before .before .before .if1 .taken)))
 
 add-y : tie.Need-add-y Inv-loop μ-loop
 add-y c = search needs
@@ -76,7 +76,7 @@ loop-less : tie.Need-loop-less Inv-loop μ-loop
 loop-less c = search needs
 
 loop-again : tie.Need-loop-again Inv-loop μ-loop
-loop-again c = (search needs, lines-next _ _ (c .before .before .before .before .before .before .before .before .loop .inv .1) (sym (c .before .row-within .ensures) ∙ not-false _ (c .if2 .left)) (line-part _ _ _ (c .before .before .before .before .before .before .before .before .before .before .pre) _ (c .before .before .before .before .before .before .if1 .taken)))
+loop-again c = (search needs, lines-next _ _ (c .before .before .before .before .before .before .before .before .loop .inv .1) (sym (c .before .greys-within .ensures) ∙ not-false _ (c .if2 .left)) (line-part _ _ _ (c .before .before .before .before .before .before .before .before .before .before .pre) _ (c .before .before .before .before .before .before .if1 .taken)))
 
 returns-2 : tie.Need-returns-2 Inv-loop μ-loop
 returns-2 c = sym (lines-end _ _ _ _ (c .before .before .loop .inv .1) (search needs) (search needs))
@@ -96,11 +96,11 @@ window-within-spec =
     add-a-2
     cast-e
     add-e
-    mul-row-within
-    sub-row-within
-    part-row-within-start
-    part-row-within-end
-    row-within-requires
+    mul-greys-within
+    sub-greys-within
+    part-greys-within-start
+    part-greys-within-end
+    greys-within-requires
     returns
     add-y
     loop-less
