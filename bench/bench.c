@@ -95,15 +95,30 @@ static double run_once(struct bench *b, enum call c)
     return took;
 }
 
-static void take_turn(struct bench *b, enum call c, double *best)
+/*
+ * Where a call's own arrays lie on the stack, against the lent memory, is worth up to 2 % of its time, and two calls that do the
+ * same lie apart by what their arguments take. So from turn to turn a call lies elsewhere in a page, and the best turn counts.
+ */
+static void take_turn(struct bench *b, enum call c, int turn, double *best)
 {
+    volatile char deeper[1 + 256 * (turn * 7 % 16)];
+    deeper[0] = 0;
     run_once(b, c);
     double took = run_once(b, c);
     if (*best == 0 || took < *best)
         *best = took;
+    deeper[0] = 1;
 }
 
 static int rounds(uint32_t side) { return side > 2048 ? 15 : side > 1024 ? 30 : side > 512 ? 60 : 100; }
+
+/* A room's calls are held to a hundredth of another's time, and to a microsecond, so they take more turns. */
+static int turns(const struct subject *of, unsigned which)
+{
+    if ((which & ONE(DIRECT)) != 0)
+        return FEW;
+    return (which & ROOM) != 0 ? 6 * rounds(of->height) : rounds(of->height);
+}
 
 static double share_of(const struct bench *b)
 {
@@ -139,10 +154,10 @@ static struct result measure(const struct subject *of, unsigned which)
     open_bench(&b, of);
     check_calls(&b, which);
     struct result r = {.pixels = (double)b.pixels, .area = (double)b.area, .share = share_of(&b)};
-    for (int i = (which & ONE(DIRECT)) != 0 ? FEW : rounds(of->height); i > 0; i--)
+    for (int i = turns(of, which); i > 0; i--)
         for (int c = 0; c < CALLS; c++)
             if ((which & ONE(c)) != 0)
-                take_turn(&b, (enum call)c, &r.best[c]);
+                take_turn(&b, (enum call)c, i, &r.best[c]);
     close_bench(&b);
     return r;
 }

@@ -1,26 +1,16 @@
--- Document 01, "How tight the promises are", of the C interface on films and of the listing: any two outcomes that a contract allows are equal.
+-- Document 01, "How tight the promises are", of the C interface on films: any two outcomes that a contract allows are equal.
 -- Document 00, demand 1: "after a refusal all lent memory holds what it held before", where a refusal is a returned number that is not 0.
 -- Of every run of the calls by their contracts (Runs); a name with ′ is lent memory at the end.
 -- A float's cell is told up to the float in it: the floats here have one NaN without a payload, so which of a NaN's bits stand there is left open.
 -- Assumes nothing.
-use Prim.Native.Nat.{ℕ, zero, suc, _<_}
-use mathlib.Core.List.{List}
-use mathlib.Core.Logic.{inl, inr}
+use Prim.Native.Nat.{_<_}
 use mathlib.Core.Path.{_≡_, refl, sym, ap, _∙_}
-use lib.ListN.{length}
-use Rattle.base_lists.specs.Lists.{onto}
-use Rattle.base_rows.specs.Refuse.{first, unless}
 use Rattle.film_prepare.specs.Prepare.{preparedSays, preparedOf, prepareOf, enhancedSays, enhancedOf, enhanceOf}
 use Rattle.film_draw.specs.Draw.{drawnSays, drawOf}
-use Rattle.pgm_write.specs.declared.Written.the-variants as Written
-use Rattle.pgm_write.specs.Write.{writtenSays, writeLeaves}
-use Rattle.listing_file.specs.Listing.{listingOf, textRows, listOf}
 use Rattle.promise_films.proofs.Accepted.{returned-kept, prepare-table, enhance-table, draw-table}
 use Rattle.c_flat.specs.Flat.{recordFrom}
 use Rattle.c_flat.specs.Films.{FlatPrepared, flatPrepared, FlatEnhanced, flatEnhanced, FlatDrawn, flatDrawn}
-use Rattle.c_flat.specs.Files.{FlatWritten, writtenAs, flatWritten}
-use Rattle.c_flat.proofs.Kept.{Keeps, kept}
-use Rattle.c_films.proofs.Runs.{TzPrepareCall, TzPrepares, tz-prepare-arguments, tz-prepare-ends, TzEnhanceCall, TzEnhances, tz-enhance-arguments, tz-enhance-ends, TzDrawCall, TzDraws, tz-draw-arguments, tz-draw-ends, TzListingCall, TzLists, tz-listing-arguments, tz-listing-ends}
+use Rattle.c_films.proofs.Runs.{TzPrepareCall, TzPrepares, tz-prepare-arguments, tz-prepare-ends, TzEnhanceCall, TzEnhances, tz-enhance-arguments, tz-enhance-ends, TzDrawCall, TzDraws, tz-draw-arguments, tz-draw-ends}
 
 -- ---- tz_prepare
 
@@ -68,29 +58,3 @@ pub tz-draw-refusal-keeps : {c : TzDrawCall} → TzDraws c → 0 < c .number →
 unfolding flatDrawn drawnSays
 tz-draw-refusal-keeps ran l =
     ap (λ (z : FlatDrawn). z .out) (returned-kept (draw-table _ _ _ _ _ _ _ _ _) flatDrawn (λ (z : FlatDrawn). z .number) refl (λ k. refl) (tz-draw-ends ran) l)
-
--- ---- tz_listing
-
--- an outcome that is accepted, or that holds what was lent beside its number
-listing-keeps : (s out : List ℕ) (count : ℕ) → Keeps (λ (z : FlatWritten). z .number) (λ n. writtenAs n out count) (flatWritten (listOf s out) count)
-unfolding flatWritten writtenSays listOf
-listing-keeps s out count = go (first (textRows (length out)))
-  where
-    go : (n : ℕ)
-        → Keeps (λ (z : FlatWritten). z .number) (λ n. writtenAs n out count)
-        (flatWritten (unless n (λ k. writeLeaves (Written.Refused k) out) (writeLeaves (Written.Bytes (length (listingOf s))) (onto out (listingOf s)))) count)
-    go zero = inl refl
-    go (suc n) = inr refl
-
--- any two outcomes are equal: its number, output and byte count
-pub tz-listing-determined : {c k : TzListingCall} → TzLists c → TzLists k → tz-listing-arguments c ≡ tz-listing-arguments k
-    → (c .number ≡ k .number) × (c .out′ ≡ k .out′) × (c .count′ ≡ k .count′)
-tz-listing-determined x y same =
-    let e = tz-listing-ends x ∙ ap (λ g. flatWritten (listOf (g .0) (g .1)) (g .2)) same ∙ sym (tz-listing-ends y) in
-    (ap (λ (z : FlatWritten). z .number) e, ap (λ (z : FlatWritten). z .out) e, ap (λ (z : FlatWritten). z .count) e)
-
--- a refusal keeps lent memory
-pub tz-listing-refusal-keeps : {c : TzListingCall} → TzLists c → 0 < c .number → (c .out′ ≡ c .out) × (c .count′ ≡ c .count)
-tz-listing-refusal-keeps {c} ran l =
-    let e = kept (λ (z : FlatWritten). z .number) (λ n. writtenAs n (c .out) (c .count)) (tz-listing-ends ran) (listing-keeps _ _ _) l in
-    (ap (λ (z : FlatWritten). z .out) e, ap (λ (z : FlatWritten). z .count) e)

@@ -1,4 +1,4 @@
--- The calls on films of the C interface, and the listing, by the names of their arguments. A name with ′ is lent memory at the end; `number` is what is returned.
+-- The calls on films of the C interface by the names of their arguments. A name with ′ is lent memory at the end; `number` is what is returned.
 -- The only file that counts these calls' parameters, in their order in the source. That each name is the contract's own is checked by the laws `..-ends`.
 -- Assumes nothing.
 use Prim.Native.Nat.{ℕ}
@@ -11,18 +11,14 @@ use Rattle.film_settings.specs.declared.Settings.{Settings}
 use Rattle.film_settings.specs.declared.Window.{Window}
 use Rattle.film_prepare.specs.Prepare.{prepareOf, enhanceOf}
 use Rattle.film_draw.specs.Draw.{drawOf}
-use Rattle.listing_file.specs.Listing.{listOf}
 use Rattle.c_flat.specs.Flat.{settingsFrom, Axes, axesFrom, recordFrom, windowFrom}
 use Rattle.c_flat.specs.Films.{Foot, footFrom, Cells, cellsFrom, preparedAs, flatPrepared, enhancedAs, flatEnhanced, drawnAs, flatDrawn}
-use Rattle.c_flat.specs.Files.{writtenAs, flatWritten}
 use Rattle.c_films.proofs.films.tz_prepare.Kinds as prepare
 use Rattle.c_films.proofs.films.tz_prepare.Reads as prepare-reads
 use Rattle.c_films.proofs.films.tz_enhance.Kinds as enhance
 use Rattle.c_films.proofs.films.tz_enhance.Reads as enhance-reads
 use Rattle.c_films.proofs.films.tz_draw.Kinds as draw
 use Rattle.c_films.proofs.films.tz_draw.Reads as draw-reads
-use Rattle.c_films.proofs.listed.tz_listing.Kinds as listing
-use Rattle.c_films.proofs.listed.tz_listing.Reads as listing-reads
 
 -- ---- tz_prepare
 
@@ -127,30 +123,3 @@ TzDraws = Ran tz-draw-values
 
 pub tz-draw-ends : {c : TzDrawCall} → TzDraws c → drawnAs (c .number) (c .out′) ≡ flatDrawn (drawOf (c .film) (c .width) (c .height) (c .pixels) (c .settings) (recordFrom (c .numbers) (c .factor) (c .axes)) (c .window) (c .map) (c .out))
 tz-draw-ends ran = rw (ran .named) (ran .run .allowed)
-
--- ---- tz_listing
-
-pub record TzListingCall : Type 0 where
-  pub bytes : List ℕ
-  pub out : List ℕ
-  pub count : ℕ
-  pub number : ℕ
-  pub out′ : List ℕ
-  pub count′ : ℕ
-
-abbrev pub tz-listing-values : Run listing.ps listing.r listing-reads.Post → TzListingCall
-tz-listing-values run =
-    let (bytes, (out, (count, end))) = run .handed in
-    let (_, (out′, (count′, end′))) = run .left in
-    record { bytes = now bytes; out = now out; count = now count; number = run .answer; out′ = now out′; count′ = now count′ }
-
--- what it is handed
-abbrev pub tz-listing-arguments : TzListingCall → List ℕ × List ℕ × ℕ
-tz-listing-arguments c = (c .bytes, c .out, c .count)
-
--- tz_listing ran with these values
-abbrev pub TzLists : TzListingCall → Type 0
-TzLists = Ran tz-listing-values
-
-pub tz-listing-ends : {c : TzListingCall} → TzLists c → writtenAs (c .number) (c .out′) (c .count′) ≡ flatWritten (listOf (c .bytes) (c .out)) (c .count)
-tz-listing-ends ran = rw (ran .named) (ran .run .allowed)

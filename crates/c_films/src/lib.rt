@@ -1,3 +1,3 @@
-// The calls on films for C, and the listing: numbers and slices in, 0 or the refusal's number out.
+// The calls on films for C, and the room's: numbers and slices in, 0 or the refusal's number out.
 pub mod films;
-pub mod listed;
+pub mod room;

@@ -1,5 +1,2 @@
 pub mod Cells
 pub mod Handed
-pub mod Runs
-pub mod Outcomes
-pub mod Ways

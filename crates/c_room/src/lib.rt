@@ -1,22 +1,18 @@
-// The room's calls for C: numbers and slices in, 0 or the refusal's number out. A room record is its count, ten numbers a set and
-// a factor a set: film, width, height, across, down, bins, min, max, clip, edition.
+// The room record as the calls for C pass it: its count, ten numbers a set and a factor a set: film, width, height, across,
+// down, bins, min, max, clip, edition. What store and drop answer goes out to its cells.
 ghost use mathlib.Core.Path.{_≡_};
 ghost use Prim.Native.Nat.{_<_};
 ghost use lib.Ieee.{nan};
 ghost use lib.ListN.{getD};
-ghost use Rattle.film_sets.specs.Sets.{emptyRoom};
-ghost use Rattle.film_room.specs.Room.{storedSays, storeOf, showOf, droppedSays, dropOf};
-ghost use Rattle.c_flat.specs.Flat.{settingsFrom, windowFrom};
-ghost use Rattle.c_flat.specs.Films.{footFrom, drawnAs, flatDrawn};
-ghost use Rattle.c_room.specs.Flat.{setFrom, roomCellsFrom, roomFrom, setNumbers, roomNumbers, factorAt, roomFactors, cellsOf, storedCellsFrom, storedCells, storedAs, flatStored, droppedCellsFrom, droppedCells, droppedAs, flatDropped};
-use film_draw::Drawn;
+ghost use Rattle.film_room.specs.Room.{storedSays, droppedSays};
+ghost use Rattle.c_flat.specs.Films.{footFrom};
+ghost use Rattle.c_room.specs.Flat.{setFrom, roomCellsFrom, roomFrom, setNumbers, roomNumbers, factorAt, roomFactors, cellsOf, storedCellsFrom, storedCells, droppedCellsFrom, droppedCells};
 use film_room::Dropped;
 use film_room::Keep;
 use film_room::Left;
 use film_room::Stored;
 use film_sets::Room;
 use film_sets::Set;
-use film_settings::Window;
 
 // One of the numbers.
 fn cell(numbers: &[u32; 80], i: usize) -> u32
@@ -59,7 +55,7 @@ fn set_from(numbers: &[u32; 80], factors: &[f32; 8], i: usize) -> Set
 }
 
 // The room that a record's cells hold.
-fn room_from(count: u32, numbers: &[u32; 80], factors: &[f32; 8]) -> Room
+pub fn room_from(count: u32, numbers: &[u32; 80], factors: &[f32; 8]) -> Room
     ensures { λ r. ⌜ r ≡ roomFrom (roomCellsFrom count (now (numbers .entry)) (now (factors .entry))) ⌝ }
 {
     let a = set_from(numbers, factors, 0);
@@ -142,7 +138,7 @@ fn room_factors(room: Room) -> [f32; 8]
 }
 
 // A room goes out to its cells, all of them.
-fn put_room(count: &mut u32, numbers: &mut [u32; 80], factors: &mut [f32; 8], room: Room)
+pub fn put_room(count: &mut u32, numbers: &mut [u32; 80], factors: &mut [f32; 8], room: Room)
     ensures { λ _. ⌜ roomCellsFrom (now (count .exit)) (now (numbers .exit)) (now (factors .exit)) ≡ cellsOf room ⌝ }
 {
     *count = room.count;
@@ -151,7 +147,7 @@ fn put_room(count: &mut u32, numbers: &mut [u32; 80], factors: &mut [f32; 8], ro
 }
 
 // What store answers goes out: a stored film's footer and the room to their cells. A refusal writes to none.
-fn put_stored(
+pub fn put_stored(
     limit: &mut u32,
     asked: &mut f32,
     used: &mut f64,
@@ -175,7 +171,7 @@ fn put_stored(
 }
 
 // What drop answers goes out, likewise.
-fn put_dropped(count: &mut u32, numbers: &mut [u32; 80], factors: &mut [f32; 8], l: Left) -> u32
+pub fn put_dropped(count: &mut u32, numbers: &mut [u32; 80], factors: &mut [f32; 8], l: Left) -> u32
     ensures { λ r. ⌜ droppedCellsFrom r (roomCellsFrom (now (count .exit)) (now (numbers .exit)) (now (factors .exit))) ≡ droppedCells (droppedSays (l .answer)) (l .room) (roomCellsFrom (now (count .entry)) (now (numbers .entry)) (now (factors .entry))) ⌝ }
 {
     let answer = l.answer;
@@ -187,100 +183,4 @@ fn put_dropped(count: &mut u32, numbers: &mut [u32; 80], factors: &mut [f32; 8],
         }
         Dropped::Refused(n) => n,
     }
-}
-
-// An empty room: count 0, and zeros in all cells.
-#[no_mangle]
-pub extern "C" fn tz_room_empty(count: &mut u32, numbers: &mut [u32; 80], factors: &mut [f32; 8])
-    ensures { λ _. ⌜ roomCellsFrom (now (count .exit)) (now (numbers .exit)) (now (factors .exit)) ≡ cellsOf emptyRoom ⌝ }
-{
-    put_room(count, numbers, factors, film_sets::empty());
-}
-
-#[no_mangle]
-pub extern "C" fn tz_room_store(
-    film: u32,
-    width: u32,
-    height: u32,
-    picture: &[u16],
-    across: u32,
-    down: u32,
-    bins: u32,
-    min: u32,
-    max: u32,
-    clip: u32,
-    factor: f32,
-    map: &mut [u16],
-    scratch: &mut [u32],
-    limit: &mut u32,
-    asked: &mut f32,
-    used: &mut f64,
-    list: &mut [u64],
-    edition: u32,
-    count: &mut u32,
-    numbers: &mut [u32; 80],
-    factors: &mut [f32; 8],
-) -> u32
-    ensures { λ r. ⌜ storedAs r (now (map .exit)) (now (scratch .exit)) (now (list .exit)) (footFrom (now (limit .exit)) (now (asked .exit)) (now (used .exit))) (roomCellsFrom (now (count .exit)) (now (numbers .exit)) (now (factors .exit))) ≡ flatStored (storeOf (roomFrom (roomCellsFrom (now (count .entry)) (now (numbers .entry)) (now (factors .entry)))) film width height (now (picture .entry)) (settingsFrom across down bins min max clip factor edition) (now (map .entry)) (now (scratch .entry)) (now (list .entry))) (footFrom (now (limit .entry)) (now (asked .entry)) (now (used .entry))) (roomCellsFrom (now (count .entry)) (now (numbers .entry)) (now (factors .entry))) ⌝ }
-{
-    let s = c_flat::settings_from(across, down, bins, min, max, clip, factor, edition);
-    let room = room_from(*count, numbers, factors);
-    let kept = film_room::store(room, film, width, height, picture, s, map, scratch, list);
-    put_stored(limit, asked, used, count, numbers, factors, kept)
-}
-
-#[no_mangle]
-pub extern "C" fn tz_room_draw(
-    film: u32,
-    width: u32,
-    height: u32,
-    picture: &[u16],
-    across: u32,
-    down: u32,
-    bins: u32,
-    min: u32,
-    max: u32,
-    clip: u32,
-    factor: f32,
-    left: u32,
-    top: u32,
-    window_width: u32,
-    window_height: u32,
-    map: &[u16],
-    out: &mut [u16],
-    edition: u32,
-    count: u32,
-    numbers: &[u32; 80],
-    factors: &[f32; 8],
-) -> u32
-    ensures { λ r. ⌜ drawnAs r (now (out .exit)) ≡ flatDrawn (showOf (roomFrom (roomCellsFrom count (now (numbers .entry)) (now (factors .entry)))) film width height (now (picture .entry)) (settingsFrom across down bins min max clip factor edition) (windowFrom left top «window_width» «window_height») (now (map .entry)) (now (out .entry))) ⌝ }
-{
-    let s = c_flat::settings_from(across, down, bins, min, max, clip, factor, edition);
-    let room = room_from(count, numbers, factors);
-    let window = Window {
-        left,
-        top,
-        width: window_width,
-        height: window_height,
-    };
-    let answer = film_room::draw(room, film, width, height, picture, s, window, map, out);
-    match answer {
-        Drawn::Done => 0,
-        Drawn::Refused(n) => n,
-    }
-}
-
-#[no_mangle]
-pub extern "C" fn tz_room_drop(
-    film: u32,
-    map: &mut [u16],
-    count: &mut u32,
-    numbers: &mut [u32; 80],
-    factors: &mut [f32; 8],
-) -> u32
-    ensures { λ r. ⌜ droppedAs r (now (map .exit)) (roomCellsFrom (now (count .exit)) (now (numbers .exit)) (now (factors .exit))) ≡ flatDropped (dropOf (roomFrom (roomCellsFrom (now (count .entry)) (now (numbers .entry)) (now (factors .entry)))) film (now (map .entry))) (roomCellsFrom (now (count .entry)) (now (numbers .entry)) (now (factors .entry))) ⌝ }
-{
-    let room = room_from(*count, numbers, factors);
-    let left = film_room::drop_film(room, film, map);
-    put_dropped(count, numbers, factors, left)
 }

@@ -1,3 +1,4 @@
 pub mod Runs
 pub mod Outcomes
 pub mod Ways
+pub mod Rooms

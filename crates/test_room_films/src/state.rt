@@ -41,7 +41,7 @@ pub fn empty(length: u64) -> Station {
     let mut count = 1;
     let mut numbers = some_numbers();
     let mut factors = some_factors();
-    c_room::tz_room_empty(&mut count, &mut numbers, &mut factors);
+    c_films::room::tz_room_empty(&mut count, &mut numbers, &mut factors);
     Station {
         line: row::fresh(),
         ran: true,

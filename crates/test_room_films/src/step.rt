@@ -121,7 +121,7 @@ fn call_store(
     let mut limit = 0;
     let mut asked = 0.0;
     let mut used = 0.0;
-    let number = c_room::tz_room_store(
+    let number = c_films::room::tz_room_store(
         low(f.number),
         t.width,
         t.height,
@@ -200,7 +200,7 @@ pub fn call_draw(
 ) -> u32 {
     let numbers = st.numbers;
     let factors = st.factors;
-    c_room::tz_room_draw(
+    c_films::room::tz_room_draw(
         number,
         t.width,
         t.height,
@@ -295,7 +295,7 @@ fn call_drop(st: Station, r: Row, map: &mut [u16]) -> Station {
     let mut numbers = st.numbers;
     let mut factors = st.factors;
     let film = word(r, column::FILM);
-    let number = c_room::tz_room_drop(film, map, &mut count, &mut numbers, &mut factors);
+    let number = c_films::room::tz_room_drop(film, map, &mut count, &mut numbers, &mut factors);
     test_text::print(test_text::one(b'X', at(r, column::NO), number));
     let next = state::with_room(st, count, numbers, factors);
     if number != 0 {

@@ -341,7 +341,7 @@ pub(crate) fn write(by_c: bool, row: Row) {
 
 fn list_c(bytes: &[u8], out: &mut [u8]) -> Laid {
     let mut count = 0;
-    let number = c_films::listed::tz_listing(bytes, out, &mut count);
+    let number = c_listing::tz_listing(bytes, out, &mut count);
     Laid { number, count }
 }
 

@@ -1,4 +1,4 @@
-// The listing of a film.
+// The listing for C: slices in, 0 or the refusal's number out.
 ghost use mathlib.Core.Path.{_≡_};
 ghost use Rattle.listing_file.specs.Listing.{listOf};
 ghost use Rattle.c_flat.specs.Files.{writtenAs, flatWritten};

@@ -1,12 +1,12 @@
--- `c_room::tz_room_draw` meets its contract: the room's draw is asked with the room of its cells, and its answer is returned.
+-- `c_films::room::tz_room_draw` meets its contract: the room's draw is asked with the room of its cells, and its answer is returned.
 -- Assumes nothing.
 use Rattle.c_flat.proofs.Handed.{drawn-done, drawn-refused}
 use borrow.Author.Needs.{needs}
-use Rattle.c_room.proofs.tz_room_draw.Statement.{statement}
-use Rattle.c_room.proofs.tz_room_draw.Tie as tie
-use Rattle.c_room.proofs.tz_room_draw.Reads as reads
-use Rattle.c_room.proofs.tz_room_draw.Lts as lts
+use Rattle.c_films.proofs.room.tz_room_draw.Statement.{statement}
+use Rattle.c_films.proofs.room.tz_room_draw.Tie as tie
+use Rattle.c_films.proofs.room.tz_room_draw.Reads as reads
+use Rattle.c_films.proofs.room.tz_room_draw.Lts as lts
 use Rattle.c_room.proofs.room_from.Reads as room-from-reads
 use Rattle.c_flat.proofs.settings_from.Reads as settings-from-reads
 use Rattle.film_room.proofs.draw.Reads as draw-reads
 

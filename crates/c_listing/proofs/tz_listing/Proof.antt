@@ -1,11 +1,11 @@
--- `c_films::tz_listing` meets its contract: the text's length goes to its cell, or the refusal is returned.
+-- `c_listing::tz_listing` meets its contract: the text's length goes to its cell, or the refusal is returned.
 -- Assumes nothing.
 use Rattle.c_flat.proofs.Handed.{written-bytes, written-refused}
 use borrow.Author.Needs.{needs}
-use Rattle.c_films.proofs.listed.tz_listing.Statement.{statement}
-use Rattle.c_films.proofs.listed.tz_listing.Tie as tie
-use Rattle.c_films.proofs.listed.tz_listing.Reads as reads
-use Rattle.c_films.proofs.listed.tz_listing.Lts as lts
+use Rattle.c_listing.proofs.tz_listing.Statement.{statement}
+use Rattle.c_listing.proofs.tz_listing.Tie as tie
+use Rattle.c_listing.proofs.tz_listing.Reads as reads
+use Rattle.c_listing.proofs.tz_listing.Lts as lts
 use Rattle.listing_file.proofs.list.Reads as list-reads
 
 list-requires : tie.Need-list-requires

@@ -1,13 +1,13 @@
--- `c_room::tz_room_empty` meets its contract: an empty room goes to its cells.
+-- `c_films::room::tz_room_empty` meets its contract: an empty room goes to its cells.
 -- Assumes nothing.
 use mathlib.Core.Path.{ap, _∙_}
 use Rattle.c_room.specs.Flat.{cellsOf}
 use borrow.Author.Needs.{needs}
-use Rattle.c_room.proofs.tz_room_empty.Statement.{statement}
-use Rattle.c_room.proofs.tz_room_empty.Tie as tie
-use Rattle.c_room.proofs.tz_room_empty.Reads as reads
-use Rattle.c_room.proofs.tz_room_empty.Lts as lts
+use Rattle.c_films.proofs.room.tz_room_empty.Statement.{statement}
+use Rattle.c_films.proofs.room.tz_room_empty.Tie as tie
+use Rattle.c_films.proofs.room.tz_room_empty.Reads as reads
+use Rattle.c_films.proofs.room.tz_room_empty.Lts as lts
 use Rattle.c_room.proofs.put_room.Reads as put-room-reads
 use Rattle.film_sets.proofs.empty.Reads as empty-reads
 
 empty-requires : tie.Need-empty-requires

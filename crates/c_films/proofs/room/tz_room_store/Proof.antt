@@ -1,13 +1,13 @@
--- `c_room::tz_room_store` meets its contract: a stored film's footer and the room go to their cells, or store's refusal is returned.
+-- `c_films::room::tz_room_store` meets its contract: a stored film's footer and the room go to their cells, or store's refusal is returned.
 -- Assumes nothing.
 use Rattle.c_room.proofs.Handed.{stored-handed}
 use borrow.Author.Needs.{needs}
-use Rattle.c_room.proofs.tz_room_store.Statement.{statement}
-use Rattle.c_room.proofs.tz_room_store.Tie as tie
-use Rattle.c_room.proofs.tz_room_store.Reads as reads
-use Rattle.c_room.proofs.tz_room_store.Lts as lts
+use Rattle.c_films.proofs.room.tz_room_store.Statement.{statement}
+use Rattle.c_films.proofs.room.tz_room_store.Tie as tie
+use Rattle.c_films.proofs.room.tz_room_store.Reads as reads
+use Rattle.c_films.proofs.room.tz_room_store.Lts as lts
 use Rattle.c_room.proofs.put_stored.Reads as put-stored-reads
 use Rattle.c_room.proofs.room_from.Reads as room-from-reads
 use Rattle.c_flat.proofs.settings_from.Reads as settings-from-reads
 use Rattle.film_room.proofs.store.Reads as store-reads
 

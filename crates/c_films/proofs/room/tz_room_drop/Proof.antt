@@ -1,13 +1,13 @@
--- `c_room::tz_room_drop` meets its contract: the room that drop leaves goes to its cells, or its refusal is returned.
+-- `c_films::room::tz_room_drop` meets its contract: the room that drop leaves goes to its cells, or its refusal is returned.
 -- Assumes nothing.
 use Rattle.c_room.proofs.Handed.{dropped-handed}
 use borrow.Author.Needs.{needs}
-use Rattle.c_room.proofs.tz_room_drop.Statement.{statement}
-use Rattle.c_room.proofs.tz_room_drop.Tie as tie
-use Rattle.c_room.proofs.tz_room_drop.Reads as reads
-use Rattle.c_room.proofs.tz_room_drop.Lts as lts
+use Rattle.c_films.proofs.room.tz_room_drop.Statement.{statement}
+use Rattle.c_films.proofs.room.tz_room_drop.Tie as tie
+use Rattle.c_films.proofs.room.tz_room_drop.Reads as reads
+use Rattle.c_films.proofs.room.tz_room_drop.Lts as lts
 use Rattle.c_room.proofs.put_dropped.Reads as put-dropped-reads
 use Rattle.c_room.proofs.room_from.Reads as room-from-reads
 use Rattle.film_room.proofs.drop_film.Reads as drop-film-reads
 
 room-from-requires : tie.Need-room-from-requires

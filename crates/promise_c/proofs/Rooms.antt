@@ -24,9 +24,9 @@ use Rattle.promise_room.proofs.Kept.{Kept, storesOf, store-kept, drop-kept}
 use Rattle.promise_room.proofs.Alone.{Among, OfFilm, of-film, Alone, alone-shows}
 use Rattle.c_flat.specs.Flat.{returned}
 use Rattle.c_flat.specs.Films.{Foot, FlatDrawn, flatDrawn, drawnAs}
 use Rattle.c_room.specs.Flat.{RoomCells, roomFrom, cellsOf, FlatStored, flatStored, FlatDropped, flatDropped}
 use Rattle.c_room.proofs.Handed.{room-back}
-use Rattle.c_room.proofs.Runs.{TzStoreCall, TzStores, tz-store-ends, TzShowCall, TzShows, tz-show-ends, TzDropCall, TzDrops, tz-drop-ends}
+use Rattle.promise_c.proofs.Runs.{TzStoreCall, TzStores, tz-store-ends, TzShowCall, TzShows, tz-show-ends, TzDropCall, TzDrops, tz-drop-ends}
 
 -- the film that is handed to tz_room_store
 abbrev pub tzFilm : TzStoreCall → StoredFilm
