@@ -1,5 +1,6 @@
 """Holds the papers to the repository. PROMISES.md: each theorem and definition that it names stands in the module that it
-names, each function is there, each must-fail edit is named, and no row is longer than a screen. All papers but the notes of
+names, each function is there, each must-fail edit is named, and no row is longer than a screen. Promises: the files DemandN and
+OrderN of the promise_ crates hold theorems alone, each named there and marked (contract), and what is so marked stands in them. All papers but the notes of
 landings, which tell of the tree as it was: what they have in backticks as `crate: name`, `crate::function`, `crate/edit`, a
 path or a single word is there, and so is each page that they link to. crates.txt: each crate names what it uses itself.
 Must-fail edits: what each replaces stands once. A program over the calls for C has the rows and the stored text of the one
@@ -20,6 +21,11 @@ TOP = os.path.dirname(os.path.dirname(os.path.abspath(__file__)))
 STATED = re.compile(r"^ *(?:(?:pub|unfoldable|abbrev|record|data) )*([^\s:(){}]+)(?: \([^)]*\)| \{[^}]*\})* :\s", re.M)
 # a part of a cell: a crate's name may stand before the module's, and the module's before its names
 PART = re.compile(r"^(?:`(?P<crate>\w+)` )?(?P<module>[A-Z]\w*): ")
+
+# the files of a promise_ crate that hold promises alone: by demand and by order
+PROMISES = re.compile(r"(?:Demand|Order)\d+$")
+# what a file declares at its margin or in a section: whether others may name it, what kind it is, and its name
+DECLARED = re.compile(r"^(?:  )?(?!use |mod |module |unfolding |--)((?:(?:pub|unfoldable|abbrev|record|data) )*)([^\s:(){}]+)(?: \([^)]*\)| \{[^}]*\})* :\s", re.M)
 
 # words in backticks that are other people's: packages, instructions of a processor, a browser's file names
 OUTSIDE = {"qemu-user", "chromium-driver", "python3-selenium", "side31", "tool-ID"}
@@ -75,6 +81,29 @@ def missing(part, stated, known):
         return [f"there is no module {head['module']} as '{part[:40]}' has it"]
     return [f"{name} does not stand in {head['module']}" for name in names[1 if head["crate"] else 0:]
             if not any(name in own for own in where.values())]
+
+
+def promises(parts, stated):
+    """Where PROMISES.md and the files of promises differ, and what else stands in these."""
+    held, marked, faults = {}, set(), []
+    for path in glob.glob(TOP + "/crates/promise_*/proofs/*.antt"):
+        crate, module = path.split("/")[-3], os.path.basename(path)[:-len(".antt")]
+        if PROMISES.match(module):
+            found = DECLARED.findall(read(path))
+            held.update({(crate, name): module for words, name in found})
+            faults += [f"{crate}/{module}: {name} is no theorem for others" for words, name in found if words != "pub "]
+    for part in parts:
+        head = PART.match(part)
+        if head is None or "(contract)" not in part:
+            continue
+        names = re.findall(r"`([^`]+)`", part.split(" (contract)")[0])[1 if head["crate"] else 0:]
+        crates = {at[0] for at, own in stated.items() if at[1] == head["module"] and head["crate"] in (None, at[0])}
+        for name in names if crates and all(crate.startswith("promise_") for crate in crates) else ():
+            marked.update((crate, name) for crate in crates)
+            faults += [f"PROMISES.md: {name} is marked (contract) and stands in {head['module']}, which holds no promises"
+                       for crate in crates if held.get((crate, name)) != head["module"]]
+    return faults + [f"PROMISES.md: {name}, a promise of {crate} {module}, is not marked (contract)"
+                     for (crate, name), module in sorted(held.items()) if (crate, name) not in marked]
 
 
 def tree():
@@ -204,6 +233,7 @@ def main():
     named = set(re.findall(r"`([^`]+/[^`]+)`", "\n".join(row[5] for row in rows)))
     parts = [part for row in rows for cell in row[2:4] for part in cell.split("; ")]
     faults = ["PROMISES.md: " + fault for part in parts for fault in missing(part, stated, known)]
+    faults += promises([part for row in rows for part in row[3].split("; ")], stated)
     faults += [f"PROMISES.md: {name} is named and is no edit" for name in sorted(named - edits)]
     faults += [f"PROMISES.md: {name} is an edit and is not named" for name in sorted(edits - named)]
     faults += [f"PROMISES.md: '{line[:40]}..' is a row of {len(line)} characters: part it" for line in lines if len(line) > 700]

@@ -1,5 +1,4 @@
--- Order 13: which pixels a region has; only these matter for its pixel; and a part of the film with a margin of half a side shows the same pixels.
--- Of every run of around by its contract (Runs); a name with ′ is lent memory at the end.
+-- Which pixels a region has; what is shown speaks of these alone, and of a part of the film with a margin of half a side what is shown of the film.
 -- Assumes nothing.
 use Prim.Native.Nat.{ℕ, _+_, _-_, _*_, _/_, _%_, _≤_, _<_, min}
 use mathlib.Core.List.{List}
@@ -7,21 +6,17 @@ use mathlib.Core.Logic.{inl, inr}
 use mathlib.Core.Path.{_≡_, refl, sym, ap, ap₂, _∙_}
 use native.Mathlib.Omega.{arith}
 use lib.ListN.{getD}
-use Rattle.base_rows.specs.Refuse.{accepted}
 use Rattle.tile_count.specs.declared.Rect.{Rect}
 use Rattle.tile_count.specs.Tally.{greysOf}
 use Rattle.tile_count.proofs.Greys.{greys-only, greys-same}
 use Rattle.film_settings.specs.declared.Settings.{Settings}
-use Rattle.film_settings.specs.declared.Footer.{Footer}
-use Rattle.film_prepare.specs.Prepare.{enhancedSays}
 use Rattle.pixel_rule.specs.Reach.{LiesIn, SameAt, AgreeOn}
 use Rattle.tile_slide.specs.Slide.{firstOf, endOf, regionRect}
 use Rattle.tile_slide.proofs.Regions.{first-is, end-is, region-left, region-top, region-wide, region-high, end-most}
 use Rattle.film_around.specs.Around.{regionPixels}
 use Rattle.film_around.proofs.Like.{around-grey-by}
 use Rattle.promise_around.specs.Regions.{gridless, shownAround, Near, Part, MarginBefore, MarginBehind, Margin}
-use Rattle.promise_around.proofs.Runs.{AroundCall, Arounds}
-use Rattle.promise_around.proofs.Outcomes.{around-shows, shown-gridless}
+use Rattle.promise_around.proofs.Outcomes.{shown-gridless}
 
 -- ---- the region
 
@@ -93,27 +88,9 @@ module _ (w h : ℕ) (pic pic′ : List ℕ) (side : ℕ) (s : Settings) (x y : 
       rw (around-grey-by w h pic w h pic′ side s x y x y same-greys own, own) refl
 
 -- settings that read the same show the same
-shown-alike : (w h : ℕ) (pic : List ℕ) (side : ℕ) (s s′ : Settings) (x y : ℕ) → gridless s ≡ gridless s′ → shownAround w h pic side s x y ≡ shownAround w h pic side s′ x y
+pub shown-alike : (w h : ℕ) (pic : List ℕ) (side : ℕ) (s s′ : Settings) (x y : ℕ) → gridless s ≡ gridless s′ → shownAround w h pic side s x y ≡ shownAround w h pic side s′ x y
 shown-alike w h pic side s s′ x y e =
     sym (shown-gridless w h pic side s x y) ∙ ap (λ (z : Settings). shownAround w h pic side z x y) e ∙ shown-gridless w h pic side s′ x y
-
--- two films of one size, with the same side and settings, that agree on the region of a pixel
-pub record Two (c d : AroundCall) (i j : ℕ) : Type 0 where
-  pub width : d .width ≡ c .width
-  pub height : d .height ≡ c .height
-  pub side : d .side ≡ c .side
-  pub like : gridless (c .settings) ≡ gridless (d .settings)
-  pub agree : AgreeOn (c .width) (c .pixels) (d .pixels) (regionRect (c .width) (c .height) (c .side) i j)
-
--- show the same grey there
-pub around-local : {c d : AroundCall} {foot foot′ : Footer} → Arounds c → enhancedSays (c .answer) ≡ accepted foot → Arounds d → enhancedSays (d .answer) ≡ accepted foot′
-    → (i j : ℕ) → i < c .width → j < c .height → Two c d i j → getD (c .target′) (j * c .width + i) 0 ≡ getD (d .target′) (j * d .width + i) 0
-around-local {c} {d} ran done ran′ done′ i j l k two =
-    around-shows ran done i j l k
-    ∙ shown-local (c .width) (c .height) (c .pixels) (d .pixels) (c .side) (c .settings) i j l k (two .agree)
-    ∙ shown-alike (c .width) (c .height) (d .pixels) (c .side) (c .settings) (d .settings) i j (two .like)
-    ∙ rw (two .width, two .height, two .side) refl
-    ∙ sym (around-shows ran′ done′ i j (rw (two .width) l) (rw (two .height) k))
 
 -- ---- a part of the film
 
@@ -182,21 +159,3 @@ module _ (w h : ℕ) (pic : List ℕ) (left top w′ h′ : ℕ) (pic′ : List 
   shown-part s =
       let own : getD pic′ (y * w′ + x) 0 ≡ getD pic ((top + y) * w + (left + x)) 0 = part .same x y (across .below) (down .below) in
       rw (around-grey-by w′ h′ pic′ w h pic side s x y (left + x) (top + y) part-greys own, own) refl
-
--- a film and a part of it, with the same side and settings, and a pixel of the part that has its margin
-pub record PartOf (c d : AroundCall) (left top i j : ℕ) : Type 0 where
-  pub part : Part (c .width) (c .height) (c .pixels) left top (d .width) (d .height) (d .pixels)
-  pub side : d .side ≡ c .side
-  pub like : gridless (d .settings) ≡ gridless (c .settings)
-  pub across : Margin (c .side) (c .width) left (d .width) i
-  pub down : Margin (c .side) (c .height) top (d .height) j
-
--- a part of the film with a margin of half a side shows the same pixels
-pub around-part : {c d : AroundCall} {foot foot′ : Footer} → Arounds c → enhancedSays (c .answer) ≡ accepted foot → Arounds d → enhancedSays (d .answer) ≡ accepted foot′
-    → (left top i j : ℕ) → PartOf c d left top i j → getD (d .target′) (j * d .width + i) 0 ≡ getD (c .target′) ((top + j) * c .width + (left + i)) 0
-around-part {c} {d} ran done ran′ done′ left top i j p =
-    around-shows ran′ done′ i j (p .across .below) (p .down .below)
-    ∙ shown-alike (d .width) (d .height) (d .pixels) (d .side) (d .settings) (c .settings) i j (p .like)
-    ∙ ap (λ n. shownAround (d .width) (d .height) (d .pixels) n (c .settings) i j) (p .side)
-    ∙ shown-part (c .width) (c .height) (c .pixels) left top (d .width) (d .height) (d .pixels) (p .part) (c .side) i j (p .across) (p .down) (c .settings)
-    ∙ sym (around-shows ran done (left + i) (top + j) (omega (arith, p .across .below, p .part .across)) (omega (arith, p .down .below, p .part .down)))

@@ -1,5 +1,4 @@
--- "Bins B: 2 to 4096. 0 means 128." of the byte calls, for every input: they answer and leave the same for 0 as for 128, on both sides of draw's record; and draw on bytes reads of
--- the map buffer the mappings' entries alone. Of every run by the contracts (Runs); a name with ′ is lent memory at the end.
+-- The byte calls' outcomes are the same for bins 0 as for 128, on both sides of draw's record, and draw on bytes reads of the map buffer the mappings' entries alone.
 -- Assumes nothing.
 use Prim.Native.Nat.{ℕ, zero, suc}
 use mathlib.Core.Bool.{Bool, true, false, cond}
@@ -16,10 +15,10 @@ use Rattle.film_settings.specs.declared.Window.{Window}
 use Rattle.film_settings.specs.Settings.{entriesOf, keptOf, keptRecord, settingRows}
 use Rattle.film_settings.proofs.Like.{setting-kept}
 use Rattle.film_prepare.specs.declared.Enhanced.the-variants as Enhanced
-use Rattle.film_prepare.specs.Prepare.{preparedNot, PrepareOut, prepareLeaves, EnhanceOut, enhanceLeaves}
+use Rattle.film_prepare.specs.Prepare.{preparedNot, prepareLeaves, enhanceLeaves}
 use Rattle.film_prepare.proofs.Like.{prepare-kept, enhance-kept}
 use Rattle.film_draw.specs.declared.Drawn.the-variants as Drawn
-use Rattle.film_draw.specs.Draw.{DrawOut, drawLeaves}
+use Rattle.film_draw.specs.Draw.{drawLeaves}
 use Rattle.film_draw.proofs.Like.{draw-kept, draw-kept-record, draw-front}
 use Rattle.byte_profile.specs.Profile.{profileRows}
 use Rattle.byte_profile.proofs.Profile.{profile-kept}
@@ -29,9 +28,7 @@ use Rattle.byte_prepare.proofs.Parts.{bytes-outside}
 use Rattle.byte_prepare.proofs.Endings.{prepare-inside, enhance-inside}
 use Rattle.byte_draw.specs.Bytes.{byteDrawOf}
 use Rattle.byte_draw.proofs.Parts.{draw-outside}
-use Rattle.promise_films.proofs.Runs.{PrepareCall, prepare-read, EnhanceCall, enhance-read, DrawCall, draw-read}
 use Rattle.promise_bytes.proofs.Inside.{prepare-bytes-table, enhance-bytes-table, draw-bytes-table, draw-inside}
-use Rattle.promise_bytes.proofs.Runs.{PreparesBytes, prepare-bytes-ends, EnhancesBytes, enhance-bytes-ends, DrawsBytes, draw-bytes-ends}
 
 -- ---- outside the profile
 
@@ -54,7 +51,7 @@ outside-kept w h size s = ap (λ rows. cond (eqb (first rows) 0) 30 (first rows)
 -- ---- the outcomes, by whether the settings are inside the profile
 
 module _ (w h : ℕ) (pic : List ℕ) (s : Settings) where
-  prepare-bytes-kept : (film : ℕ) (m t n : List ℕ) → bytePrepareOf film w h pic (keptOf s) m t n ≡ bytePrepareOf film w h pic s m t n
+  pub prepare-bytes-kept : (film : ℕ) (m t n : List ℕ) → bytePrepareOf film w h pic (keptOf s) m t n ≡ bytePrepareOf film w h pic s m t n
   prepare-bytes-kept film m t n = go (first (profileRows s)) refl
     where
       out : (x : Settings) → (first (profileRows x) ≡ 0 → ⊥) → bytePrepareOf film w h pic x m t n ≡ prepareLeaves (preparedNot (outsideNumber w h (length pic) x)) m t n
@@ -69,7 +66,7 @@ module _ (w h : ℕ) (pic : List ℕ) (s : Settings) where
           ∙ ap (λ x. prepareLeaves (preparedNot x) m t n) (outside-kept w h (length pic) s)
           ∙ sym (out s (λ z. omega (arith, z, e)))
 
-  enhance-bytes-kept : (m t : List ℕ) → byteEnhanceOf w h pic (keptOf s) m t ≡ byteEnhanceOf w h pic s m t
+  pub enhance-bytes-kept : (m t : List ℕ) → byteEnhanceOf w h pic (keptOf s) m t ≡ byteEnhanceOf w h pic s m t
   enhance-bytes-kept m t = go (first (profileRows s)) refl
     where
       out : (x : Settings) → (first (profileRows x) ≡ 0 → ⊥) → byteEnhanceOf w h pic x m t ≡ enhanceLeaves (Enhanced.Refused (outsideNumber w h (length pic) x)) pic m t
@@ -84,7 +81,7 @@ module _ (w h : ℕ) (pic : List ℕ) (s : Settings) where
           ∙ ap (λ x. enhanceLeaves (Enhanced.Refused x) pic m t) (outside-kept w h (length pic) s)
           ∙ sym (out s (λ z. omega (arith, z, e)))
 
-  draw-bytes-read : (film : ℕ) (r : MapRecord) (win : Window) (m out : List ℕ)
+  pub draw-bytes-read : (film : ℕ) (r : MapRecord) (win : Window) (m out : List ℕ)
       → byteDrawOf film w h pic (keptOf s) (keptRecord r) win (take (entriesOf s) m) out ≡ byteDrawOf film w h pic s r win m out
   draw-bytes-read film r win m out = go (first (profileRows s)) refl
     where
@@ -105,37 +102,3 @@ module _ (w h : ℕ) (pic : List ℕ) (s : Settings) where
           refuses (keptOf s) (keptRecord r) (take (entriesOf s) m) (λ z. omega (arith, sym (ap first (profile-kept s)) ∙ z, e))
           ∙ ap (λ x. drawLeaves (Drawn.Refused x) out) (outside-kept w h (length pic) s)
           ∙ sym (refuses s r m (λ z. omega (arith, z, e)))
-
--- ---- the calls
-
-pub prepare-bytes-alike : {p q : PrepareCall} → PreparesBytes p → PreparesBytes q → prepare-read p ≡ prepare-read q
-    → (p .answer ≡ q .answer) × (p .map′ ≡ q .map′) × (p .scratch′ ≡ q .scratch′) × (p .list′ ≡ q .list′)
-prepare-bytes-alike {p} {q} x y same =
-    let e =
-    prepare-bytes-ends x
-    ∙ sym (prepare-bytes-kept (p .width) (p .height) (p .pixels) (p .settings) (p .film) (p .map) (p .scratch) (p .list))
-    ∙ ap (λ g. bytePrepareOf (g .0) (g .1) (g .2) (g .3) (g .4) (g .5) (g .6) (g .7)) same
-    ∙ prepare-bytes-kept (q .width) (q .height) (q .pixels) (q .settings) (q .film) (q .map) (q .scratch) (q .list)
-    ∙ sym (prepare-bytes-ends y) in
-    (ap (λ (z : PrepareOut). z .answer) e, ap (λ (z : PrepareOut). z .map) e, ap (λ (z : PrepareOut). z .scratch) e, ap (λ (z : PrepareOut). z .list) e)
-
-pub enhance-bytes-alike : {e f : EnhanceCall} → EnhancesBytes e → EnhancesBytes f → enhance-read e ≡ enhance-read f
-    → (e .answer ≡ f .answer) × (e .pixels′ ≡ f .pixels′) × (e .map′ ≡ f .map′) × (e .scratch′ ≡ f .scratch′)
-enhance-bytes-alike {e} {f} x y same =
-    let k =
-    enhance-bytes-ends x
-    ∙ sym (enhance-bytes-kept (e .width) (e .height) (e .pixels) (e .settings) (e .map) (e .scratch))
-    ∙ ap (λ g. byteEnhanceOf (g .0) (g .1) (g .2) (g .3) (g .4) (g .5)) same
-    ∙ enhance-bytes-kept (f .width) (f .height) (f .pixels) (f .settings) (f .map) (f .scratch)
-    ∙ sym (enhance-bytes-ends y) in
-    (ap (λ (z : EnhanceOut). z .answer) k, ap (λ (z : EnhanceOut). z .picture) k, ap (λ (z : EnhanceOut). z .map) k, ap (λ (z : EnhanceOut). z .scratch) k)
-
-pub draw-bytes-alike : {d f : DrawCall} → DrawsBytes d → DrawsBytes f → draw-read d ≡ draw-read f → (d .answer ≡ f .answer) × (d .out′ ≡ f .out′)
-draw-bytes-alike {d} {f} x y same =
-    let e =
-    draw-bytes-ends x
-    ∙ sym (draw-bytes-read (d .width) (d .height) (d .pixels) (d .settings) (d .film) (d .kept) (d .window) (d .map) (d .out))
-    ∙ ap (λ g. byteDrawOf (g .0) (g .1) (g .2) (g .3) (g .4) (g .5) (g .6) (g .7) (g .8)) same
-    ∙ draw-bytes-read (f .width) (f .height) (f .pixels) (f .settings) (f .film) (f .kept) (f .window) (f .map) (f .out)
-    ∙ sym (draw-bytes-ends y) in
-    (ap (λ (z : DrawOut). z .answer) e, ap (λ (z : DrawOut). z .out) e)

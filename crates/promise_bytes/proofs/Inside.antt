@@ -1,5 +1,5 @@
--- Order 1: inside the profile the byte calls answer and leave what the wide calls do of the same numbers; outside it they refuse and keep all memory.
--- Laws of the outcomes that the contracts of the byte calls cite; of the calls themselves they are said in Outcomes, Wide and Calls.
+-- Inside the profile the byte calls answer and leave what the wide calls do of the same numbers; outside it they refuse and keep all memory.
+-- Laws of the outcomes that the contracts of the byte calls cite.
 -- Assumes nothing.
 use Prim.Native.Nat.{ℕ}
 use mathlib.Core.List.{List, _++_}

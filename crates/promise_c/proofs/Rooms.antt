@@ -1,4 +1,4 @@
--- Document 02, order 11, of the calls for C: "After any sequence of stores, draws and drops from an empty room whose buffer nobody else writes and whose record is handed on as
+-- What order 11's promises through C speak of and are proved with: "After any sequence of stores, draws and drops from an empty room whose buffer nobody else writes and whose record is handed on as
 -- last returned, each film stored and not dropped, its pixels unchanged since, draws as if it alone had been prepared."
 -- Of every run of the calls by their contracts (Runs); a name with ′ is lent memory, or the room record's cells, at the end, and 0 is returned where nothing is refused.
 -- Assumes nothing.
@@ -9,24 +9,18 @@ use native.Mathlib.Omega.{arith}
 use lib.ListN.{length, take, drop}
 use Rattle.base_lists.proofs.Tabs.{length-tab}
 use Rattle.base_rows.specs.Refuse.{first}
-use Rattle.film_settings.specs.declared.Footer.{Footer}
 use Rattle.film_prepare.specs.Prepare.{preparedOf}
-use Rattle.film_draw.specs.Draw.{drawnSays, drawLeaves}
 use Rattle.film_sets.specs.declared.Room.{Room}
-use Rattle.film_sets.specs.Sets.{held, spanOf, twice, before, withSet, withoutSet, movedDown, emptyRoom}
+use Rattle.film_sets.specs.Sets.{held, spanOf, twice, before, withSet, withoutSet, movedDown}
 use Rattle.film_sets.proofs.Laid.{none}
 use Rattle.film_sets.proofs.Holds.{held-none, twice-nil}
-use Rattle.film_room.specs.Room.{storeRows, storedSays, storedOf, storeOf, showOf, dropRows, droppedSays, droppedOf, dropOf}
-use Rattle.film_room.proofs.Shows.{show-kept}
-use Rattle.promise_films.proofs.Runs.{PrepareCall, DrawCall}
+use Rattle.film_room.specs.Room.{storeRows, storedSays, storedOf, storeOf, dropRows, droppedSays, droppedOf, dropOf}
 use Rattle.promise_room.specs.Films.{StoredFilm, filmSet, without}
 use Rattle.promise_room.proofs.Kept.{Kept, storesOf, store-kept, drop-kept}
-use Rattle.promise_room.proofs.Alone.{Among, OfFilm, of-film, Alone, alone-shows}
-use Rattle.c_flat.specs.Flat.{returned}
-use Rattle.c_flat.specs.Films.{Foot, FlatDrawn, flatDrawn, drawnAs}
-use Rattle.c_room.specs.Flat.{RoomCells, roomFrom, cellsOf, FlatStored, flatStored, FlatDropped, flatDropped}
+use Rattle.c_flat.specs.Films.{Foot}
+use Rattle.c_room.specs.Flat.{RoomCells, roomFrom, FlatStored, flatStored, FlatDropped, flatDropped}
 use Rattle.c_room.proofs.Handed.{room-back}
-use Rattle.promise_c.proofs.Runs.{TzStoreCall, TzStores, tz-store-ends, TzShowCall, TzShows, tz-show-ends, TzDropCall, TzDrops, tz-drop-ends}
+use Rattle.promise_c.proofs.Runs.{TzStoreCall, TzStores, tz-store-ends, TzShowCall, TzShows, TzDropCall, TzDrops, tz-drop-ends}
 
 -- the film that is handed to tz_room_store
 abbrev pub tzFilm : TzStoreCall → StoredFilm
@@ -50,11 +44,6 @@ pub data TzHistory : RoomCells → List ℕ → List StoredFilm → Type 0 where
   draws : {cells : RoomCells} {m : List ℕ} {fs : List StoredFilm} → TzHistory cells m fs → (c : TzShowCall) → TzShows c → c .room ≡ cells → c .map ≡ m → TzHistory cells m fs
   drops : {cells : RoomCells} {m : List ℕ} {fs : List StoredFilm} → TzHistory cells m fs → (c : TzDropCall) → TzDrops c → c .room ≡ cells → c .map ≡ m
       → TzHistory (c .room′) (c .map′) (droppedBy (c .number) (c .film) fs)
-
--- so a room begins with the cells that tz_room_empty writes, and with any whose count is 0
-pub tz-empty-begins : (m : List ℕ) → TzHistory (cellsOf emptyRoom) m []
-unfolding emptyRoom
-tz-empty-begins m = begin (cellsOf emptyRoom) m refl
 
 -- a room read from cells has eight places
 places-from : (cells : RoomCells) → length (roomFrom cells .sets) ≡ 8
@@ -100,29 +89,17 @@ drop-left cells {m} {fs} kept n = go (first (dropRows (roomFrom cells) n (length
     go (suc k) e = rw e kept
 
 -- the sets held are the films' own, in order, each with its own mappings
-pub tz-room-kept : {cells : RoomCells} {m : List ℕ} {fs : List StoredFilm} → TzHistory cells m fs → Kept (roomFrom cells) m fs
-tz-room-kept (begin cells m none-yet) = record { sets = empty; laid = none; numbers = ap twice empty ∙ twice-nil; few = omega (arith, count-from cells, none-yet); places = places-from cells }
+pub history-kept : {cells : RoomCells} {m : List ℕ} {fs : List StoredFilm} → TzHistory cells m fs → Kept (roomFrom cells) m fs
+history-kept (begin cells m none-yet) = record { sets = empty; laid = none; numbers = ap twice empty ∙ twice-nil; few = omega (arith, count-from cells, none-yet); places = places-from cells }
   where
     empty : held (roomFrom cells) ≡ []
     empty = held-none (roomFrom cells) (count-from cells ∙ none-yet)
-tz-room-kept (stores {cells} {m} {fs} before-it c ran same-room same-map) =
+history-kept (stores {cells} {m} {fs} before-it c ran same-room same-map) =
     subst (λ (z : FlatStored). Kept (roomFrom (z .room)) (z .map) (storedBy (z .number) (tzFilm c) fs))
     (sym (tz-store-ends ran ∙ ap₂ (λ x y. flatStored (storesOf (roomFrom x) (tzFilm c) y (c .scratch) (c .list)) (c .foot) x) same-room same-map))
-    (store-left cells (tz-room-kept before-it) (tzFilm c) (c .scratch) (c .list) (c .foot))
-tz-room-kept (draws before-it c ran same-room same-map) = tz-room-kept before-it
-tz-room-kept (drops {cells} {m} {fs} before-it c ran same-room same-map) =
+    (store-left cells (history-kept before-it) (tzFilm c) (c .scratch) (c .list) (c .foot))
+history-kept (draws before-it c ran same-room same-map) = history-kept before-it
+history-kept (drops {cells} {m} {fs} before-it c ran same-room same-map) =
     subst (λ (z : FlatDropped). Kept (roomFrom (z .room)) (z .map) (droppedBy (z .number) (c .film) fs))
     (sym (tz-drop-ends ran ∙ ap₂ (λ x y. flatDropped (dropOf (roomFrom x) (c .film) y) x) same-room same-map))
-    (drop-left cells (tz-room-kept before-it) (c .film))
-
--- "each film stored and not dropped, its pixels unchanged since, draws as if it alone had been prepared": tz_room_draw returns the number of that film's own draw and leaves its output
-pub tz-room-as-alone : {f : StoredFilm} {p : PrepareCall} {foot : Footer} {d : DrawCall} → Alone f p foot d → {cells : RoomCells} {m : List ℕ} {fs : List StoredFilm} → TzHistory cells m fs → Among f fs
-    → (c : TzShowCall) → TzShows c → c .room ≡ cells → c .map ≡ m → OfFilm f (c .film) (c .width) (c .height) (c .pixels) (c .settings)
-    → c .window ≡ d .window → c .out ≡ d .out → (c .number ≡ returned (drawnSays (d .answer))) × (c .out′ ≡ d .out′)
-unfolding flatDrawn
-tz-room-as-alone {f} {p} {foot} {d} alone {cells} {m} {fs} history among c ran same-room same-map of same-window same-out =
-    let shown : drawnAs (c .number) (c .out′) ≡ flatDrawn (drawLeaves (d .answer) (d .out′)) =
-    tz-show-ends ran
-    ∙ ap flatDrawn (of-film (λ n w h pic s. showOf (roomFrom (c .room)) n w h pic s (c .window) (c .map) (c .out)) (λ n w h pic s. show-kept (roomFrom (c .room)) n w h pic s (c .window) (c .map) (c .out)) of
-    ∙ rw (same-room, same-map, same-window, same-out) (alone-shows alone (tz-room-kept history) among)) in
-    (ap (λ (z : FlatDrawn). z .number) shown, ap (λ (z : FlatDrawn). z .out) shown)
+    (drop-left cells (history-kept before-it) (c .film))

@@ -1,10 +1,9 @@
--- Document 00, demand 2, of the calls for C on films of bytes and on counts, from call to call: what tz_prepare_bytes left is what tz_draw_bytes reads, and what tz_count and then tz_map
--- left is what tz_draw reads. Of every run of the calls by their contracts (Runs); a name with ′ is lent memory at the end, and 0 is returned where nothing is refused.
+-- Films of bytes and counts through C: what the calls hand out in their cells is what the next reads; and a call to draw that ended as draw does. 0 is returned where nothing is refused.
+-- A name with ′ is lent memory at the end.
 -- Assumes nothing.
 use Prim.Native.Nat.{ℕ, zero, suc, _+_, _*_, _<_}
 use mathlib.Core.Bool.{true, false}
 use mathlib.Core.List.{List}
-use mathlib.Core.Logic.{_≢_}
 use mathlib.Core.Path.{_≡_, refl, sym, ap, subst, _∙_}
 use native.Mathlib.Omega.{arith}
 use lib.ListN.{length, getD}
@@ -14,7 +13,6 @@ use Rattle.film_settings.specs.declared.MapRecord.{MapRecord}
 use Rattle.film_settings.specs.declared.Footer.{Footer}
 use Rattle.film_settings.specs.declared.Settings.{Settings}
 use Rattle.film_settings.specs.Settings.{recordOf, clipOne}
-use Rattle.film_settings.proofs.Records.{record-film}
 use Rattle.film_tiles.specs.Tiles.{footOf}
 use Rattle.film_prepare.specs.Prepare.{preparedSays, PrepareOut, prepareOf}
 use Rattle.film_count.specs.Counting.{countings, countRows, countedSays, CountOut, countOf, AlikeButClip}
@@ -30,18 +28,17 @@ use Rattle.pixel_rule.specs.Rule.{ruleGrey}
 use Rattle.promise_films.specs.Films.{HandedOn}
 use Rattle.promise_films.proofs.Accepted.{table-says, table-accepted, table-done, draw-table}
 use Rattle.promise_films.proofs.Runs.{DrawCall}
-use Rattle.promise_films.proofs.Made.{Made, made-film, Shown, HandedFilm, handed-done, shown-by-rule, shown-as-film}
+use Rattle.promise_films.proofs.Made.{Made, HandedFilm, handed-done, shown-by-rule, shown-as-film}
+use Rattle.promise_films.proofs.Ended.{Shown}
 use Rattle.promise_bytes.proofs.Inside.{prepare-bytes-table, prepare-bytes-profile, prepare-bytes-wide, draw-inside, draw-bytes-table, draw-bytes-wide}
 use Rattle.promise_bytes.proofs.Either.{Inside, kept-inside}
-use Rattle.promise_counts.proofs.Outcomes.{count-table, map-table}
+use Rattle.promise_counts.proofs.Tables.{count-table, map-table}
 use Rattle.c_flat.specs.Flat.{returned, clipFactor, recordNumbers, axesAfter, recordFrom}
 use Rattle.c_flat.specs.Films.{FlatPrepared, Cells, cellsFrom, cellsAfter, preparedAs, flatPrepared, footAfter, FlatDrawn, drawnAs, flatDrawn}
 use Rattle.c_flat.proofs.Handed.{record-back}
 use Rattle.c_films.proofs.Runs.{TzPrepareCall, TzDrawCall, TzDraws, tz-draw-ends}
-use Rattle.c_films.proofs.Outcomes.{tz-draw-refusal-keeps}
 use Rattle.c_counts.specs.Flat.{FlatCounted, flatCounted}
 use Rattle.promise_c.proofs.Runs.{TzPreparesBytes, tz-prepare-bytes-ends, TzDrawsBytes, tz-draw-bytes-ends, TzCountCall, TzCounts, tz-count-ends, TzMapCall, TzMaps, tz-map-ends}
-use Rattle.promise_c.proofs.Outcomes.{tz-draw-bytes-refusal-keeps}
 
 -- ---- numbers and cells
 
@@ -74,19 +71,26 @@ module _ {number : ℕ} {map scratch list : List ℕ} {cells : Cells} (ended : P
   flat-map = ap (λ (z : FlatPrepared). z .map) flat-left
 
   -- read back, it is that record
-  flat-record : recordFrom (cells .numbers) (cells .factor) (cells .axes) ≡ r
+  pub flat-record : recordFrom (cells .numbers) (cells .factor) (cells .axes) ≡ r
   flat-record = ap (λ (z : FlatPrepared). recordFrom (z .cells .numbers) (z .cells .factor) (z .cells .axes)) flat-left ∙ record-back r
+
+  -- where the call beneath ended as prepare does of a film, the cells and the map buffer are what prepare's outcome gives for it
+  pub flat-made : {film w h : ℕ} {pic : List ℕ} {s : Settings} (m t l : List ℕ) → ended ≡ prepareOf film w h pic s m t l
+      → Made film w h pic s (recordFrom (cells .numbers) (cells .factor) (cells .axes)) foot map
+  flat-made {film} {w} {h} {pic} {s} m t l wide =
+      subst (λ q. Made film w h pic s q foot map) (sym flat-record)
+      (record { map = m; scratch = t; list = l; accepts = sym (ap (λ (z : PrepareOut). preparedSays (z .answer)) wide) ∙ flat-done; leaves = flat-map ∙ ap (λ (z : PrepareOut). z .map) wide })
 
 -- the record that a call to draw is handed, from its numbers, its factor and its arrays
 abbrev pub tzRecord : TzDrawCall → MapRecord
 tzRecord d = recordFrom (d .numbers) (d .factor) (d .axes)
 
 -- what draw gives for the call's values
-abbrev tzShows : TzDrawCall → DrawOut
+abbrev pub tzShows : TzDrawCall → DrawOut
 tzShows d = drawOf (d .film) (d .width) (d .height) (d .pixels) (d .settings) (tzRecord d) (d .window) (d .map) (d .out)
 
 -- and draw's call of the same values
-abbrev asDraw : TzDrawCall → DrawCall
+abbrev pub asDraw : TzDrawCall → DrawCall
 asDraw d =
     record {
       film = d .film;
@@ -117,7 +121,7 @@ module _ {film w h : ℕ} {pic : List ℕ} {s : Settings} {foot : Footer} {left 
   accepts = handed-done made drawn handed
 
   -- refuses nothing
-  flat-drawn : d .number ≡ 0
+  pub flat-drawn : d .number ≡ 0
   unfolding flatDrawn
   flat-drawn = ap (λ (z : FlatDrawn). z .number) ends ∙ ap returned accepts
 
@@ -126,45 +130,37 @@ module _ {film w h : ℕ} {pic : List ℕ} {s : Settings} {foot : Footer} {left 
   out = ap (λ (z : FlatDrawn). z .out) ends
 
   -- and draws each pixel by the integer rule
-  flat-by-rule : clipOne (s .clip) ≡ false → (j i : ℕ) → j < d .window .height → i < d .window .width → tzGrey d i j ≡ ruleGrey w h pic s (d .window .left + i) (d .window .top + j)
+  pub flat-by-rule : clipOne (s .clip) ≡ false → (j i : ℕ) → j < d .window .height → i < d .window .width → tzGrey d i j ≡ ruleGrey w h pic s (d .window .left + i) (d .window .top + j)
   flat-by-rule one j i l k =
       ap (λ ys. getD ys (j * d .window .width + i) 0) out ∙ shown-by-rule made drawn accepts (handed .pixels) (handed .rest .front) one j i l k
 
   -- at the factor 1.0 as the film's own
-  flat-as-film : clipOne (s .clip) ≡ true → (j i : ℕ) → j < d .window .height → i < d .window .width → tzGrey d i j ≡ getD pic ((d .window .top + j) * w + (d .window .left + i)) 0
+  pub flat-as-film : clipOne (s .clip) ≡ true → (j i : ℕ) → j < d .window .height → i < d .window .width → tzGrey d i j ≡ getD pic ((d .window .top + j) * w + (d .window .left + i)) 0
   flat-as-film one j i l k =
       ap (λ ys. getD ys (j * d .window .width + i) 0) out ∙ shown-as-film made drawn accepts (handed .pixels) (handed .rest .front) one j i l k
 
 -- ---- prepared, then drawn, on bytes
 
 module _ {p : TzPrepareCall} (ran : TzPreparesBytes p) (prepared : p .number ≡ 0) where
-  bytes-said : preparedSays (bytePrepareOf (p .film) (p .width) (p .height) (p .pixels) (p .settings) (p .map) (p .scratch) (p .list) .answer)
+  pub bytes-said : preparedSays (bytePrepareOf (p .film) (p .width) (p .height) (p .pixels) (p .settings) (p .map) (p .scratch) (p .list) .answer)
       ≡ says (first (bytePrepareRows (p .width) (p .height) (p .pixels) (p .settings) (length (p .map)) (length (p .scratch)) (length (p .list))))
       (recordOf (p .film) (p .width) (p .height) (p .settings), footOf (p .width) (p .height) (p .settings))
   bytes-said = table-says (prepare-bytes-table (p .film) (p .width) (p .height) (p .pixels) (p .settings) (p .map) (p .scratch) (p .list))
 
-  told : preparedSays (bytePrepareOf (p .film) (p .width) (p .height) (p .pixels) (p .settings) (p .map) (p .scratch) (p .list) .answer)
+  pub told : preparedSays (bytePrepareOf (p .film) (p .width) (p .height) (p .pixels) (p .settings) (p .map) (p .scratch) (p .list) .answer)
       ≡ accepted (recordOf (p .film) (p .width) (p .height) (p .settings), footOf (p .width) (p .height) (p .settings))
   told = flat-done _ _ (first (bytePrepareRows (p .width) (p .height) (p .pixels) (p .settings) (length (p .map)) (length (p .scratch)) (length (p .list)))) (recordOf (p .film) (p .width) (p .height) (p .settings)) (footOf (p .width) (p .height) (p .settings)) (tz-prepare-bytes-ends ran) bytes-said prepared
 
   -- the settings are inside the profile
-  inside : Inside (p .settings)
+  pub inside : Inside (p .settings)
   inside = profile-none (p .settings) (prepare-bytes-profile (p .film) (p .width) (p .height) (p .pixels) (p .settings) (p .map) (p .scratch) (p .list) told)
 
   -- the cells and the map buffer are what prepare's outcome gives for the film
-  pub tz-bytes-made : Made (p .film) (p .width) (p .height) (p .pixels) (p .settings) (recordFrom (p .cells′ .numbers) (p .cells′ .factor) (p .cells′ .axes))
+  pub bytes-prepared : Made (p .film) (p .width) (p .height) (p .pixels) (p .settings) (recordFrom (p .cells′ .numbers) (p .cells′ .factor) (p .cells′ .axes))
       (footOf (p .width) (p .height) (p .settings)) (p .map′)
-  tz-bytes-made =
-      let wide = prepare-bytes-wide (p .film) (p .width) (p .height) (p .pixels) (p .settings) (p .map) (p .scratch) (p .list) told in
-      subst (λ r. Made (p .film) (p .width) (p .height) (p .pixels) (p .settings) r (footOf (p .width) (p .height) (p .settings)) (p .map′))
-      (sym (flat-record _ _ (first (bytePrepareRows (p .width) (p .height) (p .pixels) (p .settings) (length (p .map)) (length (p .scratch)) (length (p .list)))) (recordOf (p .film) (p .width) (p .height) (p .settings)) (footOf (p .width) (p .height) (p .settings)) (tz-prepare-bytes-ends ran) bytes-said prepared))
-      (record {
-        map = p .map;
-        scratch = p .scratch;
-        list = p .list;
-        accepts = sym (ap (λ (z : PrepareOut). preparedSays (z .answer)) wide) ∙ told;
-        leaves = flat-map _ _ (first (bytePrepareRows (p .width) (p .height) (p .pixels) (p .settings) (length (p .map)) (length (p .scratch)) (length (p .list)))) (recordOf (p .film) (p .width) (p .height) (p .settings)) (footOf (p .width) (p .height) (p .settings)) (tz-prepare-bytes-ends ran) bytes-said prepared ∙ ap (λ (z : PrepareOut). z .map) wide;
-      })
+  bytes-prepared =
+      flat-made _ _ (first (bytePrepareRows (p .width) (p .height) (p .pixels) (p .settings) (length (p .map)) (length (p .scratch)) (length (p .list)))) (recordOf (p .film) (p .width) (p .height) (p .settings)) (footOf (p .width) (p .height) (p .settings)) (tz-prepare-bytes-ends ran) bytes-said prepared (p .map) (p .scratch) (p .list)
+      (prepare-bytes-wide (p .film) (p .width) (p .height) (p .pixels) (p .settings) (p .map) (p .scratch) (p .list) told)
 
 -- what tz_prepare_bytes left, handed to tz_draw_bytes: tz_prepare_bytes returned 0 for the film of p, and tz_draw_bytes is handed the same film with the numbers, the factor and the arrays that lie in
 -- the record's cells, the settings, the mappings that lie in the map buffer, a window inside the film and an output of its area
@@ -182,35 +178,21 @@ pub record TzHandedToDrawBytes (p : TzPrepareCall) (d : TzDrawCall) : Type 0 whe
   pub rest : HandedOn (p .width) (p .height) (p .settings) (p .map′) (d .settings) (d .map) (d .window) (length (d .out))
 
 module _ {p : TzPrepareCall} {d : TzDrawCall} (handed : TzHandedToDrawBytes p d) where
-  bytes-made : Made (p .film) (p .width) (p .height) (p .pixels) (p .settings) (tzRecord d) (footOf (p .width) (p .height) (p .settings)) (p .map′)
-  bytes-made = rw (handed .numbers, handed .factor, handed .axes) (tz-bytes-made (handed .prepares) (handed .prepared))
+  pub bytes-made : Made (p .film) (p .width) (p .height) (p .pixels) (p .settings) (tzRecord d) (footOf (p .width) (p .height) (p .settings)) (p .map′)
+  bytes-made = rw (handed .numbers, handed .factor, handed .axes) (bytes-prepared (handed .prepares) (handed .prepared))
 
-  bytes-ends : drawnAs (d .number) (d .out′) ≡ flatDrawn (tzShows d)
+  pub bytes-ends : drawnAs (d .number) (d .out′) ≡ flatDrawn (tzShows d)
   bytes-ends =
       tz-draw-bytes-ends (handed .draws)
       ∙ ap flatDrawn
       (draw-inside (d .film) (d .width) (d .height) (d .pixels) (d .settings) (tzRecord d) (d .window) (d .map) (d .out)
       (kept-inside (p .settings) (d .settings) (handed .rest .like) (inside (handed .prepares) (handed .prepared))))
 
-  bytes-handed : HandedFilm (p .film) (p .width) (p .height) (p .pixels) (p .settings) (p .map′) (asDraw d)
+  pub bytes-handed : HandedFilm (p .film) (p .width) (p .height) (p .pixels) (p .settings) (p .map′) (asDraw d)
   bytes-handed = record { film = handed .film; width = handed .width; height = handed .height; pixels = handed .pixels; rest = handed .rest }
 
-  -- tz_draw_bytes refuses nothing
-  pub tz-bytes-drawn-done : d .number ≡ 0
-  tz-bytes-drawn-done = flat-drawn d bytes-made bytes-ends bytes-handed
-
-  -- "through a window from the record and mappings prepared for those pixels and unchanged since": each drawn pixel is the one of the integer rule
-  pub tz-bytes-drawn-by-rule : clipOne (p .settings .clip) ≡ false → (j i : ℕ) → j < d .window .height → i < d .window .width
-      → tzGrey d i j ≡ ruleGrey (p .width) (p .height) (p .pixels) (p .settings) (d .window .left + i) (d .window .top + j)
-  tz-bytes-drawn-by-rule = flat-by-rule d bytes-made bytes-ends bytes-handed
-
-  -- at the factor 1.0 the film's own pixels
-  pub tz-bytes-drawn-as-film : clipOne (p .settings .clip) ≡ true → (j i : ℕ) → j < d .window .height → i < d .window .width
-      → tzGrey d i j ≡ getD (p .pixels) ((d .window .top + j) * p .width + (d .window .left + i)) 0
-  tz-bytes-drawn-as-film = flat-as-film d bytes-made bytes-ends bytes-handed
-
 -- a call on bytes that returned 0 was handed a record of its own film's number
-bytes-number : {d : TzDrawCall} → TzDrawsBytes d → d .number ≡ 0 → d .film ≡ tzRecord d .film
+pub bytes-number : {d : TzDrawCall} → TzDrawsBytes d → d .number ≡ 0 → d .film ≡ tzRecord d .film
 unfolding flatDrawn
 bytes-number {d} ran free =
     draw-ready (d .film) (d .width) (d .height) (d .pixels) (d .settings) (tzRecord d) (d .window) (d .map) (length (d .out))
@@ -233,17 +215,9 @@ bytes-number {d} ran free =
         ∙ accepted-bytes
 
 -- a number that is 0 or above
-above-or : (n : ℕ) → (n ≡ 0 → ⊥) → 0 < n
+pub above-or : (n : ℕ) → (n ≡ 0 → ⊥) → 0 < n
 above-or zero z = absurd (z refl)
 above-or (suc n) z = omega arith
-
--- "A window drawn with the record of a film of another number is refused.": handed the numbers that tz_prepare_bytes left and another film's number, whatever else
-pub tz-bytes-other-film-refused : {p : TzPrepareCall} {d : TzDrawCall} → TzPreparesBytes p → p .number ≡ 0 → TzDrawsBytes d → d .numbers ≡ p .cells′ .numbers → d .film ≢ p .film
-    → (0 < d .number) × (d .out′ ≡ d .out)
-tz-bytes-other-film-refused {p} {d} ran prepared drew numbers other = (some, tz-draw-bytes-refusal-keeps drew some)
-  where
-    some : 0 < d .number
-    some = above-or (d .number) (λ z. other (bytes-number drew z ∙ ap (λ ns. getD ns 0 0) numbers ∙ made-film (tz-bytes-made ran prepared)))
 
 -- ---- counted, mapped, drawn
 
@@ -286,7 +260,7 @@ module _ {c : TzCountCall} {m : TzMapCall} (from : TzMappedFrom c m) where
       ∙ ap (onto (c .counts)) counts-same
 
   -- so mapping is prepare
-  as-prepared : mapOf (m .film) (m .width) (m .height) (m .settings) (m .counts) (m .map) (m .scratch) (m .list)
+  pub as-prepared : mapOf (m .film) (m .width) (m .height) (m .settings) (m .counts) (m .map) (m .scratch) (m .list)
       ≡ prepareOf (m .film) (m .width) (m .height) (c .pixels) (m .settings) (m .map) (m .scratch) (m .list)
   as-prepared =
       ap (λ cs. mapOf (m .film) (m .width) (m .height) (m .settings) cs (m .map) (m .scratch) (m .list)) left-counts
@@ -294,24 +268,15 @@ module _ {c : TzCountCall} {m : TzMapCall} (from : TzMappedFrom c m) where
       (ap first (sym (rows-alike (m .width) (m .height) (c .pixels) (from .like) (length (c .counts)))) ∙ rw (← from .width, ← from .height) count-free)
       (m .film) (m .map) (m .scratch) (m .list)
 
-  map-said : preparedSays (mapOf (m .film) (m .width) (m .height) (m .settings) (m .counts) (m .map) (m .scratch) (m .list) .answer)
+  pub map-said : preparedSays (mapOf (m .film) (m .width) (m .height) (m .settings) (m .counts) (m .map) (m .scratch) (m .list) .answer)
       ≡ says (first (mapRows (m .width) (m .height) (m .settings) (m .counts) (length (m .map)) (length (m .scratch)) (length (m .list))))
       (recordOf (m .film) (m .width) (m .height) (m .settings), footOf (m .width) (m .height) (m .settings))
   map-said = table-says (map-table (m .film) (m .width) (m .height) (m .settings) (m .counts) (m .map) (m .scratch) (m .list))
 
   -- the cells and the map buffer are what prepare's outcome gives for the film
-  pub tz-mapped-made : Made (m .film) (m .width) (m .height) (c .pixels) (m .settings) (recordFrom (m .cells′ .numbers) (m .cells′ .factor) (m .cells′ .axes))
+  pub counts-prepared : Made (m .film) (m .width) (m .height) (c .pixels) (m .settings) (recordFrom (m .cells′ .numbers) (m .cells′ .factor) (m .cells′ .axes))
       (footOf (m .width) (m .height) (m .settings)) (m .map′)
-  tz-mapped-made =
-      subst (λ r. Made (m .film) (m .width) (m .height) (c .pixels) (m .settings) r (footOf (m .width) (m .height) (m .settings)) (m .map′))
-      (sym (flat-record _ _ (first (mapRows (m .width) (m .height) (m .settings) (m .counts) (length (m .map)) (length (m .scratch)) (length (m .list)))) (recordOf (m .film) (m .width) (m .height) (m .settings)) (footOf (m .width) (m .height) (m .settings)) (tz-map-ends (from .maps)) map-said (from .mapped)))
-      (record {
-        map = m .map;
-        scratch = m .scratch;
-        list = m .list;
-        accepts = sym (ap (λ (z : PrepareOut). preparedSays (z .answer)) as-prepared) ∙ flat-done _ _ (first (mapRows (m .width) (m .height) (m .settings) (m .counts) (length (m .map)) (length (m .scratch)) (length (m .list)))) (recordOf (m .film) (m .width) (m .height) (m .settings)) (footOf (m .width) (m .height) (m .settings)) (tz-map-ends (from .maps)) map-said (from .mapped);
-        leaves = flat-map _ _ (first (mapRows (m .width) (m .height) (m .settings) (m .counts) (length (m .map)) (length (m .scratch)) (length (m .list)))) (recordOf (m .film) (m .width) (m .height) (m .settings)) (footOf (m .width) (m .height) (m .settings)) (tz-map-ends (from .maps)) map-said (from .mapped) ∙ ap (λ (z : PrepareOut). z .map) as-prepared;
-      })
+  counts-prepared = flat-made _ _ (first (mapRows (m .width) (m .height) (m .settings) (m .counts) (length (m .map)) (length (m .scratch)) (length (m .list)))) (recordOf (m .film) (m .width) (m .height) (m .settings)) (footOf (m .width) (m .height) (m .settings)) (tz-map-ends (from .maps)) map-said (from .mapped) (m .map) (m .scratch) (m .list) as-prepared
 
 -- what tz_count and tz_map left, handed to tz_draw with the same film: the record from its cells, the settings, the mappings, a window inside the film and an output of its area
 pub record TzMappedToDraw (c : TzCountCall) (m : TzMapCall) (d : TzDrawCall) : Type 0 where
@@ -327,28 +292,14 @@ pub record TzMappedToDraw (c : TzCountCall) (m : TzMapCall) (d : TzDrawCall) : T
   pub rest : HandedOn (m .width) (m .height) (m .settings) (m .map′) (d .settings) (d .map) (d .window) (length (d .out))
 
 module _ {c : TzCountCall} {m : TzMapCall} {d : TzDrawCall} (handed : TzMappedToDraw c m d) where
-  mapped-made : Made (m .film) (m .width) (m .height) (c .pixels) (m .settings) (tzRecord d) (footOf (m .width) (m .height) (m .settings)) (m .map′)
-  mapped-made = rw (handed .numbers, handed .factor, handed .axes) (tz-mapped-made (handed .from))
+  pub mapped-made : Made (m .film) (m .width) (m .height) (c .pixels) (m .settings) (tzRecord d) (footOf (m .width) (m .height) (m .settings)) (m .map′)
+  mapped-made = rw (handed .numbers, handed .factor, handed .axes) (counts-prepared (handed .from))
 
-  mapped-handed : HandedFilm (m .film) (m .width) (m .height) (c .pixels) (m .settings) (m .map′) (asDraw d)
+  pub mapped-handed : HandedFilm (m .film) (m .width) (m .height) (c .pixels) (m .settings) (m .map′) (asDraw d)
   mapped-handed = record { film = handed .film; width = handed .width; height = handed .height; pixels = handed .pixels; rest = handed .rest }
 
-  -- tz_draw refuses nothing
-  pub tz-mapped-drawn-done : d .number ≡ 0
-  tz-mapped-drawn-done = flat-drawn d mapped-made (tz-draw-ends (handed .draws)) mapped-handed
-
-  -- each drawn pixel is the one of the integer rule
-  pub tz-mapped-drawn-by-rule : clipOne (m .settings .clip) ≡ false → (j i : ℕ) → j < d .window .height → i < d .window .width
-      → tzGrey d i j ≡ ruleGrey (m .width) (m .height) (c .pixels) (m .settings) (d .window .left + i) (d .window .top + j)
-  tz-mapped-drawn-by-rule = flat-by-rule d mapped-made (tz-draw-ends (handed .draws)) mapped-handed
-
-  -- at the factor 1.0 the film's own pixels
-  pub tz-mapped-drawn-as-film : clipOne (m .settings .clip) ≡ true → (j i : ℕ) → j < d .window .height → i < d .window .width
-      → tzGrey d i j ≡ getD (c .pixels) ((d .window .top + j) * m .width + (d .window .left + i)) 0
-  tz-mapped-drawn-as-film = flat-as-film d mapped-made (tz-draw-ends (handed .draws)) mapped-handed
-
 -- a call that returned 0 was handed a record of its own film's number
-wide-number : {d : TzDrawCall} → TzDraws d → d .number ≡ 0 → d .film ≡ tzRecord d .film
+pub wide-number : {d : TzDrawCall} → TzDraws d → d .number ≡ 0 → d .film ≡ tzRecord d .film
 unfolding flatDrawn
 wide-number {d} ran free =
     draw-ready (d .film) (d .width) (d .height) (d .pixels) (d .settings) (tzRecord d) (d .window) (d .map) (length (d .out))
@@ -357,20 +308,13 @@ wide-number {d} ran free =
     said : drawnSays (tzShows d .answer) ≡ says (first (drawRows (d .film) (d .width) (d .height) (d .pixels) (d .settings) (tzRecord d) (d .window) (d .map) (length (d .out)))) tt
     said = table-says (draw-table (d .film) (d .width) (d .height) (d .pixels) (d .settings) (tzRecord d) (d .window) (d .map) (d .out))
 
--- handed the numbers that tz_map left, of whatever counts, and another film's number, whatever else: refused
-pub tz-mapped-other-film-refused : {m : TzMapCall} {d : TzDrawCall} → TzMaps m → m .number ≡ 0 → TzDraws d → d .numbers ≡ m .cells′ .numbers → d .film ≢ m .film
-    → (0 < d .number) × (d .out′ ≡ d .out)
-tz-mapped-other-film-refused {m} {d} ran mapped drew numbers other = (some, tz-draw-refusal-keeps drew some)
-  where
-    said : preparedSays (mapOf (m .film) (m .width) (m .height) (m .settings) (m .counts) (m .map) (m .scratch) (m .list) .answer)
-        ≡ says (first (mapRows (m .width) (m .height) (m .settings) (m .counts) (length (m .map)) (length (m .scratch)) (length (m .list))))
-        (recordOf (m .film) (m .width) (m .height) (m .settings), footOf (m .width) (m .height) (m .settings))
-    said = table-says (map-table (m .film) (m .width) (m .height) (m .settings) (m .counts) (m .map) (m .scratch) (m .list))
+-- what tz_map left, of whatever counts
+module _ {m : TzMapCall} (ran : TzMaps m) (mapped : m .number ≡ 0) where
+  told-by-map : preparedSays (mapOf (m .film) (m .width) (m .height) (m .settings) (m .counts) (m .map) (m .scratch) (m .list) .answer)
+      ≡ says (first (mapRows (m .width) (m .height) (m .settings) (m .counts) (length (m .map)) (length (m .scratch)) (length (m .list))))
+      (recordOf (m .film) (m .width) (m .height) (m .settings), footOf (m .width) (m .height) (m .settings))
+  told-by-map = table-says (map-table (m .film) (m .width) (m .height) (m .settings) (m .counts) (m .map) (m .scratch) (m .list))
 
-    left : recordFrom (m .cells′ .numbers) (m .cells′ .factor) (m .cells′ .axes) ≡ recordOf (m .film) (m .width) (m .height) (m .settings)
-    left = flat-record _ _ (first (mapRows (m .width) (m .height) (m .settings) (m .counts) (length (m .map)) (length (m .scratch)) (length (m .list)))) (recordOf (m .film) (m .width) (m .height) (m .settings)) (footOf (m .width) (m .height) (m .settings)) (tz-map-ends ran) said mapped
-
-    some : 0 < d .number
-    some =
-        above-or (d .number)
-        (λ z. other (wide-number drew z ∙ ap (λ ns. getD ns 0 0) numbers ∙ ap (λ (r : MapRecord). r .film) left ∙ record-film (m .film) (m .width) (m .height) (m .settings)))
+  -- read back, the cells hold the map record of the film
+  pub map-record : recordFrom (m .cells′ .numbers) (m .cells′ .factor) (m .cells′ .axes) ≡ recordOf (m .film) (m .width) (m .height) (m .settings)
+  map-record = flat-record _ _ (first (mapRows (m .width) (m .height) (m .settings) (m .counts) (length (m .map)) (length (m .scratch)) (length (m .list)))) (recordOf (m .film) (m .width) (m .height) (m .settings)) (footOf (m .width) (m .height) (m .settings)) (tz-map-ends ran) told-by-map mapped

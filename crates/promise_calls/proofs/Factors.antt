@@ -1,6 +1,5 @@
--- "a clip refusal never occurs": whether a call is refused, and with which number, does not hang on the factor, but for 10. Two runs that are alike but for their clip settings (and, where it is
--- no row's, the edition), both let pass by 10, are both refused with one number or both accepted: prepare, enhance, the byte calls, mapping, and draw, where each record has the clip setting of
--- its call and 18 is looked for in both or in neither. Of every run of the calls by their contracts.
+-- Two runs that are alike but for their clip settings (and, where it is no row's, the edition), both let pass by 10: the rows of both give one number. Of draw where each record has the clip setting of its call and
+-- 18 is looked for in both or in neither.
 -- Assumes nothing.
 use Prim.Native.Nat.{ℕ, zero, suc}
 use mathlib.Core.Bool.{true, false, cond}
@@ -14,13 +13,13 @@ use Rattle.tile_limit.specs.declared.Clip.{Clip}
 use Rattle.film_settings.specs.declared.Settings.{Settings}
 use Rattle.film_settings.specs.Settings.{binsOf, clipBad, clipOne, sameClip}
 use Rattle.film_settings.proofs.Parts.{bins-alike, setting-alike}
-use Rattle.film_prepare.specs.Prepare.{preparedSays, enhancedSays, prepareRows, enhanceRows}
+use Rattle.film_prepare.specs.Prepare.{prepareRows, enhanceRows}
 use Rattle.film_prepare.proofs.Alike.{listed-alike, over-alike, table-alike}
 use Rattle.film_count.specs.Counting.{AlikeButClip}
 use Rattle.film_map.specs.Counts.{mapRows}
 use Rattle.film_map.proofs.Tables.{map-alike}
 use Rattle.film_record.proofs.Laws.{reclipped, reclippedRecord}
-use Rattle.film_draw.specs.Draw.{drawnSays, drawRows}
+use Rattle.film_draw.specs.Draw.{drawRows}
 use Rattle.film_draw.proofs.Like.{rows-alike}
 use Rattle.byte_profile.specs.Profile.{profileRows}
 use Rattle.byte_profile.proofs.Profile.{profile-alike, byte-alike}
@@ -29,18 +28,14 @@ use Rattle.byte_prepare.proofs.Tables.{rows-enough}
 use Rattle.byte_prepare.proofs.Parts.{byte-rows}
 use Rattle.byte_draw.specs.Bytes.{byteDrawRows}
 use Rattle.byte_draw.proofs.Parts.{draw-outside}
-use Rattle.promise_films.proofs.Demand1.{prepare-says, enhance-says, draw-says}
-use Rattle.promise_films.proofs.Runs.{PrepareCall, Prepares, EnhanceCall, Enhances, DrawCall, Draws}
+use Rattle.promise_films.proofs.Runs.{PrepareCall, EnhanceCall, DrawCall}
 use Rattle.promise_bytes.proofs.Inside.{draw-rows-inside}
-use Rattle.promise_bytes.proofs.Runs.{PreparesBytes, EnhancesBytes, DrawsBytes}
-use Rattle.promise_bytes.proofs.Outcomes.{prepare-bytes-says, enhance-bytes-says, draw-bytes-says}
-use Rattle.promise_counts.proofs.Runs.{MapCall, Maps}
-use Rattle.promise_counts.proofs.Outcomes.{map-says}
+use Rattle.promise_counts.proofs.Runs.{MapCall}
 
 -- ---- any call
 
 -- two calls whose tables give one number: a refusal of the one is that of the other
-same-refusal : {A : Type 0} {x y : ℕ} (u v : A) → x ≡ y → (n : ℕ) → says x u ≡ refused n → says y v ≡ refused n
+pub same-refusal : {A : Type 0} {x y : ℕ} (u v : A) → x ≡ y → (n : ℕ) → says x u ≡ refused n → says y v ≡ refused n
 same-refusal {A} {x} {y} u v e n q = go x q e
   where
     go : (k : ℕ) → says k u ≡ refused n → k ≡ y → says y v ≡ refused n
@@ -68,33 +63,6 @@ pub record PreparesAlike (p q : PrepareCall) : Type 0 where
   pub list : length (p .list) ≡ length (q .list)
   pub fair : BothFair (p .settings) (q .settings)
 
-pub prepare-any-factor : {p q : PrepareCall} → Prepares p → Prepares q → PreparesAlike p q → (n : ℕ) → preparedSays (p .answer) ≡ refused n → preparedSays (q .answer) ≡ refused n
-prepare-any-factor {p} {q} x y a n e = prepare-says y ∙ same-refusal _ _ number n (sym (prepare-says x) ∙ e)
-  where
-    number : first (prepareRows (p .width) (p .height) (p .pixels) (p .settings) (length (p .map)) (length (p .scratch)) (length (p .list)))
-        ≡ first (prepareRows (q .width) (q .height) (q .pixels) (q .settings) (length (q .map)) (length (q .scratch)) (length (q .list)))
-    number =
-        let s = a .settings in
-        rw (a .width, a .height, a .pixels, a .map, a .scratch, a .list)
-        (ap first (table-alike (p .settings) (q .settings) (s .across) (s .down) (s .bins) (s .min) (s .max) (both (a .fair)) (q .width) (q .height) (q .pixels) (length (q .map)) (length (q .scratch)) (length (q .list))))
-
--- on bytes, where the edition is a row's: 30
-pub prepare-bytes-any-factor : {p q : PrepareCall} → PreparesBytes p → PreparesBytes q → PreparesAlike p q → p .settings .edition ≡ q .settings .edition
-    → (n : ℕ) → preparedSays (p .answer) ≡ refused n → preparedSays (q .answer) ≡ refused n
-prepare-bytes-any-factor {p} {q} x y a edition n e = prepare-bytes-says y ∙ same-refusal _ _ number n (sym (prepare-bytes-says x) ∙ e)
-  where
-    number : first (bytePrepareRows (p .width) (p .height) (p .pixels) (p .settings) (length (p .map)) (length (p .scratch)) (length (p .list)))
-        ≡ first (bytePrepareRows (q .width) (q .height) (q .pixels) (q .settings) (length (q .map)) (length (q .scratch)) (length (q .list)))
-    number =
-        let s = a .settings in
-        rw (a .width, a .height, a .pixels, a .map, a .scratch, a .list)
-        (ap first
-        (byte-rows (q .width) (q .height) (q .pixels) (p .settings) (length (q .map)) (length (q .scratch)) (length (q .list))
-        ∙ ap₂ (λ b c. b ++ c)
-        (byte-alike (p .settings) (q .settings) (s .across) (s .down) (s .bins) (s .min) (s .max) edition (both (a .fair)) (q .width) (q .height) (length (q .pixels)) (length (q .map)))
-        (listed-alike (p .settings) (q .settings) (s .across) (s .down) (s .bins) (s .min) (s .max) (q .pixels) (length (q .scratch)) (length (q .list)))
-        ∙ sym (byte-rows (q .width) (q .height) (q .pixels) (q .settings) (length (q .map)) (length (q .scratch)) (length (q .list)))))
-
 -- ---- enhance
 
 pub record EnhancesAlike (e f : EnhanceCall) : Type 0 where
@@ -105,34 +73,6 @@ pub record EnhancesAlike (e f : EnhanceCall) : Type 0 where
   pub map : length (e .map) ≡ length (f .map)
   pub scratch : length (e .scratch) ≡ length (f .scratch)
   pub fair : BothFair (e .settings) (f .settings)
-
-pub enhance-any-factor : {e f : EnhanceCall} → Enhances e → Enhances f → EnhancesAlike e f → (n : ℕ) → enhancedSays (e .answer) ≡ refused n → enhancedSays (f .answer) ≡ refused n
-enhance-any-factor {e} {f} x y a n k = enhance-says y ∙ same-refusal _ _ number n (sym (enhance-says x) ∙ k)
-  where
-    number : first (enhanceRows (e .width) (e .height) (e .pixels) (e .settings) (length (e .map)) (length (e .scratch)))
-        ≡ first (enhanceRows (f .width) (f .height) (f .pixels) (f .settings) (length (f .map)) (length (f .scratch)))
-    number =
-        let s = a .settings in
-        rw (a .width, a .height, a .pixels, a .map, a .scratch)
-        (ap first (over-alike (e .settings) (f .settings) (s .across) (s .down) (s .bins) (s .min) (s .max) (both (a .fair)) (f .width) (f .height) (f .pixels) (length (f .map)) (length (f .scratch))))
-
-pub enhance-bytes-any-factor : {e f : EnhanceCall} → EnhancesBytes e → EnhancesBytes f → EnhancesAlike e f → e .settings .edition ≡ f .settings .edition
-    → (n : ℕ) → enhancedSays (e .answer) ≡ refused n → enhancedSays (f .answer) ≡ refused n
-enhance-bytes-any-factor {e} {f} x y a edition n k = enhance-bytes-says y ∙ same-refusal _ _ number n (sym (enhance-bytes-says x) ∙ k)
-  where
-    number : first (byteEnhanceRows (e .width) (e .height) (e .pixels) (e .settings) (length (e .map)) (length (e .scratch)))
-        ≡ first (byteEnhanceRows (f .width) (f .height) (f .pixels) (f .settings) (length (f .map)) (length (f .scratch)))
-    number =
-        let s = a .settings in
-        rw (a .width, a .height, a .pixels, a .map, a .scratch)
-        (sym (rows-enough (f .width) (f .height) (f .pixels) (e .settings) (length (f .map)) (length (f .scratch)))
-        ∙ ap first
-        (byte-rows (f .width) (f .height) (f .pixels) (e .settings) (length (f .map)) (length (f .scratch)) 128
-        ∙ ap₂ (λ b c. b ++ c)
-        (byte-alike (e .settings) (f .settings) (s .across) (s .down) (s .bins) (s .min) (s .max) edition (both (a .fair)) (f .width) (f .height) (length (f .pixels)) (length (f .map)))
-        (listed-alike (e .settings) (f .settings) (s .across) (s .down) (s .bins) (s .min) (s .max) (f .pixels) (length (f .scratch)) 128)
-        ∙ sym (byte-rows (f .width) (f .height) (f .pixels) (f .settings) (length (f .map)) (length (f .scratch)) 128))
-        ∙ rows-enough (f .width) (f .height) (f .pixels) (f .settings) (length (f .map)) (length (f .scratch)))
 
 -- ---- mapping
 
@@ -145,16 +85,6 @@ pub record MapsAlike (d e : MapCall) : Type 0 where
   pub scratch : length (d .scratch) ≡ length (e .scratch)
   pub list : length (d .list) ≡ length (e .list)
   pub fair : BothFair (d .settings) (e .settings)
-
-pub map-any-factor : {d e : MapCall} → Maps d → Maps e → MapsAlike d e → (n : ℕ) → preparedSays (d .answer) ≡ refused n → preparedSays (e .answer) ≡ refused n
-map-any-factor {d} {e} x y a n k = map-says y ∙ same-refusal _ _ number n (sym (map-says x) ∙ k)
-  where
-    number : first (mapRows (d .width) (d .height) (d .settings) (d .counts) (length (d .map)) (length (d .scratch)) (length (d .list)))
-        ≡ first (mapRows (e .width) (e .height) (e .settings) (e .counts) (length (e .map)) (length (e .scratch)) (length (e .list)))
-    number =
-        let s = a .settings in
-        rw (a .width, a .height, a .counts, a .map, a .scratch, a .list)
-        (ap first (map-alike (d .settings) (e .settings) (s .across) (s .down) (s .bins) (s .min) (s .max) (both (a .fair)) (e .width) (e .height) (e .counts) (length (e .map)) (length (e .scratch)) (length (e .list))))
 
 -- ---- draw
 
@@ -175,19 +105,73 @@ pub record DrawsAlike (d f : DrawCall) (c c′ : Clip) : Type 0 where
   pub same′ : sameClip c c′ ≡ true
   pub one : clipOne c ≡ clipOne (d .settings .clip)
 
-pub draw-any-factor : {d f : DrawCall} {c c′ : Clip} → Draws d → Draws f → DrawsAlike d f c c′ → (n : ℕ) → drawnSays (d .answer) ≡ refused n → drawnSays (f .answer) ≡ refused n
-draw-any-factor {d} {f} {c} {c′} x y a n k = draw-says y ∙ same-refusal _ _ (sym number) n (sym (draw-says x) ∙ k)
-  where
-    number : first (drawRows (f .film) (f .width) (f .height) (f .pixels) (f .settings) (f .kept) (f .window) (f .map) (length (f .out)))
-        ≡ first (drawRows (d .film) (d .width) (d .height) (d .pixels) (d .settings) (d .kept) (d .window) (d .map) (length (d .out)))
-    number =
-        rw (a .film, a .width, a .height, a .pixels, a .settings, a .kept, a .window, a .map, a .out)
-        (ap first
-        (rows-alike (d .film) (d .width) (d .height) (d .pixels) (d .settings) (d .kept) (d .window) (d .map) (length (d .out)) c c′ (a .fair′ ∙ sym (a .fair)) (a .one) (a .same′ ∙ sym (a .same))))
+-- ---- the rows of two such runs give one number
 
--- and on bytes
-pub draw-bytes-any-factor : {d f : DrawCall} {c c′ : Clip} → DrawsBytes d → DrawsBytes f → DrawsAlike d f c c′ → (n : ℕ) → drawnSays (d .answer) ≡ refused n → drawnSays (f .answer) ≡ refused n
-draw-bytes-any-factor {d} {f} {c} {c′} x y a n k = draw-bytes-says y ∙ same-refusal _ _ (sym number) n (sym (draw-bytes-says x) ∙ k)
+pub prepare-number : {p q : PrepareCall} → PreparesAlike p q
+    → first (prepareRows (p .width) (p .height) (p .pixels) (p .settings) (length (p .map)) (length (p .scratch)) (length (p .list)))
+    ≡ first (prepareRows (q .width) (q .height) (q .pixels) (q .settings) (length (q .map)) (length (q .scratch)) (length (q .list)))
+prepare-number {p} {q} a =
+    let s = a .settings in
+    rw (a .width, a .height, a .pixels, a .map, a .scratch, a .list)
+    (ap first (table-alike (p .settings) (q .settings) (s .across) (s .down) (s .bins) (s .min) (s .max) (both (a .fair)) (q .width) (q .height) (q .pixels) (length (q .map)) (length (q .scratch)) (length (q .list))))
+
+pub prepare-bytes-number : {p q : PrepareCall} → PreparesAlike p q → p .settings .edition ≡ q .settings .edition
+    → first (bytePrepareRows (p .width) (p .height) (p .pixels) (p .settings) (length (p .map)) (length (p .scratch)) (length (p .list)))
+    ≡ first (bytePrepareRows (q .width) (q .height) (q .pixels) (q .settings) (length (q .map)) (length (q .scratch)) (length (q .list)))
+prepare-bytes-number {p} {q} a edition =
+    let s = a .settings in
+    rw (a .width, a .height, a .pixels, a .map, a .scratch, a .list)
+    (ap first
+    (byte-rows (q .width) (q .height) (q .pixels) (p .settings) (length (q .map)) (length (q .scratch)) (length (q .list))
+    ∙ ap₂ (λ b c. b ++ c)
+    (byte-alike (p .settings) (q .settings) (s .across) (s .down) (s .bins) (s .min) (s .max) edition (both (a .fair)) (q .width) (q .height) (length (q .pixels)) (length (q .map)))
+    (listed-alike (p .settings) (q .settings) (s .across) (s .down) (s .bins) (s .min) (s .max) (q .pixels) (length (q .scratch)) (length (q .list)))
+    ∙ sym (byte-rows (q .width) (q .height) (q .pixels) (q .settings) (length (q .map)) (length (q .scratch)) (length (q .list)))))
+
+pub enhance-number : {e f : EnhanceCall} → EnhancesAlike e f
+    → first (enhanceRows (e .width) (e .height) (e .pixels) (e .settings) (length (e .map)) (length (e .scratch)))
+    ≡ first (enhanceRows (f .width) (f .height) (f .pixels) (f .settings) (length (f .map)) (length (f .scratch)))
+enhance-number {e} {f} a =
+    let s = a .settings in
+    rw (a .width, a .height, a .pixels, a .map, a .scratch)
+    (ap first (over-alike (e .settings) (f .settings) (s .across) (s .down) (s .bins) (s .min) (s .max) (both (a .fair)) (f .width) (f .height) (f .pixels) (length (f .map)) (length (f .scratch))))
+
+pub enhance-bytes-number : {e f : EnhanceCall} → EnhancesAlike e f → e .settings .edition ≡ f .settings .edition
+    → first (byteEnhanceRows (e .width) (e .height) (e .pixels) (e .settings) (length (e .map)) (length (e .scratch)))
+    ≡ first (byteEnhanceRows (f .width) (f .height) (f .pixels) (f .settings) (length (f .map)) (length (f .scratch)))
+enhance-bytes-number {e} {f} a edition =
+    let s = a .settings in
+    rw (a .width, a .height, a .pixels, a .map, a .scratch)
+    (sym (rows-enough (f .width) (f .height) (f .pixels) (e .settings) (length (f .map)) (length (f .scratch)))
+    ∙ ap first
+    (byte-rows (f .width) (f .height) (f .pixels) (e .settings) (length (f .map)) (length (f .scratch)) 128
+    ∙ ap₂ (λ b c. b ++ c)
+    (byte-alike (e .settings) (f .settings) (s .across) (s .down) (s .bins) (s .min) (s .max) edition (both (a .fair)) (f .width) (f .height) (length (f .pixels)) (length (f .map)))
+    (listed-alike (e .settings) (f .settings) (s .across) (s .down) (s .bins) (s .min) (s .max) (f .pixels) (length (f .scratch)) 128)
+    ∙ sym (byte-rows (f .width) (f .height) (f .pixels) (f .settings) (length (f .map)) (length (f .scratch)) 128))
+    ∙ rows-enough (f .width) (f .height) (f .pixels) (f .settings) (length (f .map)) (length (f .scratch)))
+
+pub map-number : {d e : MapCall} → MapsAlike d e
+    → first (mapRows (d .width) (d .height) (d .settings) (d .counts) (length (d .map)) (length (d .scratch)) (length (d .list)))
+    ≡ first (mapRows (e .width) (e .height) (e .settings) (e .counts) (length (e .map)) (length (e .scratch)) (length (e .list)))
+map-number {d} {e} a =
+    let s = a .settings in
+    rw (a .width, a .height, a .counts, a .map, a .scratch, a .list)
+    (ap first (map-alike (d .settings) (e .settings) (s .across) (s .down) (s .bins) (s .min) (s .max) (both (a .fair)) (e .width) (e .height) (e .counts) (length (e .map)) (length (e .scratch)) (length (e .list))))
+
+pub draw-number : {d f : DrawCall} {c c′ : Clip} → DrawsAlike d f c c′
+    → first (drawRows (f .film) (f .width) (f .height) (f .pixels) (f .settings) (f .kept) (f .window) (f .map) (length (f .out)))
+    ≡ first (drawRows (d .film) (d .width) (d .height) (d .pixels) (d .settings) (d .kept) (d .window) (d .map) (length (d .out)))
+draw-number {d} {f} {c} {c′} a =
+    rw (a .film, a .width, a .height, a .pixels, a .settings, a .kept, a .window, a .map, a .out)
+    (ap first
+    (rows-alike (d .film) (d .width) (d .height) (d .pixels) (d .settings) (d .kept) (d .window) (d .map) (length (d .out)) c c′ (a .fair′ ∙ sym (a .fair)) (a .one) (a .same′ ∙ sym (a .same))))
+
+pub draw-bytes-number : {d f : DrawCall} {c c′ : Clip} → DrawsAlike d f c c′
+    → first (byteDrawRows (f .film) (f .width) (f .height) (f .pixels) (f .settings) (f .kept) (f .window) (f .map) (length (f .out)))
+    ≡ first (byteDrawRows (d .film) (d .width) (d .height) (d .pixels) (d .settings) (d .kept) (d .window) (d .map) (length (d .out)))
+draw-bytes-number {d} {f} {c} {c′} a =
+    rw (a .film, a .width, a .height, a .pixels, a .settings, a .kept, a .window, a .map, a .out) (same (first (profileRows (d .settings))) refl)
   where
     bins : binsOf (reclipped (d .settings) c) ≡ binsOf (d .settings)
     bins = bins-alike (reclipped (d .settings) c) (d .settings) refl
@@ -209,8 +193,3 @@ draw-bytes-any-factor {d} {f} {c} {c′} x y a n k = draw-bytes-says y ∙ same-
         ∙ ap (λ rows. cond (eqb (first rows) 0) 30 (first rows))
         (setting-alike (reclipped (d .settings) c) (d .settings) refl refl bins refl refl (a .fair′ ∙ sym (a .fair)) (d .width) (d .height) (length (d .pixels)))
         ∙ sym (draw-outside (d .film) (d .width) (d .height) (d .pixels) (d .settings) (d .kept) (d .window) (d .map) (length (d .out)) (λ q. omega (arith, q, z)))
-
-    number : first (byteDrawRows (f .film) (f .width) (f .height) (f .pixels) (f .settings) (f .kept) (f .window) (f .map) (length (f .out)))
-        ≡ first (byteDrawRows (d .film) (d .width) (d .height) (d .pixels) (d .settings) (d .kept) (d .window) (d .map) (length (d .out)))
-    number =
-        rw (a .film, a .width, a .height, a .pixels, a .settings, a .kept, a .window, a .map, a .out) (same (first (profileRows (d .settings))) refl)

@@ -1,5 +1,4 @@
--- The factor used is never below 1.0, where the factor is above one: of the footer of every film that prepare, enhance, the byte calls or mapping accept.
--- Of every run of the calls by their contracts; a name with ′ is lent memory at the end.
+-- L x B over N, each an f64 that is exact, divided once, is not below 1.0: of a film's footer with a factor above one, whichever call made it.
 -- Assumes nothing.
 use Prim.Native.Nat.{ℕ, _*_, _≤_, _<_, _^_}
 use mathlib.Core.Bool.{true, false, true≢false}
@@ -16,6 +15,7 @@ use lib.Ieee.Order.{round-mono}
 use lib.Ieee.Scale.{round-same}
 use lib.Ieee.Bits.{is-true}
 use borrow.Author.Tests.{ne-eqb, not-false}
+use mathlib.Core.List.{List}
 use Rattle.base_rows.specs.Refuse.{accepted}
 use Rattle.tile_limit.specs.Limit.{allowed, limitOf, usedOf}
 use Rattle.tile_limit.proofs.Laws.{limit-holds, limit-room}
@@ -26,17 +26,14 @@ use Rattle.film_settings.specs.Settings.{binsOf, clipBad}
 use Rattle.film_tiles.specs.Tiles.{pixelsIn, one, FilmFooterAsks}
 use Rattle.film_tiles.proofs.Tiles.{tiles-least, tile-pixels-some, tile-pixels-most}
 use Rattle.film_tiles.proofs.Footers.{film-asks}
-use Rattle.film_prepare.specs.Prepare.{preparedSays, enhancedSays}
+use Rattle.film_prepare.specs.Prepare.{enhancedSays}
 use Rattle.promise_films.specs.Films.{ClippingOn, FooterShows}
-use Rattle.promise_films.proofs.Accepted.{prepare-work, enhance-work}
-use Rattle.promise_films.proofs.Demand1.{prepare-accepted, enhance-accepted}
-use Rattle.promise_films.proofs.Clipping.{prepared-footer, enhanced-footer}
-use Rattle.promise_films.proofs.Runs.{PrepareCall, Prepares, EnhanceCall, Enhances}
-use Rattle.promise_bytes.proofs.Runs.{PreparesBytes, EnhancesBytes}
-use Rattle.promise_bytes.proofs.Calls.{prepare-bytes-done, prepared-bytes-footer, enhance-bytes-done, enhanced-bytes-footer}
-use Rattle.promise_counts.proofs.Runs.{MapCall, Maps}
-use Rattle.promise_counts.proofs.Films.{mapped-asks, mapped-footer-any}
+use Rattle.promise_films.proofs.Ended.{Rendered}
+use Rattle.promise_films.proofs.Runs.{EnhanceCall}
 use Rattle.promise_calls.specs.Calls.{NotBelowOne}
+use Rattle.promise_films.proofs.Made.{Made, made-asks, made-footer}
+use Rattle.promise_films.proofs.Whole.{whole-work, whole-footer}
+use Rattle.promise_films.specs.Worked.{holds}
 
 -- ---- the quotient
 
@@ -80,7 +77,7 @@ used-least l b n p holds room =
 -- ---- the footer of a film
 
 -- with a factor above one that 10 lets pass
-film-used : {w h : ℕ} {s : Settings} {foot : Footer} {f : Float} → FilmFooterAsks w h s → FooterShows (s .clip) (pixelsIn w h s 0) (binsOf s) foot → ClippingOn (s .clip) f → NotBelowOne (foot .used)
+pub film-used : {w h : ℕ} {s : Settings} {foot : Footer} {f : Float} → FilmFooterAsks w h s → FooterShows (s .clip) (pixelsIn w h s 0) (binsOf s) foot → ClippingOn (s .clip) f → NotBelowOne (foot .used)
 film-used {w} {h} {s} {foot} {f} asks shows on =
     let n : ℕ = pixelsIn w h s 0 in
     let tile : 0 < s .across * s .down = omega (arith, tiles-least (asks .tiled)) in
@@ -89,25 +86,10 @@ film-used {w} {h} {s} {foot} {f} asks shows on =
     (used-least (limitOf f n (binsOf s)) (binsOf s) n (tile-pixels-some (asks .tiled) tile) (limit-holds f n (binsOf s) (omega (arith, asks .tiled .bins)))
     (limit-room f n (binsOf s) good (tile-pixels-most (asks .tiled) tile) (asks .tiled .bins) (asks .tiled .binsmost)))
 
--- ---- the calls
-
-pub prepared-used : {p : PrepareCall} {r : MapRecord} {foot : Footer} {f : Float} → Prepares p → preparedSays (p .answer) ≡ accepted (r, foot) → ClippingOn (p .settings .clip) f
+-- so of what was made of a film, whichever call made it, and of a film that was rendered whole
+pub made-used : {film w h : ℕ} {pic : List ℕ} {s : Settings} {r : MapRecord} {foot : Footer} {left : List ℕ} {f : Float} → Made film w h pic s r foot left → ClippingOn (s .clip) f
     → NotBelowOne (foot .used)
-prepared-used {p} ran done on =
-    film-used (film-asks (prepare-work _ _ _ _ _ (p .map) (p .scratch) (p .list) (prepare-accepted ran done) .ready)) (prepared-footer ran done) on
+made-used made on = film-used (made-asks made) (made-footer made) on
 
-pub enhanced-used : {e : EnhanceCall} {foot : Footer} {f : Float} → Enhances e → enhancedSays (e .answer) ≡ accepted foot → ClippingOn (e .settings .clip) f → NotBelowOne (foot .used)
-enhanced-used {e} ran done on = film-used (film-asks (enhance-work _ _ _ _ (e .map) (e .scratch) (enhance-accepted ran done) .ready)) (enhanced-footer ran done) on
-
-pub prepared-bytes-used : {p : PrepareCall} {r : MapRecord} {foot : Footer} {f : Float} → PreparesBytes p → preparedSays (p .answer) ≡ accepted (r, foot) → ClippingOn (p .settings .clip) f
-    → NotBelowOne (foot .used)
-prepared-bytes-used {p} ran done on =
-    film-used (film-asks (prepare-work _ _ _ _ _ (p .map) (p .scratch) (p .list) (prepare-bytes-done ran done) .ready)) (prepared-bytes-footer ran done) on
-
-pub enhanced-bytes-used : {e : EnhanceCall} {foot : Footer} {f : Float} → EnhancesBytes e → enhancedSays (e .answer) ≡ accepted foot → ClippingOn (e .settings .clip) f
-    → NotBelowOne (foot .used)
-enhanced-bytes-used {e} ran done on =
-    film-used (film-asks (enhance-work _ _ _ _ (e .map) (e .scratch) (enhance-bytes-done ran done) .ready)) (enhanced-bytes-footer ran done) on
-
-pub mapped-used : {d : MapCall} {r : MapRecord} {foot : Footer} {f : Float} → Maps d → preparedSays (d .answer) ≡ accepted (r, foot) → ClippingOn (d .settings .clip) f → NotBelowOne (foot .used)
-mapped-used ran done on = film-used (mapped-asks ran done) (mapped-footer-any ran done) on
+pub whole-used : (e : EnhanceCall) {foot : Footer} {f : Float} → Rendered e → enhancedSays (e .answer) ≡ accepted foot → ClippingOn (e .settings .clip) f → NotBelowOne (foot .used)
+whole-used e ends done on = film-used (film-asks (whole-work e ends done .ready)) (whole-footer e ends done) on

@@ -37,6 +37,11 @@ says-refused (suc n) v e = cc
 pub refused-says : {A : Type 0} (n : ℕ) (v : A) {k : ℕ} → n ≡ suc k → says n v ≡ refused (suc k)
 refused-says n v e = ap (λ x. says x v) e
 
+-- a number that is not 0 is said
+pub some-says : {A : Type 0} (n : ℕ) (v : A) → (n ≡ 0 → ⊥) → (0 < n) × (says n v ≡ refused n)
+some-says zero v some = absurd (some refl)
+some-says (suc n) v some = (omega arith, refl)
+
 -- a call that ends with y, where n is the number of the first row of its table that applies: with `done`, which says v, where none does;
 -- else with what was lent beside the number
 pub record ByTable {Y A : Type 0} (said : Y → Says A) (n : ℕ) (v : A) (done : Y) (lent : ℕ → Y) (y : Y) : Type 0 where
@@ -72,6 +77,24 @@ module _ {Y A : Type 0} {said : Y → Says A} {n : ℕ} {v : A} {done : Y} {lent
       call .when-some
       (λ z. let q : accepted v ≡ refused k = sym (ap said (call .when-none z) ∙ call .says-done) ∙ e in let o : _≡_ {A = ℕ} 0 1 = cc in omega arith)
       ∙ ap lent (table-refused e)
+
+-- a run that ended with z, where its contract has it end so
+module _ {Y A : Type 0} {said : Y → Says A} {n : ℕ} {v : A} {done : Y} {lent : ℕ → Y} {y z : Y} (call : ByTable said n v done lent y) (ends : z ≡ y) where
+  -- says the number of the first row that applies, and where none does the values
+  pub ended-says : said z ≡ says n v
+  ended-says = ap said ends ∙ table-says call
+
+  -- after a refusal all memory is as it was
+  pub ended-kept : {k : ℕ} → said z ≡ refused k → z ≡ lent k
+  ended-kept q = ends ∙ table-kept call (sym (ap said ends) ∙ q)
+
+  -- where all is done no row applies
+  pub ended-none : {u : A} → said z ≡ accepted u → n ≡ 0
+  ended-none q = table-accepted call (sym (ap said ends) ∙ q) .0
+
+  -- and it ended as the rules say
+  pub ended-done : {u : A} → said z ≡ accepted u → z ≡ done
+  ended-done q = ends ∙ table-done call (sym (ap said ends) ∙ q)
 
 -- such a call, flattened to a number and what is lent: the number is 0 where no row applies, else the row's
 module _ {Y A : Type 0} {said : Y → Says A} {n : ℕ} {v : A} {done : Y} {lent : ℕ → Y} {y : Y} (call : ByTable said n v done lent y) {Z : Type 0} (flat : Y → Z) (number : Z → ℕ)

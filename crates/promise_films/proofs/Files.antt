@@ -1,6 +1,4 @@
--- Demand 2 of files: what write lays down read gives back, what read gives back write lays down again, and the part that read hands back is the raster;
--- and demand 1 of them: what each answer says, and that a refusal keeps lent memory.
--- Laws of the outcomes that the contracts of read_sizes, read_raster, read_greys and write cite; of the calls themselves they are said in FileOutcomes.
+-- Read, greys and write by what their contracts cite: what each answer says and leaves, what write lays down read gives back, and the part that read hands back is the raster.
 -- Assumes nothing.
 use Prim.Native.Nat.{ℕ, zero, suc, _-_, _*_, _≤_}
 use mathlib.Core.List.{List, [], _++_}

@@ -1,5 +1,5 @@
--- Order 6, "Films that fitted before must come out the same; show it once for rows and columns together": of one axis, of the film, and of every run of the calls by
--- their contracts (Runs); a name with ′ is lent memory at the end.
+-- Order 6, a film whose sides are multiples of its grid: of one axis, of the film, and of what a call leaves of it that ended as prepare, enhance or draw does.
+-- A name with ′ is lent memory at the end.
 -- Assumes nothing.
 use Prim.Native.Nat.{ℕ, zero, suc, _+_, _-_, _*_, _/_, _%_, _≤_, _<_}
 use mathlib.Core.Bool.{Bool, true, false, cond}
@@ -9,7 +9,7 @@ use mathlib.Core.Path.{_≡_, refl, sym, ap, subst, _∙_}
 use native.Mathlib.Nat.{zero-mul, one-mul, add-mul, mul-comm, mod-lt, mod-eq-of-lt, div-add-mod', div-lt-iff-lt-mul}
 use native.Mathlib.Omega.{arith}
 use lib.Dec.{ltb, eqb}
-use lib.ListN.{getD}
+use lib.ListN.{getD, take}
 use borrow.Author.Tests.{eqb-true, eqb-false, ltb-true, ltb-false}
 use Rattle.base_lists.specs.Lists.{onto}
 use Rattle.base_rows.specs.Refuse.{accepted}
@@ -21,7 +21,7 @@ use Rattle.pixel_place.proofs.Places.{place-first, place-between, place-last}
 use Rattle.film_settings.specs.declared.Settings.{Settings}
 use Rattle.film_settings.specs.declared.MapRecord.{MapRecord}
 use Rattle.film_settings.specs.declared.Footer.{Footer}
-use Rattle.film_settings.specs.Settings.{binsOf, clipOne, Tiled}
+use Rattle.film_settings.specs.Settings.{binsOf, clipOne, Tiled, entriesOf}
 use Rattle.film_settings.proofs.Records.{tiled-columns, tiled-rows}
 use Rattle.film_tiles.specs.Tiles.{tileOf, pixelsIn, footerOf}
 use Rattle.film_tiles.proofs.Tiles.{tile-area, tile-is}
@@ -30,11 +30,14 @@ use Rattle.film_tiles.proofs.Footers.{foot-is}
 use Rattle.film_prepare.specs.Prepare.{preparedSays, enhancedSays, PrepareOut, EnhanceOut, enhancedOf}
 use Rattle.pixel_rule.proofs.Rule.{rule-from, grey-from}
 use Rattle.promise_films.specs.Fitted.{Fitted, fitRect, fitPixels, fitAlone, fitBetween, half, fitPlace, fitGrey, fitMappings, fitFoot, AxisAsBefore, FilmAsBefore}
-use Rattle.promise_films.proofs.Accepted.{prepare-work, prepare-foot, enhance-work, enhance-done, enhance-foot}
+use Rattle.promise_films.proofs.Accepted.{prepare-foot, enhance-done, enhance-foot}
 use Rattle.promise_films.proofs.Reuse.{left-map}
-use Rattle.promise_films.proofs.Demand1.{prepare-accepted, enhance-accepted}
-use Rattle.promise_films.proofs.Runs.{PrepareCall, Prepares, prepare-ends, EnhanceCall, Enhances, enhance-ends, DrawCall}
-use Rattle.promise_films.proofs.Calls.{enhanced-by-rule, DrawnFrom, drawnGrey, drawn-inside, drawn-by-rule}
+use Rattle.promise_films.proofs.Runs.{PrepareCall, EnhanceCall, DrawCall}
+use Rattle.promise_films.proofs.Ways.{drawnGrey}
+use Rattle.film_draw.specs.Draw.{drawnSays}
+use Rattle.promise_films.proofs.Ended.{Ended, ended-accepted, Rendered, rendered-accepted, Shown}
+use Rattle.promise_films.proofs.Made.{Made, made-tiled, ended-made, shown-inside, shown-by-rule}
+use Rattle.promise_films.proofs.Whole.{whole-work, whole-by-rule}
 
 -- ---- one axis: a side of tw times the grid
 
@@ -141,49 +144,50 @@ fitted-film {w} {h} {s} tiled fitted pic =
       foot = sym (foot-is w h s) ∙ ap (λ n. footerOf (s .clip) n (binsOf s)) (pixels-fitted s columns rows 0);
     }
 
--- ---- the calls
+-- ---- a call that ended as prepare, enhance or draw does
 
--- such a film that prepare accepted
-module _ {p : PrepareCall} {r : MapRecord} {foot : Footer} (ran : Prepares p) (prepared : preparedSays (p .answer) ≡ accepted (r, foot))
-    (fitted : Fitted (p .width) (p .height) (p .settings)) where
-  prepared-same : FilmAsBefore (p .width) (p .height) (p .pixels) (p .settings)
-  prepared-same = fitted-film (prepare-work _ _ _ _ _ _ _ _ (prepare-accepted ran prepared) .ready .tiled) fitted (p .pixels)
+-- such a film, whichever call accepted it
+pub made-as-before : {film w h : ℕ} {pic : List ℕ} {s : Settings} {r : MapRecord} {foot : Footer} {left : List ℕ} → Made film w h pic s r foot left → Fitted w h s
+    → FilmAsBefore w h pic s
+made-as-before {pic = pic} made fitted = fitted-film (made-tiled made) fitted pic
 
-  -- the mappings that it leaves (at the factor 1.0 it leaves the map buffer) and the footer are those of the rule before
-  pub fitted-prepared : (p .map′ ≡ cond (clipOne (p .settings .clip)) (p .map) (onto (p .map) (fitMappings (p .width) (p .height) (p .pixels) (p .settings))))
-      × (foot ≡ fitFoot (p .width) (p .height) (p .settings))
-  fitted-prepared = (
-    ap (λ (z : PrepareOut). z .map) (prepare-ends ran)
-        ∙ left-map _ _ _ _ _ _ _ _ (prepare-accepted ran prepared)
-        ∙ ap (λ ys. cond (clipOne (p .settings .clip)) (p .map) (onto (p .map) ys)) (prepared-same .maps),
-    sym (prepare-foot _ _ _ _ _ _ _ _ (prepare-accepted ran prepared)) ∙ prepared-same .foot,
-  )
+-- the mappings that are left (at the factor 1.0 the map buffer) and the footer are those of the rule before
+pub ended-fitted : (p : PrepareCall) {r : MapRecord} {foot : Footer} → Ended p → preparedSays (p .answer) ≡ accepted (r, foot) → Fitted (p .width) (p .height) (p .settings)
+    → (p .map′ ≡ cond (clipOne (p .settings .clip)) (p .map) (onto (p .map) (fitMappings (p .width) (p .height) (p .pixels) (p .settings))))
+    × (foot ≡ fitFoot (p .width) (p .height) (p .settings))
+ended-fitted p ends prepared fitted =
+    let before = made-as-before (ended-made p ends prepared) fitted in (
+      ap (λ (z : PrepareOut). z .map) ends
+          ∙ left-map (p .film) (p .width) (p .height) (p .pixels) (p .settings) (p .map) (p .scratch) (p .list) (ended-accepted p ends prepared)
+          ∙ ap (λ ys. cond (clipOne (p .settings .clip)) (p .map) (onto (p .map) ys)) (before .maps),
+      sym (prepare-foot (p .film) (p .width) (p .height) (p .pixels) (p .settings) (p .map) (p .scratch) (p .list) (ended-accepted p ends prepared)) ∙ before .foot,
+    )
 
--- such a film that enhance accepted
-module _ {e : EnhanceCall} {foot : Footer} (ran : Enhances e) (enhanced : enhancedSays (e .answer) ≡ accepted foot)
-    (fitted : Fitted (e .width) (e .height) (e .settings)) where
-  enhanced-same : FilmAsBefore (e .width) (e .height) (e .pixels) (e .settings)
-  enhanced-same = fitted-film (enhance-work _ _ _ _ _ _ (enhance-accepted ran enhanced) .ready .tiled) fitted (e .pixels)
+-- such a film that was rendered whole
+module _ (e : EnhanceCall) {foot : Footer} (rendered : Rendered e) (enhanced : enhancedSays (e .answer) ≡ accepted foot) (fitted : Fitted (e .width) (e .height) (e .settings)) where
+  before : FilmAsBefore (e .width) (e .height) (e .pixels) (e .settings)
+  before = fitted-film (whole-work e rendered enhanced .ready .tiled) fitted (e .pixels)
 
-  -- each pixel of the picture that it leaves is the one of the rule before
-  pub fitted-enhanced : clipOne (e .settings .clip) ≡ false → (i j : ℕ) → i < e .width → j < e .height
+  -- each pixel is the one of the rule before
+  pub whole-fitted : clipOne (e .settings .clip) ≡ false → (i j : ℕ) → i < e .width → j < e .height
       → getD (e .pixels′) (j * e .width + i) 0 ≡ fitGrey (e .width) (e .height) (e .pixels) (e .settings) i j
-  fitted-enhanced one i j l k = enhanced-by-rule ran enhanced one i j l k ∙ enhanced-same .greys i j l k
+  whole-fitted one i j l k = whole-by-rule e rendered enhanced one i j l k ∙ before .greys i j l k
 
   -- and so are the mappings and the footer
-  pub fitted-enhanced-left : (e .map′ ≡ cond (clipOne (e .settings .clip)) (e .map) (onto (e .map) (fitMappings (e .width) (e .height) (e .pixels) (e .settings))))
+  pub whole-fitted-left : (e .map′ ≡ cond (clipOne (e .settings .clip)) (e .map) (onto (e .map) (fitMappings (e .width) (e .height) (e .pixels) (e .settings))))
       × (foot ≡ fitFoot (e .width) (e .height) (e .settings))
   unfolding enhancedOf
-  fitted-enhanced-left = (
-    ap (λ (z : EnhanceOut). z .map) (enhance-ends ran ∙ enhance-done _ _ _ _ _ _ (enhance-accepted ran enhanced))
-        ∙ ap (λ ys. cond (clipOne (e .settings .clip)) (e .map) (onto (e .map) ys)) (enhanced-same .maps),
-    sym (enhance-foot _ _ _ _ _ _ (enhance-accepted ran enhanced)) ∙ enhanced-same .foot,
+  whole-fitted-left = (
+    ap (λ (z : EnhanceOut). z .map) (rendered ∙ enhance-done (e .width) (e .height) (e .pixels) (e .settings) (e .map) (e .scratch) (rendered-accepted e rendered enhanced))
+        ∙ ap (λ ys. cond (clipOne (e .settings .clip)) (e .map) (onto (e .map) ys)) (before .maps),
+    sym (enhance-foot (e .width) (e .height) (e .pixels) (e .settings) (e .map) (e .scratch) (rendered-accepted e rendered enhanced)) ∙ before .foot,
   )
 
--- each pixel drawn from what prepare left of such a film is the one of the rule before
-pub fitted-drawn : {p : PrepareCall} {foot : Footer} {d : DrawCall} → DrawnFrom p foot d → Fitted (p .width) (p .height) (p .settings) → clipOne (p .settings .clip) ≡ false
-    → (j i : ℕ) → j < d .window .height → i < d .window .width
-    → drawnGrey d i j ≡ fitGrey (p .width) (p .height) (p .pixels) (p .settings) (d .window .left + i) (d .window .top + j)
-fitted-drawn {p} {foot} {d} from fitted one j i l k =
-    drawn-by-rule from one j i l k
-    ∙ prepared-same (from .prepares) (from .prepared) fitted .greys (d .window .left + i) (d .window .top + j) (omega (arith, drawn-inside from .0)) (omega (arith, drawn-inside from .1))
+-- each pixel drawn from what was made of such a film is the one of the rule before
+pub shown-fitted : {film w h : ℕ} {pic : List ℕ} {s : Settings} {foot : Footer} {left : List ℕ} {d : DrawCall} (made : Made film w h pic s (d .kept) foot left) → Shown d
+    → drawnSays (d .answer) ≡ accepted tt → d .pixels ≡ pic → (clipOne (s .clip) ≡ false → take (entriesOf s) (d .map) ≡ take (entriesOf s) left) → Fitted w h s → clipOne (s .clip) ≡ false
+    → (j i : ℕ) → j < d .window .height → i < d .window .width → drawnGrey d i j ≡ fitGrey w h pic s (d .window .left + i) (d .window .top + j)
+shown-fitted {d = d} made shown drawn pixels mappings fitted one j i l k =
+    let inside = shown-inside made shown drawn pixels mappings in
+    shown-by-rule made shown drawn pixels mappings one j i l k
+    ∙ made-as-before made fitted .greys (d .window .left + i) (d .window .top + j) (omega (arith, inside .0)) (omega (arith, inside .1))

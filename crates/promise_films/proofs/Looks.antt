@@ -1,5 +1,5 @@
--- Order 7, "how long the leftover walk is": what prepare leaves in its list, of a tile, of the outcomes that prepare's contract cites, and of every run of prepare by its
--- contract (Runs); a name with ′ is lent memory at the end. And 32, which prepare alone gives.
+-- Order 7, the list of a call that ended as prepare does: of a tile, of prepare's outcome, and of whichever call accepted its film; and the rows of 32.
+-- A name with ′ is lent memory at the end.
 -- Assumes nothing.
 use Prim.Native.Nat.{ℕ, zero, suc, _+_, _*_, _≤_, _<_}
 use mathlib.Core.Bool.{Bool, true, false, cond}
@@ -11,7 +11,7 @@ use lib.Ieee.{Float}
 use lib.ListN.{length, drop}
 use Rattle.base_lists.specs.Lists.{onto, all}
 use Rattle.base_lists.proofs.Orders.{lt-or-ge}
-use Rattle.base_rows.specs.Refuse.{first, accepted, refused}
+use Rattle.base_rows.specs.Refuse.{first, accepted}
 use Rattle.base_rows.proofs.Walk.{first-never, only-behind}
 use Rattle.tile_limit.specs.declared.Clip.{Clip}
 use Rattle.tile_limit.specs.declared.Clip.the-variants.{Off}
@@ -35,14 +35,14 @@ use Rattle.film_settings.proofs.Ready.{shared-numbers}
 use Rattle.film_tiles.specs.Tiles.{tileOf, pixelsIn, spents, spentEntries}
 use Rattle.film_tiles.proofs.Spents.{spent-in-from, listed-excess, listed-looks, listed-behind, listed-size}
 use Rattle.film_count.specs.Counting.{rawCounts}
-use Rattle.film_prepare.specs.Prepare.{listedRows, enhanceRows, prepareRows, preparedSays, enhancedSays, PrepareOut, prepareOf, preparedOf}
+use Rattle.film_prepare.specs.Prepare.{listedRows, enhanceRows, prepareRows, preparedSays, PrepareOut, prepareOf, preparedOf}
 use Rattle.film_prepare.proofs.Table.{listed-scratch, listed-short, listed-greys, table-parts, table-shared, table-work, table-listed, over-numbers}
 use Rattle.promise_films.specs.Films.{ClippingOn, limitIn}
 use Rattle.promise_films.specs.Looks.{excessAt, looksAt, TileLooks, TilesLooks, FilmLooks, NoLooks, TilesOlderLooks, FilmOlderLooks, ListShort}
-use Rattle.promise_films.proofs.Accepted.{says-refused, refused-says, prepare-accepts, prepare-done}
-use Rattle.promise_films.proofs.Demand1.{prepare-says, enhance-says, prepare-accepted}
-use Rattle.promise_films.proofs.Demand3.{on-not-one}
-use Rattle.promise_films.proofs.Runs.{PrepareCall, Prepares, prepare-ends, EnhanceCall, Enhances}
+use Rattle.promise_films.proofs.Accepted.{prepare-accepts, prepare-done}
+use Rattle.promise_films.proofs.Ended.{Ended, ended-accepted}
+use Rattle.promise_films.proofs.Sound.{on-not-one}
+use Rattle.promise_films.proofs.Runs.{PrepareCall}
 
 -- ---- a tile
 
@@ -154,39 +154,33 @@ module _ (film w h : ℕ) (pic : List ℕ) (s : Settings) (m t n : List ℕ) {r 
       go true = refl
       go false = listed-behind w h pic s n
 
--- ---- the calls
+-- ---- a call that ended as prepare does
 
--- a film that prepare accepted
-module _ {p : PrepareCall} {r : MapRecord} {foot : Footer} (ran : Prepares p) (prepared : preparedSays (p .answer) ≡ accepted (r, foot)) where
+-- and accepted its film
+module _ (p : PrepareCall) {r : MapRecord} {foot : Footer} (ends : Ended p) (prepared : preparedSays (p .answer) ≡ accepted (r, foot)) where
   done : preparedSays (prepareOf (p .film) (p .width) (p .height) (p .pixels) (p .settings) (p .map) (p .scratch) (p .list) .answer) ≡ accepted (r, foot)
-  done = prepare-accepted ran prepared
+  done = ended-accepted p ends prepared
 
   listed : p .list′ ≡ prepareOf (p .film) (p .width) (p .height) (p .pixels) (p .settings) (p .map) (p .scratch) (p .list) .list
-  listed = ap (λ (z : PrepareOut). z .list) (prepare-ends ran)
+  listed = ap (λ (z : PrepareOut). z .list) ends
 
-  -- "each tile in row order has two entries: E, and the number of looks .. it is 0 when r is 0 and never more than r x B x (B + 1) / 2": of every tile, with a factor above one, in our edition
-  pub prepared-looks : {f : Float} → ClippingOn (p .settings .clip) f → p .settings .edition ≡ Ours → FilmLooks (p .width) (p .height) (p .pixels) (p .settings) f (p .list′)
-  prepared-looks on ours = rw listed (list-looks _ _ _ _ _ (p .map) (p .scratch) (p .list) done on ours)
+  pub ended-looks : {f : Float} → ClippingOn (p .settings .clip) f → p .settings .edition ≡ Ours → FilmLooks (p .width) (p .height) (p .pixels) (p .settings) f (p .list′)
+  ended-looks on ours = rw listed (list-looks (p .film) (p .width) (p .height) (p .pixels) (p .settings) (p .map) (p .scratch) (p .list) done on ours)
 
-  -- order 8, "In order 7's list E is what stands above C, and the looks are 0 here": in that of 1986
-  pub prepared-looks-older : {f : Float} → ClippingOn (p .settings .clip) f → p .settings .edition ≡ Of1986 → FilmOlderLooks (p .width) (p .height) (p .pixels) (p .settings) f (p .list′)
-  prepared-looks-older on other = rw listed (list-older-looks _ _ _ _ _ (p .map) (p .scratch) (p .list) done on other)
+  pub ended-looks-older : {f : Float} → ClippingOn (p .settings .clip) f → p .settings .edition ≡ Of1986 → FilmOlderLooks (p .width) (p .height) (p .pixels) (p .settings) f (p .list′)
+  ended-looks-older on other = rw listed (list-older-looks (p .film) (p .width) (p .height) (p .pixels) (p .settings) (p .map) (p .scratch) (p .list) done on other)
 
-  -- "With clip off both are 0"
-  pub prepared-looks-off : p .settings .clip ≡ Off → NoLooks (p .settings) (p .list′)
-  prepared-looks-off off = rw listed (list-looks-off _ _ _ _ _ (p .map) (p .scratch) (p .list) done off)
+  pub ended-looks-off : p .settings .clip ≡ Off → NoLooks (p .settings) (p .list′)
+  ended-looks-off off = rw listed (list-looks-off (p .film) (p .width) (p .height) (p .pixels) (p .settings) (p .map) (p .scratch) (p .list) done off)
 
-  -- these entries lie in the list
-  pub prepared-list-long : spentEntries (p .settings) ≤ length (p .list′)
-  prepared-list-long = rw listed (list-long _ _ _ _ _ (p .map) (p .scratch) (p .list) done)
+  pub ended-list-long : spentEntries (p .settings) ≤ length (p .list′)
+  ended-list-long = rw listed (list-long (p .film) (p .width) (p .height) (p .pixels) (p .settings) (p .map) (p .scratch) (p .list) done)
 
-  -- "at factor 1.0 the list keeps its contents"
-  pub prepared-list-kept : clipOne (p .settings .clip) ≡ true → p .list′ ≡ p .list
-  prepared-list-kept one = listed ∙ list-kept _ _ _ _ _ (p .map) (p .scratch) (p .list) done one
+  pub ended-list-kept : clipOne (p .settings .clip) ≡ true → p .list′ ≡ p .list
+  ended-list-kept one = listed ∙ list-kept (p .film) (p .width) (p .height) (p .pixels) (p .settings) (p .map) (p .scratch) (p .list) done one
 
-  -- "as do entries behind the last tile"
-  pub prepared-list-behind : drop (spentEntries (p .settings)) (p .list′) ≡ drop (spentEntries (p .settings)) (p .list)
-  prepared-list-behind = rw listed (list-behind _ _ _ _ _ (p .map) (p .scratch) (p .list) done)
+  pub ended-list-behind : drop (spentEntries (p .settings)) (p .list′) ≡ drop (spentEntries (p .settings)) (p .list)
+  ended-list-behind = rw listed (list-behind (p .film) (p .width) (p .height) (p .pixels) (p .settings) (p .map) (p .scratch) (p .list) done)
 
 -- ---- 32
 
@@ -212,7 +206,7 @@ module _ (w h : ℕ) (pic : List ℕ) (s : Settings) (room scratch list : ℕ) w
       (sym (ap first (table-parts w h pic s room scratch list)) ∙ q)
 
   -- so 12 does not apply, and the list is too short
-  table-32 : first (prepareRows w h pic s room scratch list) ≡ 32 → ListShort w h pic s room scratch list
+  pub table-32 : first (prepareRows w h pic s room scratch list) ≡ 32 → ListShort w h pic s room scratch list
   table-32 q = record { before = shared-none q; bins = scratch-enough (lt-or-ge scratch (binsOf s)); short = too-short (lt-or-ge list (spentEntries s)) }
     where
       given : first (listedRows pic s scratch list) ≡ 32
@@ -232,22 +226,11 @@ module _ (w h : ℕ) (pic : List ℕ) (s : Settings) (room scratch list : ℕ) w
           absurd (greys (all (within (s .min) (s .max)) pic) (listed-greys pic s scratch list refl (scratch-enough (lt-or-ge scratch (binsOf s))) g _ refl ∙ given))
 
   -- and the other way
-  table-short : ListShort w h pic s room scratch list → first (prepareRows w h pic s room scratch list) ≡ 32
+  pub table-short : ListShort w h pic s room scratch list → first (prepareRows w h pic s room scratch list) ≡ 32
   table-short x = sym (table-work w h pic s room scratch list (sym (x .before)) refl (listed-short pic s scratch list refl (x .bins) (x .short)))
 
--- prepare gives 32 exactly where no row before it applies and the list is shorter than twice the tiles, whatever the clip setting is
-pub prepare-32-exactly : {p : PrepareCall} → Prepares p
-    → (preparedSays (p .answer) ≡ refused 32 → ListShort (p .width) (p .height) (p .pixels) (p .settings) (length (p .map)) (length (p .scratch)) (length (p .list)))
-    × (ListShort (p .width) (p .height) (p .pixels) (p .settings) (length (p .map)) (length (p .scratch)) (length (p .list)) → preparedSays (p .answer) ≡ refused 32)
-prepare-32-exactly {p} ran = (
-  λ q. table-32 (p .width) (p .height) (p .pixels) (p .settings) _ _ _ (says-refused _ _ (sym (prepare-says ran) ∙ q)),
-  λ short. prepare-says ran ∙ refused-says _ _ (table-short (p .width) (p .height) (p .pixels) (p .settings) _ _ _ short),
-)
-
--- enhance, which is lent no list, never does
-pub enhance-never-32 : {e : EnhanceCall} → Enhances e → enhancedSays (e .answer) ≢ refused 32
+-- enhance's rows have none of that number
+pub over-never-32 : (w h : ℕ) (pic : List ℕ) (s : Settings) (room scratch : ℕ) → first (enhanceRows w h pic s room scratch) ≢ 32
 unfolding all
-enhance-never-32 {e} ran q =
-    first-never 32 (enhanceRows (e .width) (e .height) (e .pixels) (e .settings) (length (e .map)) (length (e .scratch))) refl
-    (rw (over-numbers (e .width) (e .height) (e .pixels) (e .settings) (length (e .map)) (length (e .scratch)), shared-numbers (e .width) (e .height) (length (e .pixels)) (e .settings) (length (e .map))) refl)
-    (says-refused _ _ (sym (enhance-says ran) ∙ q))
+over-never-32 w h pic s room scratch =
+    first-never 32 (enhanceRows w h pic s room scratch) refl (rw (over-numbers w h pic s room scratch, shared-numbers w h (length pic) s room) refl)

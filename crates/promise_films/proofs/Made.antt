@@ -4,25 +4,38 @@
 use Prim.Native.Nat.{ℕ, _+_, _*_, _≤_, _<_}
 use mathlib.Core.Bool.{true, false}
 use mathlib.Core.List.{List}
-use mathlib.Core.Path.{_≡_, refl, sym, ap, subst, _∙_}
+use mathlib.Core.Path.{_≡_, refl, sym, ap, ap₂, subst, _∙_}
 use lib.ListN.{length, getD, take}
+use lib.Ieee.{Float}
 use Rattle.base_rows.specs.Refuse.{accepted}
 use Rattle.film_settings.specs.declared.Settings.{Settings}
 use Rattle.film_settings.specs.declared.MapRecord.{MapRecord}
 use Rattle.film_settings.specs.declared.Footer.{Footer}
-use Rattle.film_settings.specs.Settings.{binsOf, entriesOf, keptOf, clipOne}
+use Rattle.film_settings.specs.Settings.{binsOf, entriesOf, keptOf, clipOne, Tiled}
 use Rattle.film_settings.proofs.Records.{record-film}
-use Rattle.film_prepare.specs.Prepare.{preparedSays, enhancedSays, prepareOf, EnhanceOut, enhanceLeaves, enhanceOf}
+use Rattle.film_prepare.specs.Prepare.{preparedSays, enhancedSays, PrepareOut, prepareOf, EnhanceOut, enhanceLeaves, enhanceOf}
 use Rattle.film_prepare.proofs.Like.{enhance-kept}
 use Rattle.film_draw.specs.Draw.{drawnSays, DrawOut, drawLeaves, drawOf}
 use Rattle.pixel_rule.specs.Rule.{ruleGrey}
-use Rattle.promise_films.specs.Films.{HandedOn}
-use Rattle.promise_films.proofs.Accepted.{prepare-record}
+use Rattle.promise_films.specs.Films.{HandedOn, clippedCounts, dividesIn, ClippingOn, ClipCase, FooterShows, limitIn, FilmSound, LimitFits, BinsReached}
+use Rattle.promise_films.proofs.Accepted.{prepare-record, prepare-work, ended-none, draw-table}
 use Rattle.promise_films.proofs.Reuse.{left-settings}
-use Rattle.promise_films.proofs.Demand2.{enhance-agrees, draw-agrees}
+use Rattle.promise_films.proofs.Rendering.{enhance-agrees, draw-agrees, divides-pixels, divides-pixels-off, counts-raw-off, own-mapping}
 use Rattle.promise_films.proofs.Windows.{accepted-handed, accepted-by-rule, accepted-as-film, accepted-as-enhanced}
-use Rattle.promise_films.proofs.Runs.{EnhanceCall, DrawCall, Draws, draw-ends}
-use Rattle.promise_films.proofs.Calls.{drawnGrey}
+use Rattle.promise_films.proofs.Runs.{EnhanceCall, DrawCall, PrepareCall, Prepares, prepare-ends}
+use Rattle.promise_films.proofs.Ways.{drawnGrey, HandedToDraw, DrawnFrom, EnhancesFilm}
+use Rattle.promise_films.proofs.Ended.{Shown, Rendered, Ended, ended-accepted, draw-shown}
+use Rattle.tile_limit.specs.declared.Clip.the-variants.{Off}
+use Rattle.tile_limit.specs.declared.Edition.the-variants.{Ours, Of1986}
+use Rattle.tile_map.specs.Tile.{mappedOf}
+use Rattle.film_tiles.specs.Tiles.{pixelsIn, FilmFooterAsks}
+use Rattle.film_count.specs.Counting.{rawCounts}
+use Rattle.promise_films.specs.Older.{FilmOlder}
+use Rattle.promise_films.proofs.Sound.{tiles-sound, tiles-older, footer-shows, clip-cases, tiled-limit-fits}
+use Rattle.promise_films.proofs.Bins.{tiled-reached}
+use Rattle.film_settings.proofs.Ready.{ready}
+use Rattle.film_draw.proofs.Tables.{draw-parts}
+use Rattle.film_tiles.proofs.Footers.{film-asks}
 
 -- the record r, this footer and the map buffer left are those that prepare's outcome gives for the film of this number, size, pixels and settings, with some buffers
 pub record Made (film w h : ℕ) (pic : List ℕ) (s : Settings) (r : MapRecord) (foot : Footer) (left : List ℕ) : Type 0 where
@@ -41,15 +54,64 @@ module _ {film w h : ℕ} {pic : List ℕ} {s : Settings} {r : MapRecord} {foot 
   pub made-settings : keptOf (r .settings) ≡ keptOf s
   made-settings = left-settings film w h pic s _ _ _ (made .accepts)
 
+  -- the film is one that a call accepts
+  pub made-tiled : Tiled w h s
+  made-tiled = prepare-work film w h pic s _ _ _ (made .accepts) .ready .tiled
+
+  -- whose footer the rules give
+  pub made-asks : FilmFooterAsks w h s
+  made-asks = film-asks (prepare-work film w h pic s _ _ _ (made .accepts) .ready)
+
+  -- each tile's own mapping lies in the map buffer
+  pub made-by-rule : clipOne (s .clip) ≡ false → (k b : ℕ) → k < s .across * s .down → b < binsOf s
+      → getD left (k * binsOf s + b) 0 ≡ mappedOf (s .min) (s .max) (dividesIn w h pic s k) (clippedCounts w h pic s k) b
+  made-by-rule one k b l q = ap (λ m. getD m (k * binsOf s + b) 0) (made .leaves) ∙ own-mapping film w h pic s _ _ _ (made .accepts) one k b l q
+
+  -- in our edition over N
+  pub made-ours-by-rule : s .edition ≡ Ours → clipOne (s .clip) ≡ false → (k b : ℕ) → k < s .across * s .down → b < binsOf s
+      → getD left (k * binsOf s + b) 0 ≡ mappedOf (s .min) (s .max) (pixelsIn w h s k) (clippedCounts w h pic s k) b
+  made-ours-by-rule ours one k b l q = made-by-rule one k b l q ∙ ap (λ n. mappedOf (s .min) (s .max) n (clippedCounts w h pic s k) b) (divides-pixels w h pic s k ours)
+
+  -- with clip off that of the raw counts, over N
+  pub made-off-by-rule : s .clip ≡ Off → (k b : ℕ) → k < s .across * s .down → b < binsOf s
+      → getD left (k * binsOf s + b) 0 ≡ mappedOf (s .min) (s .max) (pixelsIn w h s k) (rawCounts w h pic s k) b
+  made-off-by-rule off k b l q =
+      made-by-rule (rw off refl) k b l q ∙ ap₂ (λ n cs. mappedOf (s .min) (s .max) n cs b) (divides-pixels-off w h pic s k off) (counts-raw-off w h pic s k off)
+
+  -- what the footer shows, by the clip setting, which is one of three
+  pub made-footer : FooterShows (s .clip) (pixelsIn w h s 0) (binsOf s) foot
+  made-footer = footer-shows film w h pic s _ _ _ (made .accepts)
+
+  pub made-clip : ClipCase (s .clip)
+  made-clip = clip-cases (prepare-work film w h pic s _ _ _ (made .accepts))
+
+  -- demand 3 of every tile, and order 8's facts in its place
+  pub made-tiles-sound : {f : Float} → ClippingOn (s .clip) f → s .edition ≡ Ours → FilmSound w h pic s f left
+  made-tiles-sound on ours = rw (made .leaves) (tiles-sound film w h pic s _ _ _ (made .accepts) on ours)
+
+  pub made-tiles-older : {f : Float} → ClippingOn (s .clip) f → s .edition ≡ Of1986 → FilmOlder w h pic s f left
+  made-tiles-older on other = rw (made .leaves) (tiles-older film w h pic s _ _ _ (made .accepts) on other)
+
+  -- order 2, of each tile's own limit
+  pub made-limit-fits : (f : Float) (k : ℕ) → LimitFits f (pixelsIn w h s k) (binsOf s) (limitIn w h s f k)
+  made-limit-fits f k = tiled-limit-fits made-tiled f k
+
+  -- order 3
+  pub made-reached : BinsReached s
+  made-reached = tiled-reached made-tiled
+
+-- a call that ended as prepare does, and accepted its film, made them
+pub ended-made : (p : PrepareCall) {r : MapRecord} {foot : Footer} → Ended p → preparedSays (p .answer) ≡ accepted (r, foot)
+    → Made (p .film) (p .width) (p .height) (p .pixels) (p .settings) r foot (p .map′)
+ended-made p ends done =
+    record { map = p .map; scratch = p .scratch; list = p .list; accepts = ended-accepted p ends done; leaves = ap (λ (z : PrepareOut). z .map) ends }
+
+-- so does prepare itself
+pub prepare-made : {p : PrepareCall} {r : MapRecord} {foot : Footer} → Prepares p → preparedSays (p .answer) ≡ accepted (r, foot)
+    → Made (p .film) (p .width) (p .height) (p .pixels) (p .settings) r foot (p .map′)
+prepare-made {p} ran done = ended-made p (prepare-ends ran) done
+
 -- ---- draw
-
--- a call to draw ended with these values; so does one to draw on bytes, where the settings are inside the profile
-pub record Shown (d : DrawCall) : Type 0 where
-  pub ends : drawLeaves (d .answer) (d .out′) ≡ drawOf (d .film) (d .width) (d .height) (d .pixels) (d .settings) (d .kept) (d .window) (d .map) (d .out)
-
--- every run of draw does
-pub draw-shown : {d : DrawCall} → Draws d → Shown d
-draw-shown draws = record { ends = draw-ends draws }
 
 -- draw was handed this film, the mappings that were left, settings that are kept as its own, a window inside it and an output of its area
 pub record HandedFilm (no w h : ℕ) (pic : List ℕ) (s : Settings) (left : List ℕ) (d : DrawCall) : Type 0 where
@@ -67,11 +129,6 @@ handed-done {film} {w} {h} {pic} {s} {foot} {left} {d} made shown handed =
     ∙ rw (handed .film, handed .width, handed .height, handed .pixels)
     (draw-agrees film w h pic s _ _ _ (made .accepts) (d .settings) (d .map) (d .window) (d .out)
     (subst (λ m. HandedOn w h s m (d .settings) (d .map) (d .window) (length (d .out))) (made .leaves) (handed .rest)))
-
--- enhance ended with these values; so does enhance on bytes, where the settings are inside the profile
-abbrev pub Rendered : EnhanceCall → Type 0
-Rendered e =
-    enhanceLeaves (e .answer) (e .pixels′) (e .map′) (e .scratch′) ≡ enhanceOf (e .width) (e .height) (e .pixels) (e .settings) (e .map) (e .scratch)
 
 -- enhance was handed this film, settings that are kept as its own, and buffers that are long enough
 pub record EnhancesSame (w h : ℕ) (pic : List ℕ) (s : Settings) (e : EnhanceCall) : Type 0 where
@@ -128,3 +185,27 @@ module _ {film w h : ℕ} {pic : List ℕ} {s : Settings} {foot : Footer} {left 
             ∙ accepted-as-enhanced film w h pic s _ _ _ (made .accepts) _ _ _ _ _ (d .window) _ accepts entries (e .map) (e .scratch) (too .map) (too .scratch) j i l k
             ∙ sym (ap (λ (z : EnhanceOut). getD (z .picture) ((d .window .top + j) * w + (d .window .left + i)) 0) over),
       )
+
+-- order 3, of a window that was drawn
+pub shown-reached : {d : DrawCall} → Shown d → drawnSays (d .answer) ≡ accepted tt → BinsReached (d .settings)
+shown-reached {d} shown drawn =
+    tiled-reached
+    (ready (d .width) (d .height) (length (d .pixels)) (d .settings) (length (d .map))
+    (draw-parts (d .film) (d .width) (d .height) (d .pixels) (d .settings) (d .kept) (d .window) (d .map) (length (d .out))
+    (ended-none (draw-table _ _ _ _ _ _ _ _ _) (shown .ends) drawn) .0)
+    .tiled)
+
+-- ---- from what prepare left
+
+-- it is handed on with the film
+pub handed-film : {p : PrepareCall} {foot : Footer} {d : DrawCall} → HandedToDraw p foot d → HandedFilm (p .film) (p .width) (p .height) (p .pixels) (p .settings) (p .map′) d
+handed-film handed = record { film = handed .film; width = handed .width; height = handed .height; pixels = handed .pixels; rest = handed .rest }
+
+-- and so is the film to enhance
+pub enhances-same : {p : PrepareCall} {e : EnhanceCall} → EnhancesFilm p e → EnhancesSame (p .width) (p .height) (p .pixels) (p .settings) e
+enhances-same too = record { width = too .width; height = too .height; pixels = too .pixels; like = too .like; map = too .map; scratch = too .scratch }
+
+-- the window lies inside the film
+pub drawn-inside : {p : PrepareCall} {foot : Footer} {d : DrawCall} → DrawnFrom p foot d
+    → (d .window .left + d .window .width ≤ p .width) × (d .window .top + d .window .height ≤ p .height)
+drawn-inside from = shown-inside (prepare-made (from .prepares) (from .prepared)) (draw-shown (from .draws)) (from .drawn) (from .pixels) (from .mappings)

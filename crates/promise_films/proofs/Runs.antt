@@ -2,7 +2,7 @@
 -- A name with ′ is lent memory at the end.
 -- The only file that counts the calls' parameters, in their order in the source. That each name is the contract's own is checked by the laws `..-ends`.
 -- Assumes nothing.
-use Prim.Native.Nat.{ℕ, _+_}
+use Prim.Native.Nat.{ℕ}
 use mathlib.Core.List.{List}
 use mathlib.Core.Path.{_≡_}
 use denote.Ref.{now, ptr}
@@ -31,7 +31,7 @@ use Rattle.film_draw.proofs.draw.Reads as draw-reads
 use Rattle.pgm_read.specs.declared.Sizes.{Sizes}
 use Rattle.pgm_greys.specs.declared.Turned.{Turned}
 use Rattle.pgm_write.specs.declared.Written.{Written}
-use Rattle.pgm_read.specs.Pgm.{readOf, sizesOf, rasterOf, rasterStart}
+use Rattle.pgm_read.specs.Pgm.{readOf, sizesOf, rasterOf}
 use Rattle.pgm_greys.specs.Greys.{turnedOf, greysLeave}
 use Rattle.pgm_write.specs.Write.{writeOf, writeLeaves}
 use Rattle.pgm_read.proofs.read_sizes.Kinds as sizes
@@ -199,10 +199,6 @@ ReadsRaster = Ran raster-values
 
 pub raster-ends : {c : RasterCall} → ReadsRaster c → c .part ≡ rasterOf (readOf (c .bytes)) (c .bytes)
 raster-ends ran = rw (ran .named) (ran .run .allowed .0)
-
--- "as that part of the caller's bytes": it lies where the raster starts in them
-pub raster-place : {c : RasterCall} → ReadsRaster c → c .at ≡ (c .from .0, rasterStart (readOf (c .bytes)) + c .from .1)
-raster-place ran = rw (ran .named) (ran .run .allowed .1)
 
 -- ---- greys
 

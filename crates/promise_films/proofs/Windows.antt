@@ -26,7 +26,7 @@ use Rattle.film_draw.proofs.Tables.{draw-ready}
 use Rattle.pixel_rule.specs.Rule.{ruleGrey}
 use Rattle.promise_films.specs.Films.{HandedOn}
 use Rattle.promise_films.proofs.Accepted.{table-accepted, table-done, prepare-work, prepare-record, draw-table}
-use Rattle.promise_films.proofs.Demand2.{draw-agrees, drawn-is-enhanced, own-window, drawn-is-film}
+use Rattle.promise_films.proofs.Rendering.{draw-agrees, drawn-is-enhanced, own-window, drawn-is-film}
 
 -- a window that draw accepted, with the record that prepare made, the pixels as they were then, and the mappings that it left
 module _ (film w h : ℕ) (pic : List ℕ) (s : Settings) (m t n : List ℕ) {r : MapRecord} {foot : Footer} (done : preparedSays (prepareOf film w h pic s m t n .answer) ≡ accepted (r, foot))

@@ -1,3 +1,6 @@
-pub mod Tables
-pub mod Calls
-pub mod Listing
+-- The promises: theorems over the calls' contracts. docs/PROMISES.md lists each of them.
+pub mod Order6
+-- What they are proved with.
+mod Tables
+mod Calls
+mod Listing

@@ -1,12 +1,11 @@
--- Order 6, films that fitted before: the listing's text of a file whose film has even sides is the old one, refusals included. Of every run of the listing by its contract.
+-- The listing's text of a film with even sides is the old one.
 -- Assumes nothing.
 use Prim.Native.Nat.{ℕ, zero, suc, _+_, _*_, _/_, _%_, _<_}
 use mathlib.Core.Bool.{cond}
 use mathlib.Core.List.{List, [], _∷_, _++_}
 use mathlib.Core.Path.{_≡_, refl, sym, ap, ap₂, _∙_}
 use native.Mathlib.Omega.{arith}
-use lib.Dec.{ltb}
-use lib.ListN.{length, getD, drop}
+use lib.ListN.{length, getD}
 use Rattle.base_lists.proofs.Tabs.{eq-tab}
 use Rattle.base_lists.proofs.Blocks.{getD-joined}
 use Rattle.base_rows.specs.Refuse.{first, unless}
@@ -22,18 +21,13 @@ use Rattle.film_tiles.proofs.Films.{length-tile-map, getD-mappings, mappings-by
 use Rattle.film_tiles.proofs.Spents.{spent-in-from}
 use Rattle.film_prepare.specs.Prepare.{prepareRows}
 use Rattle.film_prepare.proofs.Table.{work}
-use Rattle.pgm_header.specs.declared.Head.the-variants.{Found}
-use Rattle.pgm_header.specs.Header.{headerOf}
-use Rattle.pgm_samples.specs.Samples.{isWide, unpacked, noneAbove}
-use Rattle.pgm_read.specs.Pgm.{readOf}
-use Rattle.pgm_write.specs.Write.{wrote, writeLeaves}
+use Rattle.pgm_samples.specs.Samples.{noneAbove}
 use Rattle.listing_line.specs.Lines.{line, refusedText}
 use Rattle.listing_film.specs.FilmText.{two, listingSettings, firstLine, tileLine, filmText}
-use Rattle.listing_file.specs.Listing.{isLarger, pictureText, readText, listingOf, textRows, listOf}
-use Rattle.listing_file.proofs.Outcomes.{ListCall, Lists, list-ends}
+use Rattle.listing_file.specs.Listing.{pictureText}
 use Rattle.promise_films.specs.Fitted.{Fitted, fitRect, FilmAsBefore}
 use Rattle.promise_films.proofs.Fitted.{fitted-film}
-use Rattle.promise_fitted.specs.Before.{fitSpent, fitLine, fitText, fitPrepareRows, fitPictureText, fitReadText, fitListingOf}
+use Rattle.promise_fitted.specs.Before.{fitSpent, fitLine, fitText, fitPrepareRows, fitPictureText}
 use Rattle.promise_fitted.proofs.Tables.{prepare-same}
 
 -- ---- a film
@@ -78,7 +72,7 @@ text-same w h m pic tiled fitted =
     lines k l = ap₂ (λ (p : Spent) ys. line (k / 2 ∷ k % 2 ∷ p .excess ∷ p .looks ∷ ys)) (spent-same tiled fitted pic k) (map-same tiled fitted pic k l)
 
 -- refusals included
-picture-same : (w h m : ℕ) (pic : List ℕ) → Fitted w h (listingSettings m) → pictureText w h m pic ≡ fitPictureText w h m pic
+pub picture-same : (w h m : ℕ) (pic : List ℕ) → Fitted w h (listingSettings m) → pictureText w h m pic ≡ fitPictureText w h m pic
 picture-same w h m pic fitted = ap (λ xs. cond (noneAbove m pic) xs (refusedText 26)) (go (first (prepareRows w h pic (listingSettings m) 16 4 8)) refl)
   where
     number : first (prepareRows w h pic (listingSettings m) 16 4 8) ≡ first (fitPrepareRows w h pic (listingSettings m) 16 4 8)
@@ -89,16 +83,3 @@ picture-same w h m pic fitted = ap (λ xs. cond (noneAbove m pic) xs (refusedTex
     go zero z =
         ap₂ (λ n text. unless n refusedText text) number (text-same w h m pic (work w h pic (listingSettings m) 16 4 8 z .ready .tiled) fitted)
     go (suc n) z = ap (λ k. unless k refusedText (filmText w h m pic)) z ∙ sym (ap (λ k. unless k refusedText (fitText w h m pic)) (sym number ∙ z))
-
--- ---- the call
-
--- the listing of a file whose film has even sides, its grid being 2 by 2, is the old one
-pub fitted-listed : {c : ListCall} → Lists c → {w h m at : ℕ} → readOf (c .bytes) ≡ Found w h m at → w % 2 ≡ 0 → h % 2 ≡ 0
-    → writeLeaves (c .answer) (c .out′) ≡ wrote (textRows (length (c .out))) (c .out) (fitListingOf (c .bytes))
-unfolding listOf listingOf fitListingOf
-fitted-listed {c} ran {w} {h} {m} {at} found wide high =
-    list-ends ran
-    ∙ ap (λ text. wrote (textRows (length (c .out))) (c .out) (cond (ltb 32768 (length (c .bytes))) (refusedText 22) (cond (isLarger (headerOf (c .bytes))) (refusedText 22) text)))
-    (ap (λ head. readText head (c .bytes)) found
-    ∙ picture-same w h m (unpacked (isWide m) (drop at (c .bytes)) (w * h)) (record { columns = wide; rows = high })
-    ∙ sym (ap (λ head. fitReadText head (c .bytes)) found))

@@ -1,5 +1,5 @@
--- Document 02, order 10: "the rendered grey" of a pixel of an accepted film, as the calls leave it: enhance, prepare then draw, both on bytes too, and counting, mapping, then draw.
--- Of every run of the calls by their contracts; a name with ′ is lent memory at the end.
+-- "The rendered grey" of a pixel of an accepted film, as the calls leave it: enhance, prepare then draw, both on bytes too, and counting, mapping, then draw.
+-- A name with ′ is lent memory at the end.
 -- Assumes nothing.
 use Prim.Native.Nat.{ℕ, _+_, _*_, _<_}
 use mathlib.Core.List.{List}
@@ -10,11 +10,11 @@ use Rattle.film_settings.specs.declared.Settings.{Settings}
 use Rattle.film_settings.specs.declared.Footer.{Footer}
 use Rattle.film_prepare.specs.Prepare.{enhancedSays}
 use Rattle.promise_films.proofs.Runs.{PrepareCall, EnhanceCall, Enhances, DrawCall}
-use Rattle.promise_films.proofs.Calls.{DrawnFrom, drawnGrey}
+use Rattle.promise_films.proofs.Ways.{DrawnFrom, drawnGrey}
 use Rattle.promise_bytes.proofs.Runs.{EnhancesBytes}
-use Rattle.promise_bytes.proofs.Calls.{DrawnFromBytes}
+use Rattle.promise_bytes.proofs.Ended.{DrawnFromBytes}
 use Rattle.promise_counts.proofs.Runs.{MapCall}
-use Rattle.promise_counts.proofs.Drawn.{DrawnFromMapping}
+use Rattle.promise_counts.proofs.Ways.{DrawnFromMapping}
 
 -- a film: its size, settings and pixels
 pub record Film : Type 0 where

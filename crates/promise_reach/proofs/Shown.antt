@@ -1,18 +1,25 @@
--- What each call leaves of a pixel of an accepted film: the grey of `pixel_rule: shownGrey`, by the rule, and the film's own at the factor 1.0.
+-- What is shown of a pixel of an accepted film, by whichever call that ended as enhance or as draw does: the grey of `pixel_rule: shownGrey`, by the rule, and the film's own at the factor 1.0.
 -- Assumes nothing.
 use Prim.Native.Nat.{ℕ, _+_, _*_, _<_}
 use mathlib.Core.Path.{_≡_, ap}
 use native.Mathlib.Omega.{arith}
-use lib.ListN.{getD}
-use Rattle.film_settings.specs.Settings.{Tiled}
+use lib.ListN.{getD, take}
+use mathlib.Core.Bool.{false}
+use mathlib.Core.List.{List}
+use Rattle.film_settings.specs.Settings.{Tiled, clipOne, entriesOf}
 use Rattle.pixel_rule.specs.Rule.{shownGrey}
 use Rattle.pixel_rule.proofs.Rule.{shown-by}
-use Rattle.promise_films.proofs.Accepted.{prepare-work, enhance-work}
-use Rattle.promise_films.proofs.Demand1.{prepare-accepted, enhance-accepted}
-use Rattle.promise_films.proofs.Calls.{enhanced-by-rule, enhanced-as-film, drawn-inside, drawn-by-rule, drawn-as-film}
-use Rattle.promise_bytes.proofs.Calls.{prepare-bytes-done, enhance-bytes-done, enhanced-bytes-by-rule, enhanced-bytes-as-film, drawn-bytes-inside, drawn-bytes-by-rule, drawn-bytes-as-film}
-use Rattle.promise_counts.proofs.Drawn.{mapped-made, mapped-drawn-inside, mapped-drawn-by-rule, mapped-drawn-as-film}
-use Rattle.promise_reach.proofs.Rendered.{Film, Rendered, by-enhance, by-draw, by-enhance-bytes, by-draw-bytes, by-counts}
+use Rattle.promise_films.proofs.Ended.{Shown, Rendered as Whole}
+use Rattle.promise_films.proofs.Made.{Made, made-tiled, shown-inside, shown-by-rule, shown-as-film}
+use Rattle.promise_reach.proofs.Rendered.{Film, enhancedGrey, enhances-film}
+use Rattle.base_rows.specs.Refuse.{accepted}
+use Rattle.film_settings.specs.declared.Settings.{Settings}
+use Rattle.film_settings.specs.declared.Footer.{Footer}
+use Rattle.film_prepare.specs.Prepare.{enhancedSays}
+use Rattle.film_draw.specs.Draw.{drawnSays}
+use Rattle.promise_films.proofs.Whole.{whole-work, whole-as-film, whole-by-rule}
+use Rattle.promise_films.proofs.Runs.{DrawCall, EnhanceCall}
+use Rattle.promise_films.proofs.Ways.{drawnGrey}
 
 -- a pixel of a film that was not refused, of which the grey g is shown
 pub record Seen (f : Film) (x y g : ℕ) : Type 0 where
@@ -21,40 +28,26 @@ pub record Seen (f : Film) (x y g : ℕ) : Type 0 where
   pub row : y < f .height
   pub shows : g ≡ shownGrey (f .width) (f .height) (f .pixels) (f .settings) x y
 
--- what is rendered, by whichever way, is what is shown
-pub rendered-seen : {f : Film} {x y g : ℕ} → Rendered f x y g → Seen f x y g
-rendered-seen (by-enhance {e} {foot} {x} {y} ran done l k) =
+-- of a film that was rendered whole, whichever call ended as enhance does
+pub whole-seen : (e : EnhanceCall) {foot : Footer} → Whole e → enhancedSays (e .answer) ≡ accepted foot → {x y : ℕ} → x < e .width → y < e .height
+    → Seen (enhances-film e) x y (enhancedGrey e x y)
+whole-seen e ends done {x} {y} l k =
     record {
-      tiled = enhance-work _ _ _ _ _ _ (enhance-accepted ran done) .ready .tiled;
+      tiled = whole-work e ends done .ready .tiled;
       column = l;
       row = k;
-      shows = shown-by _ _ _ _ x y (λ one. ap (λ p. getD p (y * e .width + x) 0) (enhanced-as-film ran done one)) (λ one. enhanced-by-rule ran done one x y l k);
+      shows = shown-by _ _ _ _ x y (λ one. ap (λ p. getD p (y * e .width + x) 0) (whole-as-film e ends done one)) (λ one. whole-by-rule e ends done one x y l k);
     }
-rendered-seen (by-draw {p} {foot} {d} {i} {j} from l k) =
+
+-- and of one that was drawn, whichever call ended as draw does, from what was made of it
+pub shown-seen : {film w h : ℕ} {pic : List ℕ} {s : Settings} {foot : Footer} {left : List ℕ} {d : DrawCall} → Made film w h pic s (d .kept) foot left → Shown d
+    → drawnSays (d .answer) ≡ accepted tt → d .pixels ≡ pic → (clipOne (s .clip) ≡ false → take (entriesOf s) (d .map) ≡ take (entriesOf s) left)
+    → {i j : ℕ} → i < d .window .width → j < d .window .height → Seen (record { width = w; height = h; settings = s; pixels = pic }) (d .window .left + i) (d .window .top + j) (drawnGrey d i j)
+shown-seen made shown drawn pixels mappings {i} {j} l k =
+    let inside = shown-inside made shown drawn pixels mappings in
     record {
-      tiled = prepare-work _ _ _ _ _ _ _ _ (prepare-accepted (from .prepares) (from .prepared)) .ready .tiled;
-      column = omega (arith, drawn-inside from .0);
-      row = omega (arith, drawn-inside from .1);
-      shows = shown-by _ _ _ _ _ _ (λ one. drawn-as-film from one j i k l) (λ one. drawn-by-rule from one j i k l);
-    }
-rendered-seen (by-enhance-bytes {e} {foot} {x} {y} ran done l k) =
-    record {
-      tiled = enhance-work _ _ _ _ _ _ (enhance-bytes-done ran done) .ready .tiled;
-      column = l;
-      row = k;
-      shows = shown-by _ _ _ _ x y (λ one. ap (λ p. getD p (y * e .width + x) 0) (enhanced-bytes-as-film ran done one)) (λ one. enhanced-bytes-by-rule ran done one x y l k);
-    }
-rendered-seen (by-draw-bytes {p} {foot} {d} {i} {j} from l k) =
-    record {
-      tiled = prepare-work _ _ _ _ _ _ _ _ (prepare-bytes-done (from .prepares) (from .prepared)) .ready .tiled;
-      column = omega (arith, drawn-bytes-inside from .0);
-      row = omega (arith, drawn-bytes-inside from .1);
-      shows = shown-by _ _ _ _ _ _ (λ one. drawn-bytes-as-film from one j i k l) (λ one. drawn-bytes-by-rule from one j i k l);
-    }
-rendered-seen (by-counts {pic} {m} {foot} {d} {i} {j} from l k) =
-    record {
-      tiled = prepare-work _ _ _ _ _ _ _ _ (mapped-made (from .from) .accepts) .ready .tiled;
-      column = omega (arith, mapped-drawn-inside from .0);
-      row = omega (arith, mapped-drawn-inside from .1);
-      shows = shown-by _ _ _ _ _ _ (λ one. mapped-drawn-as-film from one j i k l) (λ one. mapped-drawn-by-rule from one j i k l);
+      tiled = made-tiled made;
+      column = omega (arith, inside .0);
+      row = omega (arith, inside .1);
+      shows = shown-by _ _ _ _ _ _ (λ one. shown-as-film made shown drawn pixels mappings one j i k l) (λ one. shown-by-rule made shown drawn pixels mappings one j i k l);
     }

@@ -1,9 +1,9 @@
--- Document 02, order 11: "each film stored and not dropped, its pixels unchanged since, draws as if it alone had been prepared."
--- Of every run of the calls by their contracts (Runs); a name with ′ is lent memory at the end.
+-- A film that the room holds is drawn as from any buffer that begins with its mappings, and so as if it alone had been prepared.
+-- A name with ′ is lent memory at the end.
 -- Assumes nothing.
 use Prim.Native.Nat.{ℕ, zero, suc, _+_, _*_, _≤_, _<_}
 use mathlib.Core.Bool.{false}
-use mathlib.Core.List.{List, [], _∷_, map}
+use mathlib.Core.List.{List, [], _∷_}
 use mathlib.Core.Path.{_≡_, sym, ap, ap₂, subst, _∙_}
 use native.Mathlib.Nat.{not-suc-le-zero, le-of-suc-le-suc}
 use native.Mathlib.Omega.{arith}
@@ -23,7 +23,7 @@ use Rattle.film_tiles.proofs.Films.{length-mappings}
 use Rattle.film_prepare.specs.Prepare.{PrepareOut, preparedSays, prepareLeaves, prepareOf}
 use Rattle.film_prepare.proofs.Table.{table-both}
 use Rattle.film_prepare.proofs.Like.{prepare-kept}
-use Rattle.film_draw.specs.Draw.{DrawOut, drawLeaves, drawOf}
+use Rattle.film_draw.specs.Draw.{drawLeaves, drawOf}
 use Rattle.film_draw.proofs.Like.{draw-kept}
 use Rattle.film_sets.specs.declared.Set.{Set}
 use Rattle.film_sets.specs.declared.Room.{Room}
@@ -34,14 +34,12 @@ use Rattle.film_sets.proofs.Tables.{fit-free}
 use Rattle.film_room.specs.Room.{storedRows, setRows, showOf}
 use Rattle.film_room.proofs.Drops.{stored-free}
 use Rattle.film_room.proofs.Fifteen.{set-own-free}
-use Rattle.film_room.proofs.Shows.{show-as-alone, show-kept}
+use Rattle.film_room.proofs.Shows.{show-as-alone}
 use Rattle.promise_films.proofs.Accepted.{prepare-record}
 use Rattle.promise_films.proofs.Reuse.{left-laid, left-room}
 use Rattle.promise_films.proofs.Runs.{PrepareCall, Prepares, prepare-ends, DrawCall, Draws, draw-ends}
 use Rattle.promise_room.proofs.Kept.{FilmGood, filmSpans, Kept, span-films}
 use Rattle.promise_room.specs.Films.{StoredFilm, filmSet, filmSize}
-use Rattle.promise_room.proofs.Runs.{ShowCall, RoomDraws, show-ends}
-use Rattle.promise_room.proofs.Histories.{History, room-kept}
 
 -- the sets up to one, and that one, are no more than all
 spans-at : (fs : List StoredFilm) (i : ℕ) (d : StoredFilm) → i < length fs → filmSpans (take i fs) + filmSize (getD fs i d) ≤ filmSpans fs
@@ -110,10 +108,6 @@ module _ {room : Room} {m : List ℕ} {fs : List StoredFilm} (kept : Kept room m
         ∙ take-take (entriesOf (f .settings)) (entriesOf (f .settings)) (drop (filmSpans (take i fs)) m) (omega arith)
         ∙ good .mapped one
         ∙ sym (front one))
-
--- a room handed on as it was returned is never refused as a record, with its buffer
-pub room-never-40 : {room : Room} {m : List ℕ} {fs : List StoredFilm} → History room m fs → first (fitRows room (length m)) ≡ 0
-room-never-40 history = never-40 (room-kept history)
 
 -- ---- one film of the room
 
@@ -192,14 +186,3 @@ module _ {f : StoredFilm} {p : PrepareCall} {foot : Footer} {d : DrawCall} (alon
       among-alone kept among (d .window) (d .out) (left .map)
       (left-room (f .number) (f .width) (f .height) (f .pixels) (f .settings) (p .map) (p .scratch) (p .list) done) left-front
       ∙ sym drawn-ends
-
-  -- "each film stored and not dropped, its pixels unchanged since, draws as if it alone had been prepared": the same answer, with whatever window and output, and the same output
-  pub room-as-alone : {room : Room} {m : List ℕ} {fs : List StoredFilm} → History room m fs → Among f fs
-      → (c : ShowCall) → RoomDraws c → c .room ≡ room → c .map ≡ m → OfFilm f (c .film) (c .width) (c .height) (c .pixels) (c .settings)
-      → c .window ≡ d .window → c .out ≡ d .out → (c .answer ≡ d .answer) × (c .out′ ≡ d .out′)
-  room-as-alone {room} {m} {fs} history among c ran same-room same-map of same-window same-out =
-      let shown : drawLeaves (c .answer) (c .out′) ≡ drawLeaves (d .answer) (d .out′) =
-      show-ends ran
-      ∙ of-film (λ n w h pic s. showOf (c .room) n w h pic s (c .window) (c .map) (c .out)) (λ n w h pic s. show-kept (c .room) n w h pic s (c .window) (c .map) (c .out)) of
-      ∙ rw (same-room, same-map, same-window, same-out) (alone-shows (room-kept history) among) in
-      (ap (λ (z : DrawOut). z .answer) shown, ap (λ (z : DrawOut). z .out) shown)

@@ -3,12 +3,11 @@
 -- Assumes nothing.
 use Prim.Native.Nat.{ℕ}
 use mathlib.Core.List.{List, []}
-use mathlib.Core.Path.{_≡_, refl, sym, ap, ap₂, subst, _∙_}
+use mathlib.Core.Path.{_≡_, sym, ap, ap₂, subst, _∙_}
 use native.Mathlib.Omega.{arith}
 use lib.ListN.{length}
-use Rattle.base_lists.proofs.Tabs.{length-tab}
 use Rattle.film_sets.specs.declared.Room.{Room}
-use Rattle.film_sets.specs.Sets.{noSet, held, twice, emptyRoom}
+use Rattle.film_sets.specs.Sets.{held, twice}
 use Rattle.film_sets.proofs.Laid.{none}
 use Rattle.film_sets.proofs.Holds.{held-none, twice-nil}
 use Rattle.film_room.specs.Room.{StoreOut, storeOf, DropOut, dropOf}
@@ -30,23 +29,18 @@ pub data History : Room → List ℕ → List StoredFilm → Type 0 where
   drops : {room : Room} {m : List ℕ} {fs : List StoredFilm} → History room m fs → (c : DropCall) → Drops c → c .room ≡ room → c .map ≡ m
       → History (c .room′) (c .map′) (filmsAfterDrop (c .answer) (c .film) fs)
 
--- so a room begins as `film_sets::empty` makes it, with any buffer
-pub empty-begins : (m : List ℕ) → History emptyRoom m []
-unfolding emptyRoom
-empty-begins m = begin emptyRoom m refl (length-tab 8 (λ k. noSet))
-
 -- the sets held are the films' own, in order; each film's entries hold its mappings, at the factor 1.0 whatever stood there; no number stands there twice, and there are at most eight
-pub room-kept : {room : Room} {m : List ℕ} {fs : List StoredFilm} → History room m fs → Kept room m fs
-room-kept (begin room m none-yet eight) = record { sets = empty; laid = none; numbers = ap twice empty ∙ twice-nil; few = omega arith; places = eight }
+pub history-kept : {room : Room} {m : List ℕ} {fs : List StoredFilm} → History room m fs → Kept room m fs
+history-kept (begin room m none-yet eight) = record { sets = empty; laid = none; numbers = ap twice empty ∙ twice-nil; few = omega arith; places = eight }
   where
     empty : held room ≡ []
     empty = held-none room none-yet
-room-kept (stores {room} {m} {fs} before-it c ran same-room same-map) =
+history-kept (stores {room} {m} {fs} before-it c ran same-room same-map) =
     subst (λ (z : StoreOut). Kept (z .room) (z .map) (filmsAfterStore (z .answer) (storedFilm c) fs))
     (sym (store-ends ran ∙ ap₂ (λ x y. storeOf x (c .film) (c .width) (c .height) (c .pixels) (c .settings) y (c .scratch) (c .list)) same-room same-map))
-    (store-keeps (room-kept before-it) (storedFilm c) (c .scratch) (c .list))
-room-kept (draws before-it c ran same-room same-map) = room-kept before-it
-room-kept (drops {room} {m} {fs} before-it c ran same-room same-map) =
+    (store-keeps (history-kept before-it) (storedFilm c) (c .scratch) (c .list))
+history-kept (draws before-it c ran same-room same-map) = history-kept before-it
+history-kept (drops {room} {m} {fs} before-it c ran same-room same-map) =
     subst (λ (z : DropOut). Kept (z .room) (z .map) (filmsAfterDrop (z .answer) (c .film) fs))
     (sym (drop-ends ran ∙ ap₂ (λ x y. dropOf x (c .film) y) same-room same-map))
-    (drop-keeps (room-kept before-it) (c .film))
+    (drop-keeps (history-kept before-it) (c .film))

@@ -1,7 +1,6 @@
--- Document 01, "How tight the promises are", of the calls for C on films of bytes, on counts and on a room: any two outcomes that a contract allows are equal.
--- Document 00, demand 1: "after a refusal all lent memory holds what it held before", a room record's cells too, where a refusal is a returned number that is not 0.
--- Of every run of the calls by their contracts (Runs); a name with ′ is lent memory, or a room record's cells, at the end.
--- A float's cell is told up to the float in it, as of the wide calls.
+-- Demand 1 of the calls for C on films of bytes, on counts and on a room: any two outcomes that a contract allows are equal, and "after a refusal all lent memory holds what it held before", a room record's cells too,
+-- where a refusal is a returned number that is not 0. A float's cell is told up to the float in it, as of the wide calls.
+-- Promises alone: of every run of the calls by their contracts (Runs), each listed in docs/PROMISES.md. A name with ′ is lent memory, or a room record's cells, at the end.
 -- Assumes nothing.
 use Prim.Native.Nat.{_<_}
 use mathlib.Core.Path.{_≡_, refl, sym, ap, _∙_}
@@ -14,7 +13,7 @@ use Rattle.byte_prepare.specs.Bytes.{bytePrepareOf, byteEnhanceOf}
 use Rattle.byte_draw.specs.Bytes.{byteDrawOf}
 use Rattle.promise_films.proofs.Accepted.{returned-kept}
 use Rattle.promise_bytes.proofs.Inside.{prepare-bytes-table, enhance-bytes-table, draw-bytes-table}
-use Rattle.promise_counts.proofs.Outcomes.{count-table, map-table}
+use Rattle.promise_counts.proofs.Tables.{count-table, map-table}
 use Rattle.promise_room.proofs.Outcomes.{store-table, show-table, drop-table}
 use Rattle.c_flat.specs.Flat.{recordFrom}
 use Rattle.c_flat.specs.Films.{FlatPrepared, flatPrepared, FlatEnhanced, flatEnhanced, FlatDrawn, flatDrawn}
@@ -48,6 +47,7 @@ tz-enhance-bytes-determined x y same =
     let e = tz-enhance-bytes-ends x ∙ ap (λ g. flatEnhanced (byteEnhanceOf (g .0) (g .1) (g .2) (g .3) (g .4) (g .5)) (g .6)) same ∙ sym (tz-enhance-bytes-ends y) in
     (ap (λ (z : FlatEnhanced). z .number) e, ap (λ (z : FlatEnhanced). z .picture) e, ap (λ (z : FlatEnhanced). z .map) e, ap (λ (z : FlatEnhanced). z .scratch) e, ap (λ (z : FlatEnhanced). z .foot) e)
 
+-- a refusal keeps picture, map buffer, scratch and cells
 pub tz-enhance-bytes-refusal-keeps : {c : TzEnhanceCall} → TzEnhancesBytes c → 0 < c .number → (c .pixels′ ≡ c .pixels) × (c .map′ ≡ c .map) × (c .scratch′ ≡ c .scratch) × (c .foot′ ≡ c .foot)
 unfolding flatEnhanced enhancedSays enhancedOf
 tz-enhance-bytes-refusal-keeps {c} ran l =
@@ -62,6 +62,7 @@ tz-draw-bytes-determined x y same =
     let e = tz-draw-bytes-ends x ∙ ap (λ g. flatDrawn (byteDrawOf (g .0) (g .1) (g .2) (g .3) (g .4) (recordFrom (g .5) (g .6) (g .7)) (g .8) (g .9) (g .10))) same ∙ sym (tz-draw-bytes-ends y) in
     (ap (λ (z : FlatDrawn). z .number) e, ap (λ (z : FlatDrawn). z .out) e)
 
+-- a refusal keeps the output
 pub tz-draw-bytes-refusal-keeps : {c : TzDrawCall} → TzDrawsBytes c → 0 < c .number → c .out′ ≡ c .out
 unfolding flatDrawn drawnSays
 tz-draw-bytes-refusal-keeps ran l =
@@ -75,6 +76,7 @@ tz-count-determined x y same =
     let e = tz-count-ends x ∙ ap (λ g. flatCounted (countOf (g .0) (g .1) (g .2) (g .3) (g .4))) same ∙ sym (tz-count-ends y) in
     (ap (λ (z : FlatCounted). z .number) e, ap (λ (z : FlatCounted). z .counts) e)
 
+-- a refusal keeps the counts
 pub tz-count-refusal-keeps : {c : TzCountCall} → TzCounts c → 0 < c .number → c .counts′ ≡ c .counts
 unfolding flatCounted countedSays
 tz-count-refusal-keeps ran l =
@@ -89,6 +91,7 @@ tz-map-determined x y same =
     let e = tz-map-ends x ∙ ap (λ g. flatPrepared (mapOf (g .0) (g .1) (g .2) (g .3) (g .4) (g .5) (g .6) (g .7)) (g .8)) same ∙ sym (tz-map-ends y) in
     (ap (λ (z : FlatPrepared). z .number) e, ap (λ (z : FlatPrepared). z .map) e, ap (λ (z : FlatPrepared). z .scratch) e, ap (λ (z : FlatPrepared). z .list) e, ap (λ (z : FlatPrepared). z .cells) e)
 
+-- a refusal keeps map buffer, scratch, list and cells
 pub tz-map-refusal-keeps : {c : TzMapCall} → TzMaps c → 0 < c .number → (c .map′ ≡ c .map) × (c .scratch′ ≡ c .scratch) × (c .list′ ≡ c .list) × (c .cells′ ≡ c .cells)
 unfolding flatPrepared preparedSays mapDoneOf
 tz-map-refusal-keeps {c} ran l =

@@ -1,5 +1,5 @@
 -- Order 5 and the byte profile: what mapping left of a film that was counted as its numbers, with settings inside the profile, serves draw on bytes.
--- Of every run of counting, mapping and draw on bytes by their contracts; a name with ′ is lent memory at the end.
+-- Promises alone: of every run of the calls by their contracts (Runs), each listed in docs/PROMISES.md. A name with ′ is lent memory at the end.
 -- Assumes nothing.
 use Prim.Native.Nat.{ℕ, _+_, _<_}
 use mathlib.Core.Bool.{false}
@@ -13,12 +13,13 @@ use Rattle.film_settings.specs.Settings.{entriesOf, clipOne}
 use Rattle.film_draw.specs.Draw.{drawnSays}
 use Rattle.pixel_rule.specs.Rule.{ruleGrey}
 use Rattle.promise_films.proofs.Runs.{DrawCall}
-use Rattle.promise_films.proofs.Calls.{drawnGrey}
+use Rattle.promise_films.proofs.Ways.{drawnGrey}
 use Rattle.promise_films.proofs.Made.{HandedFilm, handed-done, shown-by-rule}
 use Rattle.promise_bytes.proofs.Runs.{DrawsBytes}
 use Rattle.promise_bytes.proofs.Either.{Inside, kept-inside, either-shown, accepted-shown}
 use Rattle.promise_counts.proofs.Runs.{MapCall}
-use Rattle.promise_counts.proofs.Drawn.{MappedFrom, mapped-made}
+use Rattle.promise_counts.proofs.Ways.{MappedFrom}
+use Rattle.promise_counts.proofs.Order5.{mapped-made}
 
 -- handed to draw on bytes with the same film, the record that mapping answered, the settings, the mappings, a window inside the film and an output of its area, it is drawn
 pub mapped-drawn-bytes-done : {pic : List ℕ} {m : MapCall} {foot : Footer} {d : DrawCall} → MappedFrom pic m (d .kept) foot → Inside (m .settings) → DrawsBytes d
