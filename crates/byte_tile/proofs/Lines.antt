@@ -1,15 +1,14 @@
--- Laws of rows and mappings that go through a line of 16-bit entries.
+-- Laws of mappings that go through a line of 16-bit entries.
 -- Assumes nothing.
-use Prim.Native.Nat.{ℕ, _+_, _-_, _*_, _≤_, _<_}
+use Prim.Native.Nat.{ℕ, _+_, _*_, _≤_}
 use mathlib.Core.Bool.{true}
 use mathlib.Core.List.{List, _++_}
-use mathlib.Core.Path.{_≡_, refl, sym, ap, subst, _∙_}
+use mathlib.Core.Path.{_≡_, sym, ap, _∙_}
 use lib.ListN.{length, take, drop, getD, length-append}
 use lib.Seq.{take-at, length-take-le}
 use native.Mathlib.Omega.{arith}
 use borrow.Author.Tests.{lt-ltb}
 use Rattle.base_lists.specs.Lists.{onto, all}
-use Rattle.base_lists.proofs.Fills.{take-onto}
 use Rattle.base_lists.proofs.Maps.{onto-whole}
 use Rattle.base_lists.proofs.Alls.{all-at, all-from}
 use Rattle.tile_limit.specs.declared.Clip.{Clip}
@@ -17,38 +16,12 @@ use Rattle.tile_limit.specs.declared.Edition.{Edition}
 use Rattle.base_range.specs.Scan.{within}
 use Rattle.base_range.proofs.Spans.{within-high}
 use Rattle.tile_count.specs.declared.Rect.{Rect}
-use Rattle.tile_count.specs.Tally.{greysOf, countsOf, FourAsks, FourAdded, CountRowsAsks}
-use Rattle.tile_count.proofs.Greys.{inside-part, length-row}
+use Rattle.tile_count.specs.Tally.{greysOf, countsOf}
 use Rattle.tile_clip.specs.declared.Spent.{Spent}
 use Rattle.tile_map.specs.Tile.{clippedBy, countsMapping, spentBy, FromCountsAsks, TileMapped}
 use Rattle.tile_map.proofs.Tiles.{length-counts-mapping, counts-mapping-within, tile-part, tile-asks, tile-mapped}
 use Rattle.byte_narrow.specs.Narrow.{isByte}
 use Rattle.byte_tile.specs.ByteTile.{ByteMappingAsks}
-
--- ---- one row
-
-module _ (d row : List ℕ) {line : List ℕ} (e : line ≡ onto d row) where
-  -- the front of the line holds the row
-  line-row : take (length row) line ≡ row
-  line-row = ap (take (length row)) e ∙ take-onto d row (length row) refl
-
-  pub line-part : length row ≡ length (take (length row) line)
-  line-part = sym (ap length line-row)
-
-  module _ {lo hi n : ℕ} {a b c x : List ℕ} where
-    -- so it asks what the row asks
-    pub line-asks : {factor : ℕ} → FourAsks row lo hi n factor a b c x → FourAsks (take (length row) line) lo hi n factor a b c x
-    line-asks {factor} asks = subst (λ t. FourAsks t lo hi n factor a b c x) (sym line-row) asks
-
-    -- and to count it is to count the row
-    pub line-added : {a′ b′ c′ x′ : List ℕ} → FourAdded (take (length row) line) lo hi n a b c x a′ b′ c′ x′ → FourAdded row lo hi n a b c x a′ b′ c′ x′
-    line-added {a′} {b′} {c′} {x′} so = subst (λ t. FourAdded t lo hi n a b c x a′ b′ c′ x′) line-row so
-
--- a row of the rectangle is no longer than the line
-pub row-fits : {pic : List ℕ} {stride : ℕ} {r : Rect} {lo hi n factor : ℕ} {a b c d : List ℕ} {wide : ℕ} → CountRowsAsks pic stride r lo hi n factor a b c d → r .width ≤ wide
-    → (y : ℕ) → y < r .height
-    → length (take ((r .top + y) * stride + r .left + r .width - ((r .top + y) * stride + r .left)) (drop ((r .top + y) * stride + r .left) pic)) ≤ wide
-row-fits {pic} {stride} {r} asks h y l = omega (arith, ap length (inside-part pic stride r (asks .asks .inside) y l) ∙ length-row pic stride r y)
 
 -- ---- the mapping
 

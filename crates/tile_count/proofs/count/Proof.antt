@@ -1,4 +1,4 @@
--- `tile_count::count` meets its contract: by four counts, or by greys added to cleared ones.
+-- `tile_count::count` meets its contract: by eight ways, by four counts, or by greys added to cleared ones.
 -- Assumes nothing.
 use native.Mathlib.Omega.{arith}
 use borrow.Author.Needs.{needs}
@@ -9,7 +9,7 @@ use Rattle.tile_count.proofs.count.Reads as reads
 use Rattle.tile_count.proofs.count.Lts as lts
 use Rattle.base_lists.proofs.clear.Reads as clear-reads
 use Rattle.tile_bin.proofs.bin_factor.Reads as bin-factor-reads
-use Rattle.tile_count.proofs.count_four_ways.Reads as count-four-ways-reads
+use Rattle.tile_count.proofs.count_eight_ways.Reads as count-eight-ways-reads
 use Rattle.tile_count.proofs.count_four_wide.Reads as count-four-wide-reads
 use Rattle.tile_count.proofs.count_four_widest.Reads as count-four-widest-reads
 use Rattle.tile_count.proofs.count_plain.Reads as count-plain-reads
@@ -17,14 +17,14 @@ use Rattle.tile_count.proofs.count_plain.Reads as count-plain-reads
 bin-factor-requires : tie.Need-bin-factor-requires
 bin-factor-requires c κs = search needs
 
-count-four-ways-requires : tie.Need-count-four-ways-requires
-count-four-ways-requires c κs = (c .before .before .before .before .before .pre, c .before .before .bin-factor .ensures, omega arith)
+count-eight-ways-requires : tie.Need-count-eight-ways-requires
+count-eight-ways-requires c κs = (c .before .before .before .before .before .pre, c .before .before .bin-factor .ensures, omega arith)
 
 same-length : tie.Need-same-length
 same-length c = search needs
 
 returns : tie.Need-returns
-returns c = c .before .before .count-four-ways .ensures
+returns c = c .before .before .count-eight-ways .ensures
 
 mul-if2 : tie.Need-mul-if2
 mul-if2 c = search needs
@@ -64,7 +64,7 @@ count-spec =
     tie.close
     (tie.spec
     bin-factor-requires
-    count-four-ways-requires
+    count-eight-ways-requires
     same-length
     returns
     mul-if2
