@@ -1,4 +1,6 @@
 // Filling, copying and comparing slices.
+#![tactic(auto)]
+
 ghost use Rattle.std.specs.Prelude.{◌≡◌, ◌≤◌, length};
 ghost use Rattle.base_lists.specs.Lists.{onto, filled, same as same_lem};
 

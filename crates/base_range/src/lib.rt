@@ -1,4 +1,6 @@
 // Scans: whether greys lie in a range.
+#![tactic(auto)]
+
 ghost use Rattle.std.specs.Prelude.{◌≡◌, min, max};
 ghost use Rattle.base_lists.specs.Lists.{all};
 ghost use Rattle.base_range.specs.Scan.{within};

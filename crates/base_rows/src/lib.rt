@@ -1,1 +1,3 @@
 // Refusals as tables: definitions and laws alone, in specs/ and proofs/.
+
+#![tactic(auto)]

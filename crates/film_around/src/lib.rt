@@ -109,7 +109,7 @@ fn area(width: u32, height: u32, side: u32, x: u32, y: u32) -> u32
 }
 
 // The least and the greatest of some greys.
-#[derive(Drop)]
+#[derive(Clone, Copy)]
 struct Greys {
     low: u16,
     high: u16,
@@ -117,7 +117,7 @@ struct Greys {
 
 // The bins from `low` up to `top` and with it, which is where the counts of some regions are looked for. Nothing rests on it: whether all of a region's
 // pixels are in these bins is asked of its counts.
-#[derive(Drop)]
+#[derive(Clone, Copy)]
 struct Span {
     low: usize,
     top: usize,
@@ -186,7 +186,7 @@ fn part_of(width: u32, height: u32, side: u32, x: u32, y: u32) -> Window
 }
 
 // A part of the film that was copied, and the bins of its greys.
-#[derive(Drop)]
+#[derive(Clone, Copy)]
 struct Kept {
     win: Window,
     span: Span,

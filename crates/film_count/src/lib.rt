@@ -8,7 +8,7 @@ ghost use Rattle.film_count.specs.Counting.{raw_counts, countings, counts_rows, 
 use film_settings::Settings;
 
 // What counting answers: done, or the refusal's number alone.
-#[derive(Drop)]
+#[derive(Clone, Copy)]
 pub enum Counted {
     Done,
     Refused(u32),

@@ -6,7 +6,7 @@ ghost use Rattle.film_draw.specs.Draw.{pixel_rows, draw_rows, drawn_pixels, draw
 use film_settings::{MapRecord, Settings, Window};
 
 // What draw answers: done, or the refusal's number alone.
-#[derive(Drop)]
+#[derive(Clone, Copy)]
 pub enum Drawn {
     Done,
     Refused(u32),

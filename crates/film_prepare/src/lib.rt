@@ -6,21 +6,21 @@ ghost use Rattle.film_prepare.specs.Prepare.{listed_rows, prepare_rows, prepare_
 use film_settings::{Footer, MapRecord, Settings, Window};
 
 // What became of a film: its footer, or the refusal's number alone.
-#[derive(Drop)]
+#[derive(Clone, Copy)]
 pub enum Made {
     Done(Footer),
     Refused(u32),
 }
 
 // What prepare answers: that, beside the record of what the mappings were made for. A refusal's record is no film's.
-#[derive(Drop)]
+#[derive(Clone, Copy)]
 pub struct Prepared {
     pub answer: Made,
     pub kept: MapRecord,
 }
 
 // What enhance answers: the footer, or the refusal's number alone.
-#[derive(Drop)]
+#[derive(Clone, Copy)]
 pub enum Enhanced {
     Done(Footer),
     Refused(u32),

@@ -10,28 +10,28 @@ use film_sets::{Room, Set};
 use film_settings::{Footer, Settings, Window};
 
 // What became of a film to be stored: its footer, or the refusal's number alone.
-#[derive(Drop)]
+#[derive(Clone, Copy)]
 pub enum Stored {
     Done(Footer),
     Refused(u32),
 }
 
 // What store answers: that, beside the room record. A refusal's is the one that was handed in.
-#[derive(Drop)]
+#[derive(Clone, Copy)]
 pub struct Keep {
     pub answer: Stored,
     pub room: Room,
 }
 
 // What became of a film to be dropped.
-#[derive(Drop)]
+#[derive(Clone, Copy)]
 pub enum Dropped {
     Done,
     Refused(u32),
 }
 
 // What drop answers, likewise.
-#[derive(Drop)]
+#[derive(Clone, Copy)]
 pub struct Left {
     pub answer: Dropped,
     pub room: Room,

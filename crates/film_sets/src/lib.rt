@@ -8,7 +8,7 @@ use film_settings::Settings;
 use tile_limit::{Clip, Edition};
 
 // What the mappings of one film were made for.
-#[derive(Drop)]
+#[derive(Clone, Copy)]
 pub struct Set {
     pub film: u32,
     pub width: u32,
@@ -17,7 +17,7 @@ pub struct Set {
 }
 
 // The films that are stored: how many, and the set of each.
-#[derive(Drop)]
+#[derive(Clone, Copy)]
 pub struct Room {
     pub count: u32,
     pub sets: [Set; 8],

@@ -7,7 +7,7 @@ use pixel_grid::Axis;
 use tile_limit::{Clip, Edition, Judged};
 
 // Grid across and down, bins, grey range, clip setting and edition of the clip rule.
-#[derive(Drop)]
+#[derive(Clone, Copy)]
 pub struct Settings {
     pub across: u32,
     pub down: u32,
@@ -19,7 +19,7 @@ pub struct Settings {
 }
 
 // What a film's mappings were made for: its number, sizes and settings, with bins 0 kept as 128, and its tiles' edges and centres.
-#[derive(Drop)]
+#[derive(Clone, Copy)]
 pub struct MapRecord {
     pub film: u32,
     pub width: u32,
@@ -30,7 +30,7 @@ pub struct MapRecord {
 }
 
 // The limit, the factor asked for and the factor that the limit really stands for.
-#[derive(Drop)]
+#[derive(Clone, Copy)]
 pub struct Footer {
     pub limit: u32,
     pub asked: f32,
@@ -38,7 +38,7 @@ pub struct Footer {
 }
 
 // A part of a film.
-#[derive(Drop)]
+#[derive(Clone, Copy)]
 pub struct Window {
     pub left: u32,
     pub top: u32,

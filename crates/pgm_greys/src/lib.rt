@@ -7,7 +7,7 @@ ghost use Rattle.pgm_raster.specs.Raster.{RasterAsks};
 ghost use Rattle.pgm_greys.specs.Greys.{target_rows, turn_rows, GreyAsks, greys_leave, turned_of};
 
 // Whether a raster was turned into greys.
-#[derive(Drop)]
+#[derive(Clone, Copy)]
 pub enum Turned {
     Done,
     Refused(u32),

@@ -4,14 +4,14 @@ ghost use Rattle.base_lists.specs.Lists.{onto, over};
 ghost use Rattle.pgm_header.specs.Header.{is_white_of, is_digit_of, misfit_of, white_of, digits_of, first_digit_of, number_of, then_head, head_end, head_fields, header_of, decimal_of, header_bytes};
 
 // A number of the header with the place behind it, or the refusal of what stands in its place.
-#[derive(Drop)]
+#[derive(Clone, Copy)]
 pub enum Number {
     Read(u32, usize),
     Misfit(u32),
 }
 
 // A header: width, height, maxval and the place where the raster starts; or its refusal.
-#[derive(Drop)]
+#[derive(Clone, Copy)]
 pub enum Head {
     Found(u32, u32, u32, usize),
     Refused(u32),

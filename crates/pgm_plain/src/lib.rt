@@ -8,14 +8,14 @@ ghost use Rattle.pgm_plain.specs.Plain.{plain_head_of, plain_head_bytes, ends_at
 use pgm_header::{Head, Number};
 
 // A sample's grey with the place behind it, or its refusal.
-#[derive(Drop)]
+#[derive(Clone, Copy)]
 pub enum Sample {
     Grey(u32, usize),
     Refused(u32),
 }
 
 // Where the samples end, or the refusal of the first that is not in order.
-#[derive(Drop)]
+#[derive(Clone, Copy)]
 pub enum Scan {
     Done(usize),
     Refused(u32),

@@ -5,7 +5,7 @@ ghost use Rattle.pgm_read.specs.Pgm.{judged_found, read_of, sizes_of, raster_of,
 use pgm_header::Head;
 
 // What read finds: width, height and maxval, or the refusal.
-#[derive(Drop)]
+#[derive(Clone, Copy)]
 pub enum Sizes {
     Found(u32, u32, u32),
     Refused(u32),

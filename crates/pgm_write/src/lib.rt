@@ -5,7 +5,7 @@ ghost use Rattle.base_rows.specs.Refuse.{first};
 ghost use Rattle.pgm_write.specs.Write.{file_of, file_picture_rows, write_rows, WriteAsks, write_leaves, write_of};
 
 // How many bytes were written, or the refusal.
-#[derive(Drop)]
+#[derive(Clone, Copy)]
 pub enum Written {
     Bytes(usize),
     Refused(u32),

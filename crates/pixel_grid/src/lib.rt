@@ -3,7 +3,7 @@ ghost use Rattle.std.specs.Prelude.{◌≡◌, ◌≤◌, ◌<◌};
 ghost use Rattle.pixel_grid.specs.Grid.{edge_of, size_of, centre_of, edge_at_of, centre_at_of, axis_of, no_axis_of, same_axis_of, Fits};
 
 // The edges and centres of the tile columns of a film, or of its tile rows; 0 behind the last of each.
-#[derive(Drop)]
+#[derive(Clone, Copy)]
 pub struct Axis {
     pub edges: [u32; 17],
     pub centres: [u32; 16],

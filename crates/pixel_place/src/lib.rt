@@ -4,7 +4,7 @@ ghost use Rattle.pixel_grid.specs.Grid.{centre_of, Fits};
 ghost use Rattle.pixel_place.specs.Blend.{alone, between, place_of, weighed_of, grey_of, pair_of, sides_of, Sound, inverse_of, Inverse, SameTiles, length_of};
 
 // A column's or a row's place: the tiles below and above it, the weight of each, and the span that the weights add up to.
-#[derive(Drop)]
+#[derive(Clone, Copy)]
 pub struct Place {
     pub lower: u32,
     pub upper: u32,

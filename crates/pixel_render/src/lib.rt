@@ -18,7 +18,7 @@ fn lesser(a: usize, b: usize) -> usize
 }
 
 // Pixels of a row that lie between the same tiles: the first one's place, and where they end.
-#[derive(Drop)]
+#[derive(Clone, Copy)]
 struct Section {
     column: Place,
     end: usize,

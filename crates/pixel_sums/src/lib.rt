@@ -48,7 +48,7 @@ fn along(column: Place, i: usize) -> Place
 }
 
 // A pixel's bin, the pairs of that bin, its weighted sum, and how many sums have moved.
-#[derive(Drop)]
+#[derive(Clone, Copy)]
 struct Sum {
     bin: u16,
     left: u32,

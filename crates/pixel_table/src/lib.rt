@@ -6,14 +6,14 @@ ghost use Rattle.pixel_table.specs.Table.{patch_of, blended_run, entry_of, sum_a
 use pixel_place::Place;
 
 // A pixel's places among the tile columns and the tile rows.
-#[derive(Drop)]
+#[derive(Clone, Copy)]
 pub struct Spot {
     pub column: Place,
     pub row: Place,
 }
 
 // The least and the greatest of some bins.
-#[derive(Drop)]
+#[derive(Clone, Copy)]
 pub struct Ends {
     pub low: u16,
     pub high: u16,

@@ -18,7 +18,7 @@ use test_text::Text;
 const BY_WIDE: u64 = 11;
 
 // What prepare or enhance left: the answer with the record for draw, the picture's digest, and the map.
-#[derive(Drop)]
+#[derive(Clone, Copy)]
 pub struct Made {
     pub kept: Kept,
     pub digest: u64,

@@ -38,7 +38,7 @@ const FIRST_TURN: usize = 27;
 const SPAN: u64 = 4294967296;
 
 // What a call left: its answer, 0 where it accepted, and the digests of map, scratch and list.
-#[derive(Drop)]
+#[derive(Clone, Copy)]
 pub struct Left {
     pub number: u32,
     pub map: u64,

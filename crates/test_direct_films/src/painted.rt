@@ -7,7 +7,7 @@ use test_text::Text;
 const TARGET_ROOM: usize = 25;
 
 // What direct left: its answer, 0 where it accepted, and the target's digest.
-#[derive(Drop)]
+#[derive(Clone, Copy)]
 pub struct Left {
     pub number: u32,
     pub digest: u64,

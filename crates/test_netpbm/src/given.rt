@@ -1,6 +1,6 @@
 // A file as it is given: a line with the command that made it, and a line with its bytes as numbers, each but the first
 // behind one blank.
-#[derive(Drop)]
+#[derive(Clone, Copy)]
 pub struct Given {
     pub in_bytes: bool,
     pub bytes: [u8; 64],

@@ -1,6 +1,6 @@
 // A row as it is given: a letter, then numbers, each behind one blank. The first five are the row's number, the room that is lent, a
 // width, a height and a maxval; the others, 64 at most, are the bytes of a file or the greys of a picture.
-#[derive(Drop)]
+#[derive(Clone, Copy)]
 pub struct Row {
     pub letter: u8,
     pub head: [u32; 5],

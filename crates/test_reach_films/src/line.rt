@@ -16,7 +16,7 @@ const X: usize = 5;
 const Y: usize = 6;
 
 // What came of one film: the answers of prepare, draw and enhance, 0 where they accepted, and the pixel's grey as draw and as enhance left it.
-#[derive(Drop)]
+#[derive(Clone, Copy)]
 pub struct Shown {
     pub prepared: u32,
     pub drawn: u32,

@@ -5,7 +5,7 @@ use test_set::row::Line;
 use test_set::whole::{Row, at, fitting, with};
 
 // A film that is stored: its number, its film row, and the column and the number that were changed in that. Four numbers a film.
-#[derive(Drop)]
+#[derive(Clone, Copy)]
 pub struct Station {
     pub line: Line,
     pub ran: bool,
@@ -18,7 +18,7 @@ pub struct Station {
 }
 
 // A film of the room, as it was handed to store.
-#[derive(Drop)]
+#[derive(Clone, Copy)]
 pub struct Film {
     pub number: u64,
     pub case: u64,

@@ -8,7 +8,7 @@ use pixel_grid::Axis;
 use test_text::Text;
 
 // That of the tile columns and that of the tile rows.
-#[derive(Drop)]
+#[derive(Clone, Copy)]
 pub struct Axes {
     pub columns: Axis,
     pub rows: Axis,

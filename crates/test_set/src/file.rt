@@ -14,7 +14,7 @@ use test_text::Text;
 const TARGET_BASE: u64 = 40000;
 
 // The answer of a call for the sizes, and the sizes where it accepted.
-#[derive(Drop)]
+#[derive(Clone, Copy)]
 pub struct Found {
     pub number: u32,
     pub width: u32,
@@ -23,14 +23,14 @@ pub struct Found {
 }
 
 // The answer of write or of the listing, and the byte count where it accepted.
-#[derive(Drop)]
+#[derive(Clone, Copy)]
 pub struct Laid {
     pub number: u32,
     pub count: usize,
 }
 
 // The bytes of a row that are turned: where the raster starts, how long the target is, and how much of it is digested.
-#[derive(Drop)]
+#[derive(Clone, Copy)]
 pub struct Turn {
     pub letter: u8,
     pub no: u64,

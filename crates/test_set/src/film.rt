@@ -27,7 +27,7 @@ const NO_FIELD: u64 = 12;
 pub const NOWHERE: u64 = 18446744073709551615;
 
 // What prepare or enhance left: the answer with the record for draw, the picture's digest, and the map.
-#[derive(Drop)]
+#[derive(Clone, Copy)]
 pub struct Made {
     pub kept: Kept,
     pub digest: u64,
@@ -35,7 +35,7 @@ pub struct Made {
 }
 
 // What a call left besides picture, map and scratch: the answer with the record for draw, and of prepare's list the digest and the line.
-#[derive(Drop)]
+#[derive(Clone, Copy)]
 pub struct Left {
     pub kept: Kept,
     pub list: u64,
@@ -43,7 +43,7 @@ pub struct Left {
 }
 
 // What came of a row: 0 where each call accepted, and the digest of the rendered pixels.
-#[derive(Drop)]
+#[derive(Clone, Copy)]
 pub struct Shot {
     pub number: u32,
     pub digest: u64,

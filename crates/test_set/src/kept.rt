@@ -11,7 +11,7 @@ use test_text::Text;
 use tile_limit::{Clip, Edition};
 
 // A film's number, sizes and settings, as flat as C hands them.
-#[derive(Drop)]
+#[derive(Clone, Copy)]
 pub struct Eleven {
     pub film: u32,
     pub width: u32,
@@ -27,7 +27,7 @@ pub struct Eleven {
 }
 
 // An answer, 0 where the call accepted, and the record that prepare returned or, where it refused, the made one.
-#[derive(Drop)]
+#[derive(Clone, Copy)]
 pub struct Kept {
     pub number: u32,
     pub eleven: Eleven,

@@ -7,7 +7,7 @@ use crate::column;
 use crate::whole::{Row, at, minus, plus, rest, times};
 
 // The numbers of a row that the film rule asks for.
-#[derive(Drop)]
+#[derive(Clone, Copy)]
 pub struct Rule {
     pub kind: u64,
     pub width: u64,

@@ -18,7 +18,7 @@ const WRITE: u64 = 87;
 const LIST: u64 = 76;
 
 // What is read of a line: its numbers, the place of the one that is read, and that one's base.
-#[derive(Drop)]
+#[derive(Clone, Copy)]
 pub struct Line {
     pub numbers: Row,
     pub count: usize,

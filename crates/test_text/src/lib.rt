@@ -7,7 +7,7 @@ ghost use Rattle.test_text.specs.Text.{blank_text, put_of, puts_of, line_start, 
 use libc::STDOUT_FILENO;
 
 // Its bytes, and how many there are. The longest line lists 64 numbers of 20 digits behind a number of 20.
-#[derive(Drop)]
+#[derive(Clone, Copy)]
 pub struct Text {
     pub bytes: [u8; 1368],
     pub end: usize,

@@ -1,4 +1,6 @@
 // The bin of a grey.
+#![tactic(auto)]
+
 ghost use Rattle.std.specs.Prelude.{◌≡◌, ◌+◌, ◌-◌, ◌*◌, ◌^◌, ◌≤◌, ◌<◌};
 ghost use Rattle.tile_bin.specs.Binning.{factor_of, bin_by_of, bin_of};
 

@@ -1,4 +1,6 @@
 // Clipping the counts of one tile in place: the excess above the limit is handed out evenly, then what is left of it one by one.
+#![tactic(auto)]
+
 ghost use Rattle.std.specs.Prelude.{◌≡◌, ◌+◌, ◌-◌, ◌*◌, ◌/◌, ◌≤◌, ◌<◌, min, max, length};
 ghost use Rattle.base_lists.specs.Lists.{total};
 ghost use Rattle.tile_clip.specs.Clip.{excess, shared, walk, next_start_of, clipped};
@@ -7,7 +9,7 @@ ghost use Rattle.tile_clip.specs.Spans.{TurnAsks, Turned, TurnsAsks, TurnsLeft, 
 ghost use Rattle.tile_clip.specs.Asks.{ClipAsks, PassAsks, Passed, WalkAsks, Walked, Shut, gain, Raised, WalkStands};
 
 // What clipping a tile's counts took: the excess, and how many bins the rule's leftover walk looks at.
-#[derive(Drop)]
+#[derive(Clone, Copy)]
 pub struct Spent {
     pub excess: u64,
     pub looks: u64,
@@ -157,7 +159,7 @@ fn looks_skipped(bins: usize, end: usize, start: usize, r: u64) -> u64
 }
 
 // Where the starts stand: what is left, the next start, where the bins under the limit end, and the looks that were taken.
-#[derive(Drop)]
+#[derive(Clone, Copy)]
 struct Standing {
     left: u64,
     start: usize,
@@ -239,7 +241,7 @@ pub fn clip(counts: &mut [u32], limit: u32) -> Spent
 }
 
 // What starts left that find only some bins in a row holding anything: of what was to be handed out, and with the bins before them.
-#[derive(Drop)]
+#[derive(Clone, Copy)]
 pub struct Handed {
     pub left: u64,
     pub below: u64,

@@ -19,7 +19,7 @@ fn reaches(count: u32, level: u32) -> u32
 }
 
 // What stands above a level, and how many bins reach it.
-#[derive(Drop)]
+#[derive(Clone, Copy)]
 struct Seen {
     over: u32,
     reached: u32,

@@ -1,11 +1,13 @@
 // The counts of a rectangle of a picture.
+#![tactic(auto)]
+
 ghost use Rattle.std.specs.Prelude.{◌≡◌, [], ◌∷◌, map, ◌+◌, ◌-◌, ◌/◌, ◌%◌, ◌^◌, ◌≤◌, ◌<◌, length, take};
 ghost use Rattle.base_lists.specs.Lists.{onto, filled};
 ghost use Rattle.tile_bin.specs.Binning.{factor_of};
 ghost use Rattle.tile_count.specs.Tally.{greys_of, counts_of, added_of, four_at, bin_in, place_in, eight_at, CountRowAsks, FourAsks, FourAdded, BinAsks, PlacesAsks, AtAsks, LineAsks, WaysAdded, PartAsks, CountRectAsks, AddAsks, CountRowsAsks, AddUpAsks, CountWaysAsks, AddWaysAsks};
 
 // A rectangle of a picture: a tile is one.
-#[derive(Drop)]
+#[derive(Clone, Copy)]
 pub struct Rect {
     pub left: usize,
     pub top: usize,
@@ -14,7 +16,7 @@ pub struct Rect {
 }
 
 // How greys go to bins: the range, the bins, and the factor that stands for both.
-#[derive(Drop)]
+#[derive(Clone, Copy)]
 pub struct Binning {
     pub min: u32,
     pub max: u32,

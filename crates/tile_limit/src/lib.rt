@@ -1,23 +1,25 @@
 // The clip setting, the judgement of it, the limit L from the factor's exact fraction, and the factor used.
+#![tactic(auto)]
+
 ghost use Rattle.std.specs.Prelude.{◌≡◌};
 ghost use Rattle.tile_limit.specs.Limit.{judge_of, floored_of, limit_of, used_of, LimitAsks, UsedAsks};
 
 // The clip setting is one of two: off, or a factor carried as f32.
-#[derive(Drop)]
+#[derive(Clone, Copy)]
 pub enum Clip {
     Off,
     Factor(f32),
 }
 
 // Whose clip rule is followed: ours, or that of the report of 1986.
-#[derive(Drop)]
+#[derive(Clone, Copy)]
 pub enum Edition {
     Ours,
     Of1986,
 }
 
 // What a clip setting is worth: off, refused with 10, exactly 1.0, or a factor above it.
-#[derive(Drop)]
+#[derive(Clone, Copy)]
 pub enum Judged {
     Off,
     Refused,

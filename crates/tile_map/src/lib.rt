@@ -26,7 +26,7 @@ pub fn map(counts: &[u32], pixels: u32, min: u32, max: u32, out: &mut [u16])
 }
 
 // What clipping a tile's counts comes to: what their mapping divides by, and what it took.
-#[derive(Drop)]
+#[derive(Clone, Copy)]
 pub struct Clipped {
     pub over: u32,
     pub spent: Spent,

@@ -70,7 +70,7 @@ pub fn value(
 }
 
 // The mapped value of a bin, if it is known.
-#[derive(Drop)]
+#[derive(Clone, Copy)]
 pub struct Found {
     pub known: bool,
     pub value: u32,

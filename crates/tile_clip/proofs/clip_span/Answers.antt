@@ -1,0 +1,39 @@
+-- The call: excess, even share, first pass over the part, the starts.
+use Prim.Native.Nat.{◌-◌}
+use native.Mathlib.Omega.{arith}
+use Rattle.tile_clip.proofs.Shares.{excess_most}
+use Rattle.tile_clip.proofs.Framed.{share_few, share_small, share_product, span_pass, empty_take, span_turns, span_left}
+use Rattle.tile_clip.proofs.clip_span.Goals as goal
+
+pub overflow_cast-q : goal.overflow_cast-q
+overflow_cast-q c = omega (arith, share_few c.requires c.excess-over.ensures)
+
+pub share_out-requires : goal.share_out-requires
+share_out-requires c = span_pass c.requires c.excess-over.ensures
+
+pub overflow_mul-left : goal.overflow_mul-left
+overflow_mul-left c = omega (arith, empty_take c.requires c.excess-over.ensures c.share_out.ensures, c.share_out.ensures.rest, excess_most c.args.limit c.args.part.now, c.requires.few_pixels)
+
+pub overflow_sub-left : goal.overflow_sub-left
+overflow_sub-left c = empty_take c.requires c.excess-over.ensures c.share_out.ensures
+
+pub overflow_cast-q-2 : goal.overflow_cast-q-2
+overflow_cast-q-2 c = omega (arith, share_few c.requires c.excess-over.ensures)
+
+pub open_starts-most-requires : goal.open_starts-most-requires
+open_starts-most-requires c = (share_small c.requires c.excess-over.ensures, c.requires.some_bin, c.requires.few_bins)
+
+pub overflow_cast-q-3 : goal.overflow_cast-q-3
+overflow_cast-q-3 c = omega (arith, share_few c.requires c.excess-over.ensures)
+
+pub turns-handed-requires : goal.turns-handed-requires
+turns-handed-requires c = span_turns c.requires c.excess-over.ensures c.share_out.ensures (omega (arith, c.open_starts-most.ensures, share_small c.requires c.excess-over.ensures)) (omega (arith, c.open_starts-most.ensures, c.requires.some_bin))
+
+pub overflow_mul-result : goal.overflow_mul-result
+overflow_mul-result c = omega (arith, share_product c.requires c.excess-over.ensures)
+
+pub overflow_add-result : goal.overflow_add-result
+overflow_add-result c = omega (arith, share_product c.requires c.excess-over.ensures, c.turns-handed.ensures.few, c.share_out.ensures.rest, excess_most c.args.limit c.args.part.now, c.requires.few_pixels)
+
+pub returns : goal.returns
+returns c = span_left c.requires c.excess-over.ensures c.share_out.ensures c.turns-handed.ensures
