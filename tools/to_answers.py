@@ -16,7 +16,7 @@ WORD = r"[^\s(){}\[\],;]+"
 
 def plain(name):
     """A name without what the two spellings differ in."""
-    return re.sub(r"[-_·]", "", re.sub(r"_lem$", "", name))
+    return re.sub(r"[-_·]", "", re.sub(r"_lem$", "", name)).lower().replace("isis", "is")
 
 
 SIGNATURES = {}
@@ -33,7 +33,7 @@ def lent_mutably(root):
             if f.endswith(".rt"):
                 for m in re.finditer(r"\bfn (\w+)(?:<[^>]*>)?\(([^{};]*?)\)\s*(?:->|requires|ensures|\{)", open(os.path.join(d, f)).read()):
                     params = re.findall(r"(?:^|,)\s*(?:mut )?(\w+|&mut self): ?(&mut )?", m.group(2))
-                    SIGNATURES.setdefault(m.group(1), [n for n, mut in params if mut])
+                    SIGNATURES.setdefault((d.split("/src")[0].split("/")[-1], m.group(1)), [n for n, mut in params if mut])
     return SIGNATURES
 
 
@@ -134,7 +134,7 @@ class Function:
                     return ".".join([base, self.arms[p][0], field] + rest[1 + len(way) :])
             if old and plain(old) == plain(first):
                 if len(rest) > 2 and rest[1] == "new" and rest[2].isdigit():
-                    lent = lent_mutably(self.root).get((self.callee.get(p) or "").split("::")[-1], [])
+                    lent = lent_mutably(self.root).get(((self.callee.get(p) or "").split("::")[0], (self.callee.get(p) or "").split("::")[-1]), [])
                     if int(rest[2]) < len(lent):
                         rest[2] = lent[int(rest[2])]
                 return ".".join([base, new] + rest[1:])
@@ -274,6 +274,9 @@ def one_function(crate, d, path, names):
         if place not in func.steps:
             place = func.by_plain.get(plain(place), place)
         body = func.turn(body, place, helpers, var).replace("§c", "c")
+        # the test of a `!f(x)` says what f answered
+        body = re.sub(r"\(not[-_](?:true|false) _ (c\.[^\s()\[\],;]+)\)", r"\1", body)
+        body = re.sub(r"(?<![\w-])not[-_](?:true|false) _ (c\.[^\s()\[\],;]+)", r"\1", body)
         out.append((new, b[3], body, b[5]))
     # definitions of the file that answers or invariants use
     used = " ".join(t for _, _, t, _ in invs)

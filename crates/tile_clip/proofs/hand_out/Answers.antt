@@ -11,6 +11,7 @@ use Rattle.tile_clip.proofs.Ends.{Onward, shut_set, shut_same, walking_shut, loo
 use Rattle.tile_clip.specs.Clip.{starts}
 use Rattle.tile_clip.specs.Looks.{looks_in, looks_from}
 use Rattle.tile_clip.proofs.hand_out.Goals as goal
+use Rattle.tile_clip.proofs.hand_out.Goals.{then-counts-at+else-r-eq0, else-counts-at}
 
 pub starts-init : goal.starts-init
 starts-init c =
@@ -36,10 +37,12 @@ overflow_add-looks c = let i = c.loop-at.invariant in omega (arith, i.0.looked, 
 pub loop-at-preserved : goal.loop-at-preserved
 loop-at-preserved c =
     let i = c.loop-at.invariant in
-    ⊎_elim
-    (λ w. (walking_gain i.0 (search rules) (search rules) w.0.taken w.3 w.4 (omega arith) refl, rw (w.3, length-set) i.1, i.2, i.3, i.4, shut_set _ _ i.5 (search rules) w.3, i.6))
-    (λ w. (walking_skip i.0 (search rules) (search rules) w.0.left w.1 w.2 refl, i.1 ∙ sym (ap length w.1), i.2, i.3, i.4, shut_same i.5 w.1, i.6))
-    c.if-counts-at.branch
+    elim c.if-counts-at.branch [
+      | then-counts-at+else-r-eq0 w ↦
+          (walking_gain i.0 (search rules) (search rules) w.if-counts-at.true w.counts-is w.r-is (omega arith) refl, rw (w.counts-is, length-set) i.1, i.2, i.3, i.4, shut_set _ _ i.5 (search rules) w.counts-is, i.6)
+      | else-counts-at w ↦
+          (walking_skip i.0 (search rules) (search rules) w.if-counts-at.false w.counts-is w.r-is refl, i.1 ∙ sym (ap length w.counts-is), i.2, i.3, i.4, shut_same i.5 w.counts-is, i.6)
+    ]
 
 pub overflow_add-looks-in-starts : goal.overflow_add-looks-in-starts
 overflow_add-looks-in-starts c = omega (arith, (let it : c.loop-at.looks + c.looks_behind-looks.result ≡ c.starts.looks + looks_in c.args.limit c.step_of-step.result c.starts.start c.starts.counts c.starts.r = let i = c.loop-at.invariant in looking_shut _ _ i.0 i.2 i.1 i.5 (search rules) (ap (λ x. c.loop-at.looks + x) c.looks_behind-looks.ensures) in it), c.loop-at.invariant.6)
