@@ -133,7 +133,7 @@ class Function:
                 if plain(step) == plain(first) and rest[1 : 1 + len(way)] == way and (way or not old):
                     return ".".join([base, self.arms[p][0], field] + rest[1 + len(way) :])
             if old and plain(old) == plain(first):
-                if len(rest) > 2 and rest[1] == "new" and rest[2].isdigit():
+                if len(rest) > 2 and rest[1] in ("new", "auto") and rest[2].isdigit():
                     lent = lent_mutably(self.root).get(((self.callee.get(p) or "").split("::")[0], (self.callee.get(p) or "").split("::")[-1]), [])
                     if int(rest[2]) < len(lent):
                         rest[2] = lent[int(rest[2])]
@@ -243,7 +243,7 @@ def one_function(crate, d, path, names):
             continue
         if "statement M" in sig:
             continue
-        m = re.match(r"\((\S+) : tie\.(\S+?)( [^()]*)?\)(?: →)? ?(.*)$", b[2].replace("\n", " "), re.S)
+        m = re.match(r"\((\S+) : (?:tie|lts)\.(\S+?)( [^()]*)?\)(?: →)? ?(.*)$", " ".join(b[2].split()), re.S)
         if m:
             # the sort of place: Then1, After-slice-known2, ..
             place = func.by_plain.get(plain(m.group(2)))
@@ -275,8 +275,8 @@ def one_function(crate, d, path, names):
             place = func.by_plain.get(plain(place), place)
         body = func.turn(body, place, helpers, var).replace("§c", "c")
         # the test of a `!f(x)` says what f answered
-        body = re.sub(r"\(not[-_](?:true|false) _ (c\.[^\s()\[\],;]+)\)", r"\1", body)
-        body = re.sub(r"(?<![\w-])not[-_](?:true|false) _ (c\.[^\s()\[\],;]+)", r"\1", body)
+        body = re.sub(r"\(not[-_](?:true|false) (?:_|[\w.-]+|\([^()]*\)) (c\.[^\s()\[\],;]+)\)", r"\1", body)
+        body = re.sub(r"(?<![\w-])not[-_](?:true|false) (?:_|[\w.-]+|\([^()]*\)) (c\.[^\s()\[\],;]+)", r"\1", body)
         out.append((new, b[3], body, b[5]))
     # definitions of the file that answers or invariants use
     used = " ".join(t for _, _, t, _ in invs)
