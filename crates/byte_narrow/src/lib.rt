@@ -1,4 +1,6 @@
 // Bytes as 16-bit entries, and back.
+#![tactic(auto)]
+
 ghost use Rattle.std.specs.Prelude.{◌≡◌, true, ◌≤◌, length};
 ghost use Rattle.base_lists.specs.Lists.{onto, all};
 ghost use Rattle.byte_narrow.specs.Narrow.{is_byte};

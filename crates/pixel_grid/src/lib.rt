@@ -1,4 +1,6 @@
 // The edges and centres of a film's tile columns and rows.
+#![tactic(auto)]
+
 ghost use Rattle.std.specs.Prelude.{◌≡◌, ◌≤◌, ◌<◌};
 ghost use Rattle.pixel_grid.specs.Grid.{edge_of, size_of, centre_of, edge_at_of, centre_at_of, axis_of, no_axis_of, same_axis_of, Fits};
 

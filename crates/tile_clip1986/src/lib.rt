@@ -1,4 +1,6 @@
 // The clip rule of 1986: the level P, and the counts raised by it in place.
+#![tactic(auto)]
+
 ghost use Rattle.std.specs.Prelude.{◌≡◌, map, ◌+◌, ◌-◌, ◌/◌, ◌≤◌, length};
 ghost use Rattle.base_lists.specs.Lists.{total};
 ghost use Rattle.tile_clip.specs.Clip.{excess};

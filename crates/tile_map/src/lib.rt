@@ -1,4 +1,6 @@
 // One tile: its counts clipped, and the mapping of counts.
+#![tactic(auto)]
+
 ghost use Rattle.std.specs.Prelude.{◌≡◌, length};
 ghost use Rattle.base_lists.specs.Lists.{onto};
 ghost use Rattle.tile_count.specs.Tally.{greys_of};

@@ -1,4 +1,6 @@
 // The region around a pixel, and its counts as it moves right.
+#![tactic(auto)]
+
 ghost use Rattle.std.specs.Prelude.{◌≡◌, [], ◌∷◌, ◌≤◌, ◌<◌};
 ghost use Rattle.tile_count.specs.Tally.{greys_of, added_of, AddAsks};
 ghost use Rattle.tile_slide.specs.Slide.{first_of, end_of, strip, region_rect, lost_of, gained_of, taken_of, TakeAsks, TakeRectAsks, RegionAsks, StripAsks, SlideAsks, GainAsks, Slid};
