@@ -90,7 +90,7 @@ class Function:
 
     def need(self, word):
         """The index of an old need by its name in a file."""
-        for cut in (word, re.sub(r"^(overflow|nonzero)-", "", word)):
+        for cut in (word, re.sub(r"^(overflow|nonzero)-", "", word), re.sub(r"^slice-bounds-", "part-", word)):
             for k, (old, new) in enumerate(self.names["needs"]):
                 if plain(old) == plain(cut):
                     return k
@@ -157,7 +157,7 @@ class Function:
                 body = self.turn(hbody, p, other, hvar)
                 sig = self.turn(hsig, p, other, hvar)
                 if hargs:
-                    self.todo.append("helper with arguments " + name)
+                    body = "λ " + " ".join(hargs) + ". " + body
                 return "(let it : " + " ".join(sig.split()) + " = " + " ".join(body.split()) + " in it)"
 
             text = pattern.sub(one, text)

@@ -1,4 +1,6 @@
 // The settings that the byte calls take, and the refusals that they share.
+#![tactic(auto)]
+
 ghost use Rattle.std.specs.Prelude.{◌≡◌};
 ghost use Rattle.base_rows.specs.Refuse.{first};
 ghost use Rattle.byte_profile.specs.Profile.{bins_in_of, profile_rows, byte_rows};

@@ -1,4 +1,6 @@
 // What a map record and a window are judged by: whether the record was made for this film, size and settings, and whether the window lies inside the film.
+#![tactic(auto)]
+
 ghost use Rattle.std.specs.Prelude.{◌≡◌};
 ghost use Rattle.base_rows.specs.Refuse.{first};
 ghost use Rattle.film_settings.specs.Settings.{Tiled};

@@ -1,4 +1,6 @@
 // The sets of a room: which films' mappings lie in one lent buffer, end to end, and moving them down where one is dropped.
+#![tactic(auto)]
+
 ghost use Rattle.std.specs.Prelude.{◌≡◌, ◌+◌, ◌-◌, ◌≤◌, ◌<◌, ltb, length, take, drop, get_or};
 ghost use Rattle.base_rows.specs.Refuse.{first};
 ghost use Rattle.film_settings.specs.Settings.{entries_of};

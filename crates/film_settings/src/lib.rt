@@ -1,4 +1,6 @@
 // The records that a station hands in and gets back, and the refusals that all calls on films share.
+#![tactic(auto)]
+
 ghost use Rattle.std.specs.Prelude.{◌≡◌, ◌≤◌};
 ghost use Rattle.base_rows.specs.Refuse.{first};
 ghost use Rattle.film_settings.specs.Settings.{bins_of, kept_of, record_of, no_record_of, Tiled, clip_bad_of, clip_one_of, same_clip_of, same_edition_of, side_rows, length_rows, size_rows, grid_rows, range_rows, clip_rows, grey_rows, room_rows, setting_rows, shared_rows};

@@ -1,4 +1,6 @@
 // A film's tiles: where they lie, their mappings laid down in the map buffer, and the film's footer.
+#![tactic(auto)]
+
 ghost use Rattle.std.specs.Prelude.{◌≡◌, ◌<◌, ◌*◌, length};
 ghost use Rattle.base_lists.specs.Lists.{over};
 ghost use Rattle.film_settings.specs.Settings.{Tiled};

@@ -1,4 +1,6 @@
 // The header of a raw PGM file: its reader and its writer.
+#![tactic(auto)]
+
 ghost use Rattle.std.specs.Prelude.{◌≡◌, ◌+◌, ◌≤◌, ◌<◌, [], ◌∷◌, ◌++◌, length, get_or, drop};
 ghost use Rattle.base_lists.specs.Lists.{onto, over};
 ghost use Rattle.pgm_header.specs.Header.{is_white_of, is_digit_of, misfit_of, white_of, digits_of, first_digit_of, number_of, then_head, head_end, head_fields, header_of, decimal_of, header_bytes};

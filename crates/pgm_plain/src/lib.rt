@@ -1,4 +1,6 @@
 // A plain PGM: its header read and laid down, its samples looked at and turned into greys.
+#![tactic(auto)]
+
 ghost use Rattle.std.specs.Prelude.{◌≡◌, ◌≤◌, ◌<◌, length};
 ghost use Rattle.base_lists.specs.Lists.{onto};
 ghost use Rattle.pgm_header.specs.Header.{header_bytes};

@@ -1,4 +1,6 @@
 // A raster's limits and its size, which reading, turning into greys and writing share: the refusals 22 to 25.
+#![tactic(auto)]
+
 ghost use Rattle.std.specs.Prelude.{◌≡◌, ◌≤◌};
 ghost use Rattle.base_rows.specs.Refuse.{first};
 ghost use Rattle.pgm_raster.specs.Raster.{raster_size_of, head_rows, raster_rows};

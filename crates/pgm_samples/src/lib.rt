@@ -1,4 +1,6 @@
 // Greys to bytes and back, one or two bytes a sample. Each width has loops of its own, and no loop leaves early, so that the compiler has several samples go at once.
+#![tactic(auto)]
+
 ghost use Rattle.std.specs.Prelude.{true, false, ◌≡◌, ◌+◌, ◌*◌, ◌≤◌, length, get_or};
 ghost use Rattle.base_lists.specs.Lists.{onto};
 ghost use Rattle.pgm_samples.specs.Samples.{is_wide, sample_bytes, sample_at, packed, unpacked, none_above_of, UnpackAsks, PackAsks};

@@ -1,4 +1,6 @@
 // Where a column or a row stands between two tile centres, and the grey of a pixel from four mapped values.
+#![tactic(auto)]
+
 ghost use Rattle.std.specs.Prelude.{◌≡◌, ◌+◌, ◌*◌, ◌/◌, ◌≤◌, ◌<◌};
 ghost use Rattle.pixel_grid.specs.Grid.{centre_of, Fits};
 ghost use Rattle.pixel_place.specs.Blend.{alone, between, place_of, weighed_of, grey_of, pair_of, sides_of, Sound, inverse_of, Inverse, SameTiles, length_of};

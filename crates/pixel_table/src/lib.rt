@@ -1,4 +1,6 @@
 // The weighted sum of each bin at the left tiles' centre and what it moves by: a run's pixels from these alone.
+#![tactic(auto)]
+
 ghost use Rattle.std.specs.Prelude.{◌≡◌, ◌+◌, ◌*◌, ◌≤◌, ◌<◌, length, get_or};
 ghost use Rattle.pixel_place.specs.Blend.{Sound, inverse_of, Inverse};
 ghost use Rattle.pixel_table.specs.Table.{patch_of, blended_run, entry_of, sum_at, moved_at, moved_by, moved_run, Tiles, Scaled, Moves, MoveAsks, RunAsks, Within};

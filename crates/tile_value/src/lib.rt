@@ -1,4 +1,6 @@
 // The mapped value of one bin by counts, which are clipped first: what an engine asks that keeps no mapping.
+#![tactic(auto)]
+
 ghost use Rattle.std.specs.Prelude.{◌≡◌, ◌+◌, ◌≤◌, ◌<◌, length, take};
 ghost use Rattle.base_lists.specs.Lists.{total};
 ghost use Rattle.tile_limit.specs.declared.Edition.TheVariants.{Ours};

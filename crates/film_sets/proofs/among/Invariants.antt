@@ -1,0 +1,12 @@
+-- `film_sets::among` meets its contract: what is left of the sets decides as all from `from` on do.
+use Prim.Native.Nat.{◌-◌, ◌≤◌}
+use mathlib.Core.Path.{◌≡◌}
+use lib.ListN.{drop}
+use Rattle.film_sets.specs.Sets.{held, among}
+use Rattle.film_sets.proofs.among.Given as goal
+
+abbrev pub invariant-loop-i : goal.invariant-loop-i
+invariant-loop-i l = (l.n ≡ l.room.count) × (l.n ≤ 8) × (among l.number (drop l.from (held l.room)) ≡ among l.number (drop l.i (held l.room)))
+
+abbrev pub decreases-loop-i : goal.decreases-loop-i
+decreases-loop-i l = l.n - l.i
