@@ -1,4 +1,6 @@
 // A run's pixels from a table of its bins where one pays, else pixel by pixel, and how many sums moved.
+#![tactic(auto)]
+
 ghost use Rattle.std.specs.Prelude.{cond, ◌≡◌, ◌+◌, ◌-◌, ◌*◌, ◌≤◌, ◌<◌, eqb, length};
 ghost use Rattle.pixel_place.specs.Blend.{pair_of, Sound, moved};
 ghost use Rattle.pixel_table.specs.Table.{blended_run, RunAsks};
