@@ -1,4 +1,6 @@
 // Raw PGM: read, asked twice over the same bytes.
+#![tactic(auto)]
+
 ghost use Rattle.std.specs.Prelude.{◌≡◌, ◌+◌, ◌≤◌};
 ghost use Rattle.pgm_read.specs.Pgm.{judged_found, read_of, sizes_of, raster_of, raster_start};
 
