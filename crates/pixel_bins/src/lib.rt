@@ -1,4 +1,6 @@
 // The bins of a row's pixels, each in its pixel's place.
+#![tactic(auto)]
+
 ghost use Rattle.std.specs.Prelude.{true, ◌≡◌, ◌+◌, ◌-◌, ◌*◌, ◌^◌, ◌≤◌, ◌<◌};
 ghost use Rattle.base_lists.specs.Lists.{all};
 ghost use Rattle.base_range.specs.Scan.{within};
