@@ -1,4 +1,6 @@
 // Pixels between the same tiles, whose bins stand in their places, from the mappings of their four tiles, which lie in the map buffer.
+#![tactic(auto)]
+
 ghost use Rattle.std.specs.Prelude.{◌≡◌, ◌+◌, ◌*◌, ◌≤◌, ◌<◌, length};
 ghost use Rattle.pixel_sums.specs.Sums.{sums_moved};
 ghost use Rattle.film_settings.specs.Settings.{bins_of};
