@@ -1,4 +1,6 @@
 // One line of the listing's text.
+#![tactic(auto)]
+
 ghost use Rattle.std.specs.Prelude.{[], ◌∷◌, ◌≤◌, ◌<◌, length};
 ghost use Rattle.listing_line.specs.Lines.{line, refused_text};
 ghost use Rattle.listing_line.specs.Asks.{Laid, Told, LineAsks, tile_fields, TileLineAsks};
