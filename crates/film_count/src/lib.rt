@@ -1,4 +1,6 @@
 // Counting: fills a lent buffer with each tile's raw counts, from which mappings are made with each new factor.
+#![tactic(auto)]
+
 ghost use Rattle.std.specs.Prelude.{◌≡◌, ◌*◌, length};
 ghost use Rattle.base_lists.specs.Lists.{onto, over};
 ghost use Rattle.base_rows.specs.Refuse.{first};
