@@ -1,4 +1,6 @@
 // One tile of a byte film: only what reads the bytes stands here. Their places in the table of counts are laid into a line, as those of the wide rows are, and from there on the wide rows' own functions go on, so that no rule is coded twice.
+#![tactic(auto)]
+
 ghost use Rattle.std.specs.Prelude.{◌≡◌, map, ◌+◌, ◌-◌, ◌^◌, ◌≤◌, ◌<◌, length};
 ghost use Rattle.base_lists.specs.Lists.{onto};
 ghost use Rattle.tile_count.specs.Tally.{greys_of, counts_of, bin_in, place_in, PlacesAsks, WaysAdded, PartAsks, CountWaysAsks, CountRectAsks};
