@@ -1,4 +1,6 @@
 // The samples of a plain PGM as they are written, a line each: how many bytes they take, and laid down.
+#![tactic(auto)]
+
 ghost use Rattle.std.specs.Prelude.{◌≡◌, ◌+◌, ◌≤◌, ◌<◌, length};
 ghost use Rattle.base_lists.specs.Lists.{onto, over};
 ghost use Rattle.pgm_header.specs.Header.{decimal_of};
