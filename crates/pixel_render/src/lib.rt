@@ -1,4 +1,6 @@
 // Pixels of the rendered film from mappings: a row in place, and a window in place.
+#![tactic(auto)]
+
 ghost use Rattle.std.specs.Prelude.{◌≡◌, ◌+◌, ◌≤◌, ◌<◌, min, length};
 ghost use Rattle.pixel_grid.specs.Grid.{Fits};
 ghost use Rattle.pixel_bins.specs.Bins.{binned_of};
