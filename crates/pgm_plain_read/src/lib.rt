@@ -1,4 +1,6 @@
 // Plain PGM: read, asked for the sizes alone or for the film.
+#![tactic(auto)]
+
 ghost use Rattle.std.specs.Prelude.{◌≡◌, ◌*◌, ◌≤◌, length};
 ghost use Rattle.base_rows.specs.Refuse.{first};
 ghost use Rattle.pgm_plain.specs.declared.Scan.TheVariants as Scans;
