@@ -1,4 +1,6 @@
 // The calls prepare and enhance: the tile mappings of a film, and the whole film rendered in place.
+#![tactic(auto)]
+
 ghost use Rattle.std.specs.Prelude.{◌≡◌, ◌≤◌};
 ghost use Rattle.base_rows.specs.Refuse.{first};
 ghost use Rattle.film_prepare.specs.Prepare.{listed_rows, prepare_rows, prepare_of, enhance_of, prepare_leaves, enhance_leaves, prepared_not};
