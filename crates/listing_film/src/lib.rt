@@ -1,4 +1,6 @@
 // The listing of a film, from its pixels.
+#![tactic(auto)]
+
 ghost use Rattle.std.specs.Prelude.{◌≡◌, ◌*◌, ◌≤◌, length};
 ghost use Rattle.base_rows.specs.Refuse.{first, unless};
 ghost use Rattle.film_prepare.specs.Prepare.{prepare_rows};
