@@ -1,4 +1,6 @@
 // Mapping: the mappings and the footer of a film from the counts of its tiles, so that a new factor asks no new count.
+#![tactic(auto)]
+
 ghost use Rattle.std.specs.Prelude.{◌≡◌, ◌*◌, ◌≤◌, eqb, length, take, drop};
 ghost use Rattle.base_lists.specs.Lists.{total, onto};
 ghost use Rattle.base_rows.specs.Refuse.{first};

@@ -1,0 +1,48 @@
+use Prim.Native.Nat.{◌-◌}
+use native.Mathlib.Omega.{arith}
+use borrow.Author.Rules.{rules}
+use Rattle.film_tiles.proofs.Tiles.{tiles_most}
+use Rattle.film_tiles.proofs.Turns.{listed_first, listed_length, listed_next}
+use Rattle.film_map.proofs.Turns.{mapping_first, mapping_asks, mapping_length, mapping_next, mapping_end}
+use Rattle.film_map.proofs.map_all.Goals as goal
+
+pub overflow_mul-tiles : goal.overflow_mul-tiles
+overflow_mul-tiles c = omega (arith, tiles_most c.requires.film.tiled)
+
+pub overflow_cast-tiles : goal.overflow_cast-tiles
+overflow_cast-tiles c = omega (arith, tiles_most c.requires.film.tiled)
+
+pub loop-k-init : goal.loop-k-init
+loop-k-init c = (search rules, mapping_first, listed_first)
+
+pub map_one-spent-requires : goal.map_one-spent-requires
+map_one-spent-requires c = mapping_asks c.requires.film c.loop-k.invariant.1 (search rules)
+
+pub put_spent-requires : goal.put_spent-requires
+put_spent-requires c =
+    record {
+      tile = omega (arith, tiles_most c.requires.film.tiled);
+      room = omega (arith, listed_length c.loop-k.invariant.2 (search rules) c.requires.pairs, c.requires.pairs);
+    }
+
+pub overflow_add-k : goal.overflow_add-k
+overflow_add-k c = omega (arith, tiles_most c.requires.film.tiled)
+
+pub loop-k-preserved : goal.loop-k-preserved
+loop-k-preserved c = (
+  search rules,
+  mapping_next c.requires.film c.loop-k.invariant.1 (search rules) c.map_one-spent.ensures,
+  listed_next c.loop-k.invariant.2 c.map_one-spent.ensures.spent c.put_spent.ensures,
+)
+
+pub clear-requires : goal.clear-requires
+clear-requires c = omega (arith, c.bins-each.ensures, c.loop-k.invariant.1.size, c.requires.film.bins)
+
+pub shape_of-map : goal.shape_of-map
+shape_of-map c = mapping_length c.requires.film c.loop-k.invariant.1 (search rules)
+
+pub shape_of-list : goal.shape_of-list
+shape_of-list c = listed_length c.loop-k.invariant.2 (search rules) c.requires.pairs
+
+pub returns : goal.returns
+returns c = mapping_end c.requires.film c.loop-k.invariant.1 c.loop-k.invariant.2 (search rules) (search rules) c.bins-each.ensures c.clear.ensures
