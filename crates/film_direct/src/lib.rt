@@ -1,5 +1,7 @@
 // A plain engine: for each pixel the tiles that it needs are counted straight from the film, clipped and summed. No mappings are kept.
 // It checks the fast engine, so it counts by itself, keeps no table and renders a pixel at a time; with the fast one it has the rules' leaves in common.
+#![tactic(auto)]
+
 ghost use Rattle.std.specs.Prelude.{◌≡◌, [], ◌∷◌, ◌*◌, ◌≤◌, length, get_or};
 ghost use Rattle.base_lists.specs.Lists.{joined, onto, filled};
 ghost use Rattle.base_rows.specs.Refuse.{first};
