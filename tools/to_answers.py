@@ -23,7 +23,7 @@ SIGNATURES = {}
 
 
 def lent_mutably(root):
-    """The `&mut` parameters of each function of the repository, by its path CRATE::..::NAME and by its name."""
+    """The parameters that are references of each function of the repository, by its path CRATE::..::NAME and by its name."""
     if SIGNATURES:
         return SIGNATURES
     for d, _, files in os.walk(root):
@@ -32,7 +32,7 @@ def lent_mutably(root):
         for f in files:
             if f.endswith(".rt"):
                 for m in re.finditer(r"\bfn (\w+)(?:<[^>]*>)?\(([^{};]*?)\)\s*(?:->|requires|ensures|\{)", open(os.path.join(d, f)).read()):
-                    params = re.findall(r"(?:^|,)\s*(?:mut )?(\w+|&mut self): ?(&mut )?", m.group(2))
+                    params = re.findall(r"(?:^|,)\s*(?:mut )?(\w+|&mut self): ?(&)?", m.group(2))
                     SIGNATURES.setdefault((d.split("/src")[0].split("/")[-1], m.group(1)), [n for n, mut in params if mut])
     return SIGNATURES
 
@@ -134,9 +134,14 @@ class Function:
                     return ".".join([base, self.arms[p][0], field] + rest[1 + len(way) :])
             if old and plain(old) == plain(first):
                 if len(rest) > 2 and rest[1] in ("new", "auto") and rest[2].isdigit():
+                    n = 0
+                    while 2 + n < len(rest) and rest[2 + n] == "1":
+                        n += 1
                     lent = lent_mutably(self.root).get(((self.callee.get(p) or "").split("::")[0], (self.callee.get(p) or "").split("::")[-1]), [])
-                    if int(rest[2]) < len(lent):
-                        rest[2] = lent[int(rest[2])]
+                    if 2 + n < len(rest) and rest[2 + n] == "0" and n < len(lent):
+                        rest[2 : 3 + n] = [lent[n]]
+                    else:
+                        self.todo.append("field " + path)
                 return ".".join([base, new] + rest[1:])
         if not var.startswith("§"):
             self.todo.append("path " + path)

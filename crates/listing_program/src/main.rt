@@ -1,5 +1,8 @@
 // The listing program: reads a PGM file from standard input and writes its listing to standard output.
-use libc::{STDIN_FILENO, STDOUT_FILENO};
+
+// The numbers of the standard input and output.
+const STDIN_FILENO: i32 = 0;
+const STDOUT_FILENO: i32 = 1;
 
 fn main() {
     // One byte more than the most that is listed, so that a longer input is known.

@@ -5,10 +5,12 @@ mod words;
 
 ghost use Rattle.std.specs.Prelude.{◌≡◌, ◌≤◌, length};
 
-use libc::STDIN_FILENO;
 use test_set::row::Line;
 use test_set::whole::{Row, at};
 use test_set::{column, row};
+
+// The number of the standard input.
+const STDIN_FILENO: i32 = 0;
 
 // The letter of a mapping's row.
 const MAPPING: u64 = 77;

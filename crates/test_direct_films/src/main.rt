@@ -2,10 +2,12 @@
 // text.
 mod painted;
 
-use libc::STDIN_FILENO;
 use test_set::row::Line;
 use test_set::whole::{Row, at};
 use test_set::{column, row};
+
+// The number of the standard input.
+const STDIN_FILENO: i32 = 0;
 
 // Runs a row.
 fn turn(r: Row) {

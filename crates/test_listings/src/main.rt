@@ -1,5 +1,7 @@
 // Runs the listing over a set of inputs, and prints the text of each behind a line with its index.
-use libc::STDOUT_FILENO;
+
+// The number of the standard output.
+const STDOUT_FILENO: i32 = 1;
 
 fn show(index: u64, bytes: &[u8]) {
     let mut text = [0u8; 512];

@@ -5,10 +5,12 @@ mod given;
 mod text;
 
 use given::Given;
-use libc::STDIN_FILENO;
 use pgm_greys::Turned;
 use pgm_read::Sizes;
 use pgm_write::Written;
+
+// The number of the standard input.
+const STDIN_FILENO: i32 = 0;
 
 // How many samples a raster of so many bytes has.
 fn samples_of(bytes: usize, maxval: u32) -> usize {

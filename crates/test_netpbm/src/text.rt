@@ -1,5 +1,7 @@
 // The printed lines.
-use libc::STDOUT_FILENO;
+
+// The number of the standard output.
+const STDOUT_FILENO: i32 = 1;
 
 pub(crate) fn line(text: &[u8]) {
     io::write_all(STDOUT_FILENO, text);

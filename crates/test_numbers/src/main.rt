@@ -6,8 +6,10 @@ ghost use Rattle.base_range.specs.Scan.{within};
 
 use film_prepare::Enhanced;
 use film_settings::{Settings, Window};
-use libc::STDOUT_FILENO;
 use tile_limit::{Clip, Edition};
+
+// The number of the standard output.
+const STDOUT_FILENO: i32 = 1;
 
 fn print(name: &[u8], n: u32) {
     io::write_all(STDOUT_FILENO, name);

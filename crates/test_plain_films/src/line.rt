@@ -1,5 +1,7 @@
 // The printed lines: a letter, then numbers, each behind a tab.
-use libc::STDOUT_FILENO;
+
+// The number of the standard output.
+const STDOUT_FILENO: i32 = 1;
 
 pub(crate) fn field(n: u64) {
     io::write_all(STDOUT_FILENO, b"\t");

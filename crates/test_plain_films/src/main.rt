@@ -4,8 +4,10 @@ mod line;
 mod moves;
 mod row;
 
-use libc::STDIN_FILENO;
 use row::Row;
+
+// The number of the standard input.
+const STDIN_FILENO: i32 = 0;
 
 // Reads a plain file into a target, all of which is printed.
 fn film(no: u32, file: &[u8], target: &mut [u16]) {

@@ -5,10 +5,12 @@ mod line;
 mod place;
 mod wide;
 
-use libc::STDIN_FILENO;
 use test_set::row::Line;
 use test_set::whole::{Row, at};
 use test_set::{column, row};
+
+// The number of the standard input.
+const STDIN_FILENO: i32 = 0;
 
 // The letters of a scratch's row, and of one of bytes.
 const SCRATCH: u64 = 83;

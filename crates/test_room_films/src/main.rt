@@ -4,10 +4,12 @@ mod state;
 mod step;
 mod stored;
 
-use libc::STDIN_FILENO;
 use state::Station;
 use test_set::whole::{Row, at, fitting};
 use test_set::{column, row};
+
+// The number of the standard input.
+const STDIN_FILENO: i32 = 0;
 
 // The letters of the rows.
 const NEW: u64 = 78;

@@ -12,7 +12,8 @@ pub mod whole;
 
 ghost use Rattle.std.specs.Prelude.{◌≡◌, ◌≤◌, length};
 
-use libc::STDIN_FILENO;
+// The number of the standard input.
+const STDIN_FILENO: i32 = 0;
 
 // Room for the largest picture. Behind a call its zeros stay unread where a proof looks at the room's length.
 fn room() -> [u16; 1050624] {

@@ -4,7 +4,8 @@ ghost use Rattle.std.specs.Float.{binary32, binary64};
 ghost use Rattle.std.specs.Float.Ieee.{to_bits};
 ghost use Rattle.test_text.specs.Text.{blank_text, put_of, puts_of, line_start, field_of, fields_of, hex_field_of, line_end, line_of, is_small_of, small_of};
 
-use libc::STDOUT_FILENO;
+// The number of the standard output.
+const STDOUT_FILENO: i32 = 1;
 
 // Its bytes, and how many there are. The longest line lists 64 numbers of 20 digits behind a number of 20.
 #[derive(Clone, Copy)]
