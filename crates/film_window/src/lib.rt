@@ -1,4 +1,6 @@
 // The rows of a window in a picture: looked at for greys outside a range, and copied.
+#![tactic(auto)]
+
 ghost use Rattle.std.specs.Prelude.{◌≡◌, length};
 ghost use Rattle.base_lists.specs.Lists.{all};
 ghost use Rattle.base_range.specs.Scan.{within};
