@@ -1,4 +1,6 @@
 // Plain PGM: write.
+#![tactic(auto)]
+
 ghost use Rattle.std.specs.Prelude.{◌≡◌, length};
 ghost use Rattle.base_lists.specs.Lists.{onto};
 ghost use Rattle.base_rows.specs.Refuse.{first};
