@@ -1,4 +1,6 @@
 // The call draw: a window of the rendered film from kept mappings.
+#![tactic(auto)]
+
 ghost use Rattle.std.specs.Prelude.{◌≡◌, length};
 ghost use Rattle.base_rows.specs.Refuse.{first};
 ghost use Rattle.film_draw.specs.Draw.{pixel_rows, draw_rows, drawn_pixels, draw_of, draw_leaves, LookAsks, WindowReady};
