@@ -1,4 +1,6 @@
 // Bytes of the rendered film from mappings: each row goes through a line of 16-bit entries, so that the wide row's own function renders it.
+#![tactic(auto)]
+
 ghost use Rattle.std.specs.Prelude.{◌≡◌, length};
 ghost use Rattle.tile_count.specs.Tally.{greys_of};
 ghost use Rattle.pixel_render.specs.Render.{row_place, row_of, render_of, rect_of};
