@@ -299,7 +299,6 @@ def one_function(crate, d, path, names):
         for w in re.findall(WORD, body):
             words.add(w)
             words.add(w.split(".")[0])
-        ops = set(re.findall(r"[^\s(){}\[\],;\w.]+", body))
         lines = []
         for u in uses:
             if re.search(r"\.(Statement\.\{|Tie as|Reads|Lts)", u) and ".proofs." in u:
@@ -314,7 +313,7 @@ def one_function(crate, d, path, names):
             for it in [x.strip() for x in m.group(2).split(",")]:
                 it_name = it.split(" as ")[-1]
                 core = it_name.replace("◌", "")
-                if it_name in words or ("◌" in it_name and (core in words or core in ops or core in body)) or it_name == "rules" and "rules" in words:
+                if it_name in words or ("◌" in it_name and core in words):
                     keep.append(it)
             if keep:
                 lines.append(f"use {m.group(1)}.{{{', '.join(keep)}}}")
