@@ -1,4 +1,6 @@
 // Settings, records and footers as the calls for C pass them: numbers and slices to records and back, once.
+#![tactic(auto)]
+
 ghost use Rattle.std.specs.Prelude.{◌≡◌};
 ghost use Rattle.film_prepare.specs.Prepare.{prepared_says};
 ghost use Rattle.c_flat.specs.Flat.{returned, clip_from_of, clip_number_of, clip_factor_of, edition_from_of, edition_number_of, settings_from_of, record_numbers, axes_from, axes_of, axes_after, axis_from_of, record_from_of};

@@ -1,0 +1,6 @@
+-- `c_flat::clip_from` meets its contract: 0 is off, any other number the factor.
+use Rattle.c_flat.proofs.Handed.{clip_some}
+use Rattle.c_flat.proofs.clip_from.Goals as goal
+
+pub returns : goal.returns
+returns c = clip_some _ _ c.if-clip-eq0.false

@@ -1,0 +1,6 @@
+-- `c_flat::edition_from` meets its contract: 0 is ours, any other number the edition of 1986.
+use Rattle.c_flat.proofs.Handed.{edition_some}
+use Rattle.c_flat.proofs.edition_from.Goals as goal
+
+pub returns : goal.returns
+returns c = edition_some _ c.if-edition-eq0.false
