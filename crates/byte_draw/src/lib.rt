@@ -1,4 +1,6 @@
 // The call draw on bytes: a window of a film of bytes, by the wide call's own rules.
+#![tactic(auto)]
+
 ghost use Rattle.std.specs.Prelude.{true, ◌≡◌, length};
 ghost use Rattle.base_lists.specs.Lists.{all};
 ghost use Rattle.base_rows.specs.Refuse.{first};
