@@ -1,4 +1,6 @@
 // The calls prepare and enhance on bytes: the film, its mappings and its rendering as bytes, by the wide calls' own rules.
+#![tactic(auto)]
+
 ghost use Rattle.std.specs.Prelude.{true, ◌≡◌, length};
 ghost use Rattle.base_lists.specs.Lists.{all};
 ghost use Rattle.base_rows.specs.Refuse.{first};
