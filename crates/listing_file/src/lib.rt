@@ -1,4 +1,6 @@
 // The text of the listing program.
+#![tactic(auto)]
+
 ghost use Rattle.std.specs.Prelude.{◌≡◌, ◌*◌, ◌≤◌, length};
 ghost use Rattle.base_lists.specs.Lists.{onto};
 ghost use Rattle.pgm_header.specs.Header.{header_of};
