@@ -1,4 +1,6 @@
 // One room for many films: their mappings stored, drawn and dropped in a single lent buffer.
+#![tactic(auto)]
+
 ghost use Rattle.std.specs.Prelude.{◌≡◌, cond, eqb};
 ghost use Rattle.base_rows.specs.Refuse.{first};
 ghost use Rattle.film_room.specs.Room.{enter_rows, store_of, store_leaves, drop_rows, drop_of, drop_leaves, set_rows, show_of};
