@@ -1,1 +1,3 @@
 // The promises of counting and mapping, proved over their contracts. Nothing runs.
+
+#![tactic(auto)]
