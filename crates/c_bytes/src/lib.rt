@@ -1,4 +1,6 @@
 // The calls on films of bytes for C: numbers and slices in, 0 or the refusal's number out. What byte slices hold is told, since no refusal is for it.
+#![tactic(auto)]
+
 ghost use Rattle.std.specs.Prelude.{true, ◌≡◌};
 ghost use Rattle.base_lists.specs.Lists.{all};
 ghost use Rattle.byte_narrow.specs.Narrow.{is_byte};
