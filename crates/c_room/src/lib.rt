@@ -1,5 +1,7 @@
 // The room record as the calls for C pass it: its count, ten numbers a set and a factor a set: film, width, height, across,
 // down, bins, min, max, clip, edition. What store and drop answer goes out to its cells.
+#![tactic(auto)]
+
 ghost use Rattle.std.specs.Prelude.{◌≡◌, ◌<◌, get_or};
 ghost use Rattle.std.specs.Float.{nan};
 ghost use Rattle.film_room.specs.Room.{stored_says, dropped_says};
