@@ -1,4 +1,6 @@
 // The calls on PGM files for C: numbers and slices in, 0 or the refusal's number out.
+#![tactic(auto)]
+
 ghost use Rattle.std.specs.Prelude.{◌≡◌, length};
 ghost use Rattle.pgm_read.specs.Pgm.{read_of, sizes_of, sizes_says};
 ghost use Rattle.pgm_greys.specs.Greys.{turned_of};
