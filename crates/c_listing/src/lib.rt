@@ -1,4 +1,6 @@
 // The listing for C: slices in, 0 or the refusal's number out.
+#![tactic(auto)]
+
 ghost use Rattle.std.specs.Prelude.{◌≡◌};
 ghost use Rattle.listing_file.specs.Listing.{list_of};
 ghost use Rattle.c_flat.specs.Files.{written_as, flat_written};
