@@ -1,4 +1,6 @@
 // Counting and mapping for C: numbers and slices in, 0 or the refusal's number out.
+#![tactic(auto)]
+
 ghost use Rattle.std.specs.Prelude.{◌≡◌};
 ghost use Rattle.film_count.specs.Counting.{count_of};
 ghost use Rattle.film_map.specs.Counts.{map_of};
