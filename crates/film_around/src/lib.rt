@@ -1,4 +1,6 @@
 // A window around each pixel: every pixel has a region of its own, whose counts move on from pixel to pixel.
+#![tactic(auto)]
+
 ghost use Rattle.std.specs.Prelude.{◌≡◌, ◌+◌, ◌-◌, ◌*◌, ◌%◌, ◌≤◌, ◌<◌, min, length, take, drop, get_or};
 ghost use Rattle.base_lists.specs.Lists.{joined, filled, over};
 ghost use Rattle.base_rows.specs.Refuse.{first};
