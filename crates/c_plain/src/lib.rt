@@ -1,4 +1,6 @@
 // The calls on plain PGM files for C: numbers and slices in, 0 or the refusal's number out.
+#![tactic(auto)]
+
 ghost use Rattle.std.specs.Prelude.{◌≡◌};
 ghost use Rattle.pgm_read.specs.Pgm.{sizes_says};
 ghost use Rattle.c_flat.specs.Files.{answered, flat_sizes, written_as, flat_written};
