@@ -1,4 +1,6 @@
 // The engine that checks the fast one, for C: numbers and slices in, 0 or the refusal's number out.
+#![tactic(auto)]
+
 ghost use Rattle.std.specs.Prelude.{◌≡◌};
 ghost use Rattle.film_direct.specs.Direct.{direct_of};
 ghost use Rattle.c_flat.specs.Flat.{settings_from_of};
