@@ -1,4 +1,6 @@
 // A printed line as a value: a letter and a row's number, then further fields, each behind a tab, and LF.
+#![tactic(auto)]
+
 ghost use Rattle.std.specs.Prelude.{◌≡◌, cond, [], ◌∷◌, ◌^◌, ◌<◌, ◌≤◌, min};
 ghost use Rattle.std.specs.Float.{binary32, binary64};
 ghost use Rattle.std.specs.Float.Ieee.{to_bits};
