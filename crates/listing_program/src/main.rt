@@ -1,7 +1,10 @@
 // The listing program: reads a PGM file from standard input and writes its listing to standard output.
 
 // The numbers of the standard input and output.
+#![tactic(auto)]
+
 const STDIN_FILENO: i32 = 0;
+
 const STDOUT_FILENO: i32 = 1;
 
 fn main() {
