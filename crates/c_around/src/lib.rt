@@ -1,4 +1,6 @@
 // A window around each pixel for C: numbers and slices in, 0 or the refusal's number out.
+#![tactic(auto)]
+
 ghost use Rattle.std.specs.Prelude.{◌≡◌};
 ghost use Rattle.film_around.specs.Around.{around_of};
 ghost use Rattle.c_flat.specs.Films.{foot_from};
