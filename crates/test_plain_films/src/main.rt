@@ -1,5 +1,7 @@
 // Runs rows of plain files through the calls for C, and films there and back with those on raw files. The independent second
 // program prints the same text.
+#![tactic(auto)]
+
 mod line;
 mod moves;
 mod row;

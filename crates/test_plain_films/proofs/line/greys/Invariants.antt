@@ -1,0 +1,10 @@
+-- `test_plain_films::line::greys` is safe and ends: the place is within the buffer. The measure is the entries left. Assumes nothing.
+use Prim.Native.Nat.{◌≤◌, ◌-◌}
+use lib.ListN.{length}
+use Rattle.test_plain_films.proofs.line.greys.Given as goal
+
+abbrev pub invariant-loop-i : goal.invariant-loop-i
+invariant-loop-i l = l.i ≤ length l.entries
+
+abbrev pub decreases-loop-i : goal.decreases-loop-i
+decreases-loop-i l = length l.entries - l.i
