@@ -13,7 +13,6 @@ use borrow.Author.Tests.{leb-true, leb-false, le-leb, eqb-true, eqb-false, ne_eq
 use Rattle.tile_limit.specs.declared.Clip.{Clip}
 use Rattle.tile_limit.specs.declared.Clip.TheVariants.{Off, Factor}
 use Rattle.tile_limit.specs.declared.Judged.{Judged}
-use Rattle.tile_limit.specs.declared.Judged.TheVariants as Judged
 use Rattle.tile_limit.specs.Limit.{allowed, is_one, judged_by, judge_of, AboveOne, JudgedSays, floored_of, rounded_up, limit_of}
 
 -- what an allowed number is: not below 1.0 and not above 1024.0

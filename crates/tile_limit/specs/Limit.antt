@@ -7,7 +7,6 @@ use Rattle.std.specs.Float.Ieee.{up, down, div, of_int}
 use Rattle.tile_limit.specs.declared.Clip.{Clip}
 use Rattle.tile_limit.specs.declared.Clip.TheVariants.{Off, Factor}
 use Rattle.tile_limit.specs.declared.Judged.{Judged}
-use Rattle.tile_limit.specs.declared.Judged.TheVariants as Judged
 
 -- "A factor is 1.0 to 1024.0"; refusal 10: "factor NaN, infinite, below 1.0 or above 1024.0"
 unfoldable pub allowed : Float → Bool
