@@ -6,13 +6,13 @@ use mathlib.Core.List.{List, [], ◌∷◌, ◌++◌, map}
 use mathlib.Core.Logic.{⊎_elim}
 use mathlib.Core.Path.{◌≡◌, refl, sym, ap, ap₂, subst, ◌∙◌}
 use lib.Dec.{eqb, ltb}
-use lib.ListN.{length, take, drop, get_or, set, replicate, get_or-replicate, length-replicate, length-set, length-map, length-take, length-drop}
-use lib.Seq.{take-add, take_all, take-suc, length-take-le}
+use lib.ListN.{length, take, drop, get_or, set, replicate, get_or-replicate, length-replicate, length-set, length-map, length-take}
+use lib.Seq.{take-add, take_all, take-suc}
 use native.Mathlib.Nat.{eq-or-lt_of_le, le_of_suc-le-suc, not-suc-le-zero}
 use native.Mathlib.Numerals.{add-one}
 use native.Mathlib.Omega.{arith}
 use borrow.Author.Tests.{ltb-true, lt-ltb, eqb-true, eqb-false, eq-eqb}
-use Rattle.base_lists.specs.Lists.{tab, sum, joined, times, all, filled, onto}
+use Rattle.base_lists.specs.Lists.{sum, joined, times, all, filled, onto}
 use Rattle.base_lists.proofs.Tabs.{tab_all, get_or_tab, eq_tab, map_append, and_left, and_right, and_both}
 use Rattle.base_lists.proofs.Sums.{sum_cong, sum_add, sum_const}
 use Rattle.base_lists.proofs.Fills.{joined_suc, filled_end, filled_onto, take_onto}
@@ -21,7 +21,7 @@ use Rattle.base_lists.proofs.Totals.{get_or_map_lt}
 use Rattle.base_lists.proofs.Alls.{all_at, all_take, all_drop, all_map}
 use Rattle.base_range.specs.Scan.{within}
 use Rattle.base_range.proofs.Spans.{within_low, within_high}
-use Rattle.tile_bin.specs.Binning.{bin_of, bin_by_of, factor_of}
+use Rattle.tile_bin.specs.Binning.{bin_by_of, factor_of}
 use Rattle.tile_bin.proofs.Bins.{bin_below, bin_by, bin_power}
 use Rattle.tile_count.specs.declared.Rect.{Rect}
 use Rattle.tile_count.specs.declared.Binning.{Binning}
