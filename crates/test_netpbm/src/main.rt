@@ -1,6 +1,8 @@
 // Reads files that Netpbm's own tools made, raw and plain ones, and prints each as Netpbm's plain text, so that it can be held to
 // what `pamtopnm -plain` prints of the same file; then whether write lays a raw file's bytes down again, and what it lays down of
 // a plain one's film.
+#![tactic(auto)]
+
 mod given;
 mod text;
 

@@ -2,18 +2,10 @@
 use Prim.Native.Nat.{◌%◌, ◌≤◌}
 use native.Mathlib.Nat.{mul-le-mul}
 use native.Mathlib.Omega.{arith}
-use borrow.Author.Rules.{rules}
-use Rattle.test_netpbm.proofs.times.Statement.{statement}
-use Rattle.test_netpbm.proofs.times.Tie as tie
+use Rattle.test_netpbm.proofs.times.Goals as goal
 
-mul-result : tie.Need-overflow-mul-result
-mul-result c =
+pub overflow_mul-result : goal.overflow_mul-result
+overflow_mul-result c =
     let a : c.args.width % 65 ≤ 64 = omega arith in
     let b : c.args.height % 65 ≤ 64 = omega arith in
     omega (arith, mul-le-mul a b)
-
-returns : tie.Need-returns
-returns c = search rules
-
-pub times-spec : {M : Type 1} → statement M
-times-spec = tie.close (tie.spec mul-result returns)
