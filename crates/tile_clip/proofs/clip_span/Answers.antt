@@ -1,5 +1,4 @@
 -- The call: excess, even share, first pass over the part, the starts.
-use Prim.Native.Nat.{◌-◌}
 use native.Mathlib.Omega.{arith}
 use Rattle.tile_clip.proofs.Shares.{excess_most}
 use Rattle.tile_clip.proofs.Framed.{share_few, share_small, share_product, span_pass, empty_take, span_turns, span_left}

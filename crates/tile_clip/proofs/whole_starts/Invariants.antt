@@ -1,5 +1,5 @@
 -- The loop keeps `Starting`: what is still to be done is what was to be done, for the bins and for the looks. It keeps `Shut`: the bins from `end` on are full. The measure is the number of starts that are due.
-use Prim.Native.Nat.{◌+◌, ◌-◌, ◌*◌, ◌≤◌}
+use Prim.Native.Nat.{◌+◌, ◌*◌, ◌≤◌}
 use mathlib.Core.Path.{◌≡◌}
 use lib.ListN.{length}
 use Rattle.tile_clip.specs.Clip.{starts}
