@@ -1,5 +1,7 @@
 // The numbers of document 01 that are to be run, each printed behind its name, and numbers of films that are too large for
 // a program's memory: sums above 32 bits, and the largest tile whose division is a product.
+#![tactic(auto)]
+
 ghost use Rattle.std.specs.Prelude.{◌≡◌, true, ◌/◌, ◌≤◌, length};
 ghost use Rattle.base_lists.specs.Lists.{all};
 ghost use Rattle.base_range.specs.Scan.{within};
