@@ -12,7 +12,7 @@ use Rattle.base_lists.proofs.Windows.{get_d_part, length_part}
 use Rattle.pixel_place.specs.declared.Place.{Place}
 use Rattle.pixel_place.specs.Blend.{Sound, moved}
 use Rattle.pixel_place.proofs.Laws.{sound_wider}
-use Rattle.pixel_table.specs.Table.{blended_at, blended_run, Tiles, RunAsks}
+use Rattle.pixel_table.specs.Table.{blended_at, blended_run, RunAsks}
 use Rattle.film_settings.specs.declared.Settings.{Settings}
 use Rattle.film_settings.specs.Settings.{bins_of, entries_of}
 use Rattle.pixel_weigh.specs.Weigh.{mapped_at, corners_of, weighed_run, Maps, WeighAsks}
