@@ -1,4 +1,4 @@
-use Prim.Native.Nat.{◌-◌, ◌*◌, ◌^◌}
+use Prim.Native.Nat.{◌*◌, ◌^◌}
 use mathlib.Core.Path.{ap, sym, ◌∙◌}
 use native.Mathlib.Omega.{arith}
 use Rattle.pixel_bins.proofs.Bins.{doubled}
