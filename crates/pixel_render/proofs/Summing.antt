@@ -22,7 +22,7 @@ use Rattle.pixel_weigh.proofs.Tiles.{weighed_is}
 use Rattle.pixel_bins.specs.Bins.{binned_of}
 use Rattle.pixel_bins.proofs.Bins.{bins_length, held_is, held_in}
 use Rattle.pixel_render.specs.declared.Section.{Section}
-use Rattle.pixel_render.specs.Render.{column_place, pixel_of, row_of, weighed_row, RenderRowAsks, Sectioned, SumRowAsks}
+use Rattle.pixel_render.specs.Render.{column_place, row_of, weighed_row, RenderRowAsks, Sectioned, SumRowAsks}
 use Rattle.pixel_render.proofs.Counts.{Moving, moving_next}
 use Rattle.pixel_render.proofs.Pixels.{pixel_corners}
 use Rattle.pixel_render.proofs.Sections.{placed, ahead_is, ahead_length, section_next}
