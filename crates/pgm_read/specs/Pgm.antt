@@ -4,11 +4,9 @@
 use Rattle.std.specs.Prelude.{ℕ, ◌-◌, List, [], ◌++◌, length, drop}
 use Rattle.base_rows.specs.Refuse.{first, unless, Says, accepted, refused}
 use Rattle.pgm_header.specs.declared.Head.{Head}
-use Rattle.pgm_header.specs.declared.Head.TheVariants as Head
 use Rattle.pgm_header.specs.Header.{header_of}
 use Rattle.pgm_raster.specs.Raster.{head_rows, raster_rows}
 use Rattle.pgm_read.specs.declared.Sizes.{Sizes}
-use Rattle.pgm_read.specs.declared.Sizes.TheVariants as Sizes
 
 -- "header bytes from the front ..; then 22 to 25": what the header found, in a file of `size` bytes
 unfoldable pub judged_head : Head → ℕ → Head
