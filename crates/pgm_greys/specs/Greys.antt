@@ -7,7 +7,6 @@ use Rattle.base_rows.specs.Refuse.{Row, short_row, first, unless, Says, accepted
 use Rattle.pgm_samples.specs.Samples.{is_wide, unpacked, none_above_of}
 use Rattle.pgm_raster.specs.Raster.{head_rows, above_row, raster_rows, RasterAsks}
 use Rattle.pgm_greys.specs.declared.Turned.{Turned}
-use Rattle.pgm_greys.specs.declared.Turned.TheVariants as Turned
 
 -- 27 and 26: "the caller's target too short", "a sample above maxval"
 unfoldable pub target_rows : (bytes : List ℕ) (start w h m room : ℕ) → List Row
