@@ -12,9 +12,7 @@ use Rattle.pixel_render.specs.Render.{render_of, whole}
 use Rattle.film_tiles.specs.Tiles.{mappings, spents, list_row, foot_of}
 use Rattle.film_prepare.specs.declared.Prepared.{Prepared}
 use Rattle.film_prepare.specs.declared.Made.{Made}
-use Rattle.film_prepare.specs.declared.Made.TheVariants as Made
 use Rattle.film_prepare.specs.declared.Enhanced.{Enhanced}
-use Rattle.film_prepare.specs.declared.Enhanced.TheVariants as Enhanced
 
 -- 12 and 13: "scratch shorter than B", "a pixel outside Min to Max"
 unfoldable pub work_rows : List ℕ → Settings → ℕ → List Row
