@@ -8,7 +8,6 @@ use Rattle.pgm_header.specs.Header.{header_bytes}
 use Rattle.pgm_samples.specs.Samples.{is_wide, packed, none_above_of}
 use Rattle.pgm_raster.specs.Raster.{head_rows, above_row, RasterLimits}
 use Rattle.pgm_write.specs.declared.Written.{Written}
-use Rattle.pgm_write.specs.declared.Written.TheVariants as Written
 
 -- "the raster is written straight behind the header bytes already laid down"
 unfoldable pub file_of : (pic : List ℕ) (w h m : ℕ) → List ℕ
