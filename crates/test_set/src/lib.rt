@@ -1,5 +1,7 @@
 // The film set: its rows come from standard input, go through every call of prepare, draw and pgm, and what comes out is
 // printed. The programs `test_films` and `test_calls` are this, once over the calls themselves and once over those for C.
+#![tactic(auto)]
+
 pub mod axes;
 pub mod column;
 pub mod digest;
