@@ -12,7 +12,6 @@ use Rattle.film_settings.specs.declared.Settings.{Settings}
 use Rattle.film_settings.specs.Settings.{bins_of, entries_of, outside_row, size_rows, grid_rows, range_rows, Tiled}
 use Rattle.film_tiles.specs.Tiles.{tile_of}
 use Rattle.film_count.specs.declared.Counted.{Counted}
-use Rattle.film_count.specs.declared.Counted.TheVariants as Counted
 
 -- ---- counts
 
