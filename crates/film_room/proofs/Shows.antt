@@ -23,7 +23,6 @@ use Rattle.film_record.specs.Held.{record_rows, window_rows}
 use Rattle.film_record.proofs.Tables.{window_numbers, record_numbered}
 use Rattle.film_record.proofs.Laws.{own_record}
 use Rattle.film_draw.specs.declared.Drawn.{Drawn}
-use Rattle.film_draw.specs.declared.Drawn.TheVariants as Drawn
 use Rattle.film_draw.specs.Draw.{pixel_rows, draw_rows, drawn_pixels, DrawOut, draw_leaves, draw_of}
 use Rattle.film_draw.proofs.Tables.{pixel_numbers, draw_rows_lem}
 use Rattle.film_draw.proofs.Like.{pixel_kept, pixels_kept, draw_room}

@@ -17,12 +17,10 @@ use Rattle.film_settings.specs.declared.Footer.{Footer}
 use Rattle.film_tiles.specs.Tiles.{foot_of}
 use Rattle.film_prepare.specs.declared.Prepared.{Prepared}
 use Rattle.film_prepare.specs.declared.Made.{Made}
-use Rattle.film_prepare.specs.declared.Made.TheVariants as Made
 use Rattle.film_prepare.specs.Prepare.{prepare_rows, PrepareOut, prepare_leaves, prepared_not, prepared_of, prepare_of}
 use Rattle.film_sets.specs.declared.Room.{Room}
 use Rattle.film_sets.specs.Sets.{set_for_of, held, span_of, among, before, fit_rows, with_set_of}
 use Rattle.film_room.specs.declared.Stored.{Stored}
-use Rattle.film_room.specs.declared.Stored.TheVariants as Stored
 use Rattle.film_room.specs.Room.{place_rows, enter_rows, store_rows, StoreOut, store_leaves, stored_of, store_of, instead}
 use Rattle.film_sets.proofs.Tables.{fit_numbered, fit_few, fit_forty}
 use Rattle.film_room.proofs.Drops.{there}

@@ -16,9 +16,7 @@ use Rattle.film_sets.specs.declared.Set.{Set}
 use Rattle.film_sets.specs.declared.Room.{Room}
 use Rattle.film_sets.specs.Sets.{set_for_of, held, span_of, among, before, set_of, start_of, part_of, fit_rows, with_set_of, without_set_of, moved_down}
 use Rattle.film_room.specs.declared.Stored.{Stored}
-use Rattle.film_room.specs.declared.Stored.TheVariants as Stored
 use Rattle.film_room.specs.declared.Dropped.{Dropped}
-use Rattle.film_room.specs.declared.Dropped.TheVariants as Dropped
 
 -- ---- store
 
