@@ -22,6 +22,15 @@ def plain(name):
 SIGNATURES = {}
 
 
+EVERY = {}
+
+
+def every_param(root):
+    """All parameters of each function."""
+    lent_mutably(root)
+    return EVERY
+
+
 def lent_mutably(root):
     """The parameters that are references of each function of the repository, by its path CRATE::..::NAME and by its name."""
     if SIGNATURES:
@@ -33,6 +42,7 @@ def lent_mutably(root):
             if f.endswith(".rt"):
                 for m in re.finditer(r"\bfn (\w+)(?:<[^>]*>)?\(([^{};]*?)\)\s*(?:->|requires|ensures|\{)", open(os.path.join(d, f)).read()):
                     params = re.findall(r"(?:^|,)\s*(?:mut )?(\w+|&mut self): ?(&)?", m.group(2))
+                    EVERY.setdefault((d.split("/src")[0].split("/")[-1], m.group(1)), [n for n, _ in params])
                     SIGNATURES.setdefault((d.split("/src")[0].split("/")[-1], m.group(1)), [n for n, mut in params if mut])
     return SIGNATURES
 
@@ -138,6 +148,10 @@ class Function:
                     while 2 + n < len(rest) and rest[2 + n] == "1":
                         n += 1
                     lent = lent_mutably(self.root).get(((self.callee.get(p) or "").split("::")[0], (self.callee.get(p) or "").split("::")[-1]), [])
+                    every = self.names["params"].get(self.callee.get(p) or "") or every_param(self.root).get(((self.callee.get(p) or "").split("::")[0], (self.callee.get(p) or "").split("::")[-1]), [])
+                    if len(every) > n and every[n] not in lent:
+                        self.todo.append("not lent: " + path)
+                    lent = every or lent
                     if 2 + n < len(rest) and rest[2 + n] == "0" and n < len(lent):
                         rest[2 : 3 + n] = [lent[n]]
                     else:
@@ -189,6 +203,8 @@ def invariant(func, name, kind, block, loops):
         else:
             start.append((v, "l." + v))
     order = start + now
+    if len(order) != len(params):
+        params = [x for x in params if not re.match(r"t\d+$", x)]
     if len(order) != len(params):
         func.todo.append(f"{kind} {name}: {len(params)} parameters, {len(order)} places: {order}")
     table = {p: w for p, (_, w) in zip(params, order)}
