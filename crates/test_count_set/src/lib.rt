@@ -1,5 +1,7 @@
 // The count rows of the film set: they come from standard input, go through counting, mapping and prepare, and what comes out is printed. The
 // programs `test_count_films` and `test_count_calls` are this, once over the calls themselves and once over those for C.
+#![tactic(auto)]
+
 mod film;
 mod words;
 
