@@ -1,5 +1,7 @@
 // The byte rows of the film set: they come from standard input, go through the byte calls, and what comes out is printed. The programs
 // `test_byte_films` and `test_byte_calls` are this, once over the calls themselves and once over those for C.
+#![tactic(auto)]
+
 mod bytes;
 mod film;
 
