@@ -1,5 +1,7 @@
 // Runs the around rows of the film set: a window around each pixel. The independent second program, which counts every region anew, prints the
 // same text.
+#![tactic(auto)]
+
 mod film;
 
 use test_set::row::Line;
