@@ -1,5 +1,7 @@
 // Runs the scratch rows of the film set: two films that differ in a pixel, and what is rendered of another. The independent second program
 // prints the same text.
+#![tactic(auto)]
+
 mod bytes;
 mod line;
 mod place;
