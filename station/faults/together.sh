@@ -55,7 +55,7 @@ cat >fake/rt <<END
 #!/bin/sh
 seq -f 'fn base_lists::f%g: proved' 400
 echo 'crate base_lists: modules loaded=0 checked=39'
-sleep 2
+sleep 3
 echo 'logic=proved functions=5'
 [ ! -e "$room/broken" ] || { echo 'logic=not-proved'; echo 'rt: the library base_range did not build, so nothing above it was checked'; exit 1; }
 echo 'crate tzofnadir: modules loaded=0 checked=22'
