@@ -1,7 +1,7 @@
 """Holds the papers to the repository. PROMISES.md: each theorem and definition that it names stands in the module that it
 names, each function is there, each must-fail edit is named, and no row is longer than a screen. Promises: the files DemandN and
 OrderN of the promise_ crates hold theorems alone, each named there and marked (contract), and what is so marked stands in them. All papers but the notes of
-landings, which tell of the tree as it was: what they have in backticks as `crate: name`, `crate::function`, `crate/edit`, a
+landings, which tell of the tree as it was, and those of wip/, which tell of a commit that is not in it: what they have in backticks as `crate: name`, `crate::function`, `crate/edit`, a
 path or a single word is there, and so is each page that they link to. crates.txt: each crate names what it uses itself.
 Must-fail edits: what each replaces stands once. A program over the calls for C has the rows and the stored text of the one
 over the calls themselves.
@@ -31,8 +31,8 @@ DECLARED = re.compile(r"^(?:  )?(?!use |mod |module |unfolding |--)((?:(?:pub|un
 OUTSIDE = {"qemu-user", "chromium-driver", "python3-selenium", "side31", "tool-ID"}
 OUTSIDE.update({"paddd", "pmulhuw", "pmullw", "pmuludq", "psubusw"})
 
-# what a crate's name begins with
-SHELVES = ("base_", "tile_", "pixel_", "film_", "byte_", "pgm_", "listing_", "promise_", "c_", "test_")
+# what a crate's name begins with; tzofnadir is the library for C
+SHELVES = ("base_", "tile_", "pixel_", "film_", "byte_", "pgm_", "listing_", "promise_", "c_", "tzofnadir", "test_")
 
 # a crate that holds a value of another's type without naming anything of it
 REACHED = {"listing_program": {"pgm_write"}, "film_draw": {"tile_limit"}, "byte_draw": {"tile_limit"}}
@@ -109,7 +109,7 @@ def promises(parts, stated):
 def tree():
     """The paths of the repository's files, without what is built."""
     for folder, inner, files in os.walk(TOP):
-        inner[:] = [name for name in inner if name not in (".git", "target", "__pycache__")]
+        inner[:] = [name for name in inner if name not in (".git", "target", "out", "__pycache__")]
         for name in files:
             yield os.path.relpath(os.path.join(folder, name), TOP)
 
@@ -145,13 +145,13 @@ def there(quoted, own, calls, known):
 
 
 def papers(stated):
-    """What the papers name, or link to, and is not there; the notes of landings tell of the tree as it was."""
+    """What the papers name, or link to, and is not there; the notes of landings and of wip/ tell of other trees."""
     own = {os.path.basename(path): set() for path in glob.glob(TOP + "/crates/*")}
     for (crate, module), names in stated.items():
         own[crate].update(names, [module])
     paths, calls, faults = list(tree()), functions(), []
     known = words(paths)
-    for paper in sorted(path for path in paths if path.endswith(".md") and "landings" not in path):
+    for paper in sorted(path for path in paths if path.endswith(".md") and not re.search("landings|^wip/", path)):
         text, folder = read(paper), os.path.dirname(paper)
         faults += [f"{paper}: {name} is named and is not there"
                    for name in sorted(set(re.findall(r"`([^`\n]+)`", text))) if not there(name, own, calls, known)]
@@ -161,21 +161,22 @@ def papers(stated):
 
 
 def uses(crate):
-    """The crates that a crate's own files name; a module of its own may have another crate's name."""
+    """The crates that a crate's own files name, proofs of functions and their lemmas too; a module of its own may have another crate's name."""
     named, own = set(), {crate}
-    for path in glob.glob(f"{TOP}/crates/{crate}/**/*", recursive=True):
+    for path in [path for part in ("src", "specs", "proofs") for path in glob.glob(f"{TOP}/crates/{crate}/{part}/**/*", recursive=True)]:
         if path.endswith(".rt"):
             own.update(re.findall(r"^(?:pub )?mod ([a-z_0-9]+);", read(path), re.M))
             named.update(re.findall(r"(?<![:\w])([a-z_0-9]+)::", re.sub("//.*", "", read(path))))
         if path.endswith((".rt", ".antt")):
-            named.update(re.findall(r"Rattle·([a-z_0-9]+)\.", read(path)))
+            named.update(re.findall(r"Rattle\.([a-z_0-9]+)\.", read(path)))
     return named - own
 
 
 def listed():
     """Where crates.txt and what the crates use differ."""
     lines = [line.split(":") for line in read("crates.txt").split("\n") if line and not line.startswith("#")]
-    crates = {name for name, _ in lines} | {"io", "libc"}
+    lines = [(name.removesuffix(" staticlib"), rest) for name, rest in lines]
+    crates = {name for name, _ in lines} | {"io"}
     faults = []
     for name, rest in lines:
         wanted = (uses(name) & crates) | REACHED.get(name, set())

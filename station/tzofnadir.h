@@ -16,7 +16,7 @@
  *
  * Calls may run on any threads at once, each on buffers of its own: the library has no variables, keeps nothing from one
  * call to the next, and allocates nothing. Buffers that calls only read may be shared. It needs x86-64 Linux, or aarch64
- * where it was made for that (station/install --native), and, of a C library, memset; linked with the toolchain's C library,
+ * where it was made for that (station/install --aarch64), and, of a C library, memset; linked with the toolchain's C library,
  * as the command line is, glibc 2.34 or later.
  *
  * A picture is `width` times `height` greys, row by row from the top, each 0 to 4095 in 16 bits. The calls named .._bytes

@@ -114,7 +114,8 @@ else
 fi
 
 # ---- use on this machine: elsewhere than on x86-64 with the library made for it, if that is made already and not stale
-made_for_us() { (cd "$top" && ! toolchain/stale target/native/libtzofnadir.a crates crates.txt); }
+# shellcheck disable=SC2046
+made_for_us() { (cd "$top" && ! toolchain/stale target/native/libtzofnadir.a $(toolchain/beneath tzofnadir) crates.txt); }
 if [ "$(uname -m)" != x86_64 ]; then
     prefix=''
     if made_for_us && command -v cc >/dev/null; then

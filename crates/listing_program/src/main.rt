@@ -1,8 +1,7 @@
 // The listing program: reads a PGM file from standard input and writes its listing to standard output.
-
-// The numbers of the standard input and output.
 #![tactic(auto)]
 
+// The numbers of the standard input and output.
 const STDIN_FILENO: i32 = 0;
 
 const STDOUT_FILENO: i32 = 1;

@@ -1,0 +1,147 @@
+// The calls on films: those of `c_films`, under the names that C sees.
+ghost use Rattle.std.specs.Prelude.{◌≡◌};
+ghost use Rattle.film_prepare.specs.Prepare.{prepare_of, enhance_of};
+ghost use Rattle.film_draw.specs.Draw.{draw_of};
+ghost use Rattle.c_flat.specs.Flat.{settings_from_of, axes_from, record_from_of, window_from};
+ghost use Rattle.c_flat.specs.Films.{foot_from, cells_from, prepared_as, flat_prepared, enhanced_as, flat_enhanced, drawn_as, flat_drawn};
+
+#[unsafe(no_mangle)]
+pub extern "C" fn tz_prepare(
+    film: u32,
+    width: u32,
+    height: u32,
+    picture: &[u16],
+    across: u32,
+    down: u32,
+    bins: u32,
+    min: u32,
+    max: u32,
+    clip: u32,
+    factor: f32,
+    map: &mut [u16],
+    scratch: &mut [u32],
+    numbers: &mut [u32; 10],
+    kept: &mut f32,
+    limit: &mut u32,
+    asked: &mut f32,
+    used: &mut f64,
+    column_edges: &mut [u32; 17],
+    column_centres: &mut [u32; 16],
+    row_edges: &mut [u32; 17],
+    row_centres: &mut [u32; 16],
+    list: &mut [u64],
+    edition: u32,
+) -> u32
+    ensures { prepared_as result map.new scratch.new list.new (cells_from numbers.new kept.new (axes_from column_edges.new column_centres.new row_edges.new row_centres.new) (foot_from limit.new asked.new used.new)) ≡ flat_prepared (prepare_of film width height picture.now (settings_from_of across down bins min max clip factor edition) map.old scratch.old list.old) (cells_from numbers.old kept.old (axes_from column_edges.old column_centres.old row_edges.old row_centres.old) (foot_from limit.old asked.old used.old)) }
+{
+    c_films::films::tz_prepare(
+        film,
+        width,
+        height,
+        picture,
+        across,
+        down,
+        bins,
+        min,
+        max,
+        clip,
+        factor,
+        map,
+        scratch,
+        numbers,
+        kept,
+        limit,
+        asked,
+        used,
+        column_edges,
+        column_centres,
+        row_edges,
+        row_centres,
+        list,
+        edition,
+    )
+}
+
+#[unsafe(no_mangle)]
+pub extern "C" fn tz_enhance(
+    width: u32,
+    height: u32,
+    picture: &mut [u16],
+    across: u32,
+    down: u32,
+    bins: u32,
+    min: u32,
+    max: u32,
+    clip: u32,
+    factor: f32,
+    map: &mut [u16],
+    scratch: &mut [u32],
+    limit: &mut u32,
+    asked: &mut f32,
+    used: &mut f64,
+    edition: u32,
+) -> u32
+    ensures { enhanced_as result picture.new map.new scratch.new (foot_from limit.new asked.new used.new) ≡ flat_enhanced (enhance_of width height picture.old (settings_from_of across down bins min max clip factor edition) map.old scratch.old) (foot_from limit.old asked.old used.old) }
+{
+    c_films::films::tz_enhance(
+        width, height, picture, across, down, bins, min, max, clip, factor, map, scratch, limit,
+        asked, used, edition,
+    )
+}
+
+#[unsafe(no_mangle)]
+pub extern "C" fn tz_draw(
+    film: u32,
+    width: u32,
+    height: u32,
+    picture: &[u16],
+    across: u32,
+    down: u32,
+    bins: u32,
+    min: u32,
+    max: u32,
+    clip: u32,
+    factor: f32,
+    numbers: &[u32; 10],
+    kept: f32,
+    left: u32,
+    top: u32,
+    window_width: u32,
+    window_height: u32,
+    map: &[u16],
+    out: &mut [u16],
+    column_edges: &[u32; 17],
+    column_centres: &[u32; 16],
+    row_edges: &[u32; 17],
+    row_centres: &[u32; 16],
+    edition: u32,
+) -> u32
+    ensures { drawn_as result out.new ≡ flat_drawn (draw_of film width height picture.now (settings_from_of across down bins min max clip factor edition) (record_from_of numbers.now kept (axes_from column_edges.now column_centres.now row_edges.now row_centres.now)) (window_from left top window_width window_height) map.now out.old) }
+{
+    c_films::films::tz_draw(
+        film,
+        width,
+        height,
+        picture,
+        across,
+        down,
+        bins,
+        min,
+        max,
+        clip,
+        factor,
+        numbers,
+        kept,
+        left,
+        top,
+        window_width,
+        window_height,
+        map,
+        out,
+        column_edges,
+        column_centres,
+        row_edges,
+        row_centres,
+        edition,
+    )
+}
