@@ -1,5 +1,7 @@
 // Runs the rows of the plain engine: direct through its call for C, and enhance beside it. The independent second program prints the same
 // text.
+#![tactic(auto)]
+
 mod painted;
 
 use test_set::row::Line;
