@@ -1,6 +1,8 @@
 // Runs the listing over a set of inputs, and prints the text of each behind a line with its index.
 
 // The number of the standard output.
+#![tactic(auto)]
+
 const STDOUT_FILENO: i32 = 1;
 
 fn show(index: u64, bytes: &[u8]) {
