@@ -1,5 +1,7 @@
 // Runs the room rows of the film set through the room's calls for C, and holds each film that is stored to the same film prepared
 // alone. The independent second program prints the same text.
+#![tactic(auto)]
+
 mod state;
 mod step;
 mod stored;
