@@ -47,6 +47,7 @@ pub record BothFair (s s' : Settings) : Type 0 where
   pub this : clip_bad_of s.clip ≡ false
   pub that : clip_bad_of s'.clip ≡ false
 
+-- so they are alike to 10; a promise below says it itself, so that an edit of the record above is refused at that promise
 both : {s s' : Settings} → BothFair s s' → clip_bad_of s.clip ≡ clip_bad_of s'.clip
 both fair = fair.this ∙ sym fair.that
 
@@ -113,7 +114,7 @@ pub prepare_number : {p q : PrepareCall} → PreparesAlike p q
 prepare_number {p} {q} a =
     let s = a.settings in
     rw (a.width, a.height, a.pixels, a.map, a.scratch, a.list)
-    (ap first (table_alike p.settings q.settings s.across s.down s.bins s.min s.max (both a.fair) q.width q.height q.pixels (length q.map) (length q.scratch) (length q.list)))
+    (ap first (table_alike p.settings q.settings s.across s.down s.bins s.min s.max (a.fair.this ∙ sym a.fair.that) q.width q.height q.pixels (length q.map) (length q.scratch) (length q.list)))
 
 pub prepare_bytes_number : {p q : PrepareCall} → PreparesAlike p q → p.settings.edition ≡ q.settings.edition
     → first (byte_prepare_rows p.width p.height p.pixels p.settings (length p.map) (length p.scratch) (length p.list))
@@ -124,7 +125,7 @@ prepare_bytes_number {p} {q} a edition =
     (ap first
     (byte_rows_lem q.width q.height q.pixels p.settings (length q.map) (length q.scratch) (length q.list)
     ∙ ap₂ (λ b c. b ++ c)
-    (byte_alike p.settings q.settings s.across s.down s.bins s.min s.max edition (both a.fair) q.width q.height (length q.pixels) (length q.map))
+    (byte_alike p.settings q.settings s.across s.down s.bins s.min s.max edition (a.fair.this ∙ sym a.fair.that) q.width q.height (length q.pixels) (length q.map))
     (listed_alike p.settings q.settings s.across s.down s.bins s.min s.max q.pixels (length q.scratch) (length q.list))
     ∙ sym (byte_rows_lem q.width q.height q.pixels q.settings (length q.map) (length q.scratch) (length q.list))))
 
@@ -134,7 +135,7 @@ pub enhance_number : {e f : EnhanceCall} → EnhancesAlike e f
 enhance_number {e} {f} a =
     let s = a.settings in
     rw (a.width, a.height, a.pixels, a.map, a.scratch)
-    (ap first (over_alike e.settings f.settings s.across s.down s.bins s.min s.max (both a.fair) f.width f.height f.pixels (length f.map) (length f.scratch)))
+    (ap first (over_alike e.settings f.settings s.across s.down s.bins s.min s.max (a.fair.this ∙ sym a.fair.that) f.width f.height f.pixels (length f.map) (length f.scratch)))
 
 pub enhance_bytes_number : {e f : EnhanceCall} → EnhancesAlike e f → e.settings.edition ≡ f.settings.edition
     → first (byte_enhance_rows e.width e.height e.pixels e.settings (length e.map) (length e.scratch))
@@ -146,7 +147,7 @@ enhance_bytes_number {e} {f} a edition =
     ∙ ap first
     (byte_rows_lem f.width f.height f.pixels e.settings (length f.map) (length f.scratch) 128
     ∙ ap₂ (λ b c. b ++ c)
-    (byte_alike e.settings f.settings s.across s.down s.bins s.min s.max edition (both a.fair) f.width f.height (length f.pixels) (length f.map))
+    (byte_alike e.settings f.settings s.across s.down s.bins s.min s.max edition (a.fair.this ∙ sym a.fair.that) f.width f.height (length f.pixels) (length f.map))
     (listed_alike e.settings f.settings s.across s.down s.bins s.min s.max f.pixels (length f.scratch) 128)
     ∙ sym (byte_rows_lem f.width f.height f.pixels f.settings (length f.map) (length f.scratch) 128))
     ∙ rows_enough f.width f.height f.pixels f.settings (length f.map) (length f.scratch))
@@ -157,7 +158,7 @@ pub map_number : {d e : MapCall} → MapsAlike d e
 map_number {d} {e} a =
     let s = a.settings in
     rw (a.width, a.height, a.counts, a.map, a.scratch, a.list)
-    (ap first (map_alike d.settings e.settings s.across s.down s.bins s.min s.max (both a.fair) e.width e.height e.counts (length e.map) (length e.scratch) (length e.list)))
+    (ap first (map_alike d.settings e.settings s.across s.down s.bins s.min s.max (a.fair.this ∙ sym a.fair.that) e.width e.height e.counts (length e.map) (length e.scratch) (length e.list)))
 
 pub draw_number : {d f : DrawCall} {c c' : Clip} → DrawsAlike d f c c'
     → first (draw_rows f.film f.width f.height f.pixels f.settings f.kept f.window f.map (length f.out))
