@@ -12,6 +12,7 @@ use pgm_plain::Scan;
 use pgm_read::Sizes;
 
 // Refusal 25, where a byte behind the last sample is no white space, else 0.
+#[tactic(auto, using(crate::proofs::Tables::tail_other, crate::proofs::Tables::tail_white))]
 fn tail_refusal(bytes: &[u8], end: usize) -> u32
     requires { end ≤ length bytes.now }
     ensures { result ≡ first (sample_rows (Scans.Done end) bytes.now) }
