@@ -218,6 +218,19 @@ def invariant(func, name, kind, block, loops):
     return pair[1], text
 
 
+def cited(definitions, text):
+    """The definitions of a file that a text names, and those that these name."""
+    found, again = [], True
+    while again:
+        again = False
+        for b in definitions:
+            if b not in found and re.search(r"(?<![^\s(){}\[\],;])" + re.escape(b[0]) + r"(?![^\s(){}\[\],;])", text):
+                found.append(b)
+                text += b[2] + b[4]
+                again = True
+    return found
+
+
 def main(crate, names_file, only):
     name = os.path.basename(os.path.realpath(crate))
     data = json.load(open(names_file))
@@ -300,15 +313,7 @@ def one_function(crate, d, path, names):
         body = re.sub(r"(?<![\w-])not[-_](?:true|false) (?:_|[\w.-]+|\([^()]*\)) (c\.[^\s()\[\],;]+)", r"\1", body)
         out.append((new, b[3], body, b[5]))
     # definitions of the file that answers or invariants use
-    used = " ".join(t for _, _, t, _ in invs)
-    in_inv, again = [], True
-    while again:
-        again = False
-        for b in locals_:
-            if b not in in_inv and re.search(r"(?<![^\s(){}\[\],;])" + re.escape(b[0]) + r"(?![^\s(){}\[\],;])", used):
-                in_inv.append(b)
-                used += b[2] + b[4]
-                again = True
+    in_inv = cited(locals_, " ".join(t for _, _, t, _ in invs))
 
     def imports(body):
         words = set()
@@ -345,15 +350,7 @@ def one_function(crate, d, path, names):
             body += "\n".join(b[5] + [""]) * bool(b[5]) + f"abbrev pub {kind}-{loop} : goal.{kind}-{loop}\n{kind}-{loop} l ={t}\n\n"
         with open(os.path.join(d, "Invariants.antt"), "w") as f:
             f.write("\n".join(header[:1] + imports(body) + [f"use {base}.Given as goal", "", body.rstrip()]) + "\n")
-    used = " ".join(t for _, _, t, _ in out)
-    keep, again = [], True
-    while again:
-        again = False
-        for b in locals_:
-            if b not in keep and re.search(r"(?<![^\s(){}\[\],;])" + re.escape(b[0]) + r"(?![^\s(){}\[\],;])", used):
-                keep.append(b)
-                used += b[2] + b[4]
-                again = True
+    keep = cited(locals_, " ".join(t for _, _, t, _ in out))
     if out:
         body = ""
         for b in locals_:
