@@ -35,11 +35,12 @@ OUTSIDE.update({"paddd", "pmulhuw", "pmullw", "pmuludq", "psubusw"})
 SHELVES = ("base_", "tile_", "pixel_", "film_", "byte_", "pgm_", "listing_", "promise_", "c_", "tzofnadir", "test_")
 
 # a crate that holds a value of another's type without naming anything of it
-REACHED = {"listing_program": {"pgm_write"}, "film_draw": {"tile_limit"}, "byte_draw": {"tile_limit"}}
+REACHED = {"listing_program": {"base_rows"}, "film_draw": {"tile_limit"}, "byte_draw": {"tile_limit"}}
 # a map record holds what `pixel_grid` keeps of an axis
 REACHED.update({"film_prepare": {"tile_limit", "pixel_grid"}, "film_map": {"tile_limit", "pixel_grid"}, "byte_prepare": {"tile_limit", "pixel_grid"}})
 REACHED.update({name: {"pixel_grid"} for name in ("listing_film", "c_films", "c_bytes", "test_reach_films")})
 REACHED["c_counts"] = {"pixel_grid", "film_prepare"}
+REACHED["c_bytes"] = {"pixel_grid", "base_rows", "film_prepare"}
 # a set of a room holds settings, whose clip and edition are `tile_limit`'s
 REACHED.update({"film_room": {"tile_limit"}, "c_room": {"tile_limit"}})
 REACHED.update({"film_direct": {"tile_limit"}, "test_direct_films": {"pixel_grid"}})

@@ -1,8 +1,10 @@
 -- Laws of `filled`, `onto`, `over`, `joined` and `blocks`: slices that are filled from the front, or in the middle.
 -- Assumes nothing.
 use Prim.Native.Nat.{ℕ, zero, suc, ◌+◌, ◌*◌, ◌≤◌, ◌<◌}
-use mathlib.Core.List.{List, ◌++◌}
+use mathlib.Core.List.{List, [], ◌∷◌, ◌++◌}
 use mathlib.Core.Path.{◌≡◌, refl, sym, ap, ap₂, ◌∙◌}
+use Rattle.std.proofs.Math.ListN.{replicate}
+use Rattle.std.proofs.lemmas.List.{replicate_more}
 use lib.ListN.{length, take, drop, get_or, set, length-append, length-drop}
 use lib.Seq.{set_at, drop-cons, append_snoc, drop_at, take_at, length-take-le}
 use native.Mathlib.Nat.{suc-mul, zero-mul, zero-add}
@@ -42,6 +44,17 @@ filled_onto f d n = rw length_tab refl
 pub filled_copy : (s d : List ℕ) → filled (λ k. get_or s k 0) d (length s) ≡ onto d s
 unfolding filled onto
 filled_copy s d = rw (tab_all s 0) refl
+
+-- one value n times
+pub tab_same : (n : ℕ) (x : ℕ) → replicate n x ≡ tab n (λ i. x)
+unfolding tab
+tab_same zero x = refl
+tab_same (suc n) x = ap (λ i. replicate i x) (sym (add-one n)) ∙ (sym (replicate_more n x) ∙ ap (λ t. t ++ (x ∷ [])) (tab_same n x))
+
+-- the front filled with one value
+pub filled_same : (x : ℕ) (d : List ℕ) {s : List ℕ} {n m : ℕ} → s ≡ replicate m x → m ≡ n → s ++ drop n d ≡ filled (λ k. x) d n
+unfolding filled
+filled_same x d {s} {n} {m} e q = ap (λ t. t ++ drop n d) (e ∙ (ap (λ k. replicate k x) q ∙ tab_same n x))
 
 -- ---- onto
 

@@ -38,7 +38,7 @@ times k [] = 0
 times k (x ∷ xs) = cond (eqb x k) 1 0 + times k xs
 
 -- d with ys in the place of its first entries; what lies behind stays
-unfoldable pub onto : List ℕ → List ℕ → List ℕ
+unfoldable pub onto : {A : Type 0} → List A → List A → List A
 onto d ys = ys ++ drop (length ys) d
 
 -- d with ys in the place of its entries from `at` on; what lies before and behind stays

@@ -2,7 +2,7 @@
 -- Assumes nothing.
 use Prim.Native.Nat.{ℕ, ◌+◌, ◌≤◌, ◌<◌, min, max}
 use mathlib.Core.Bool.{Bool, true, false, ◌&&◌}
-use mathlib.Core.List.{List, [], ◌∷◌}
+use mathlib.Core.List.{List, [], ◌∷◌, ◌++◌}
 use mathlib.Core.Path.{◌≡◌, refl, sym, ap, ap₂, ◌∙◌}
 use lib.Dec.{leb}
 use lib.ListN.{length, take, get_or}
@@ -65,25 +65,27 @@ within_one : (lo hi v : ℕ) → all (within lo hi) (v ∷ []) ≡ (leb lo v && 
 unfolding all within
 within_one lo hi v = and_true (leb lo v && leb v hi)
 
--- one entry more
-pub spans_next : (lo hi : ℕ) (xs : List ℕ) {i a b : ℕ} → Spans lo hi (take i xs) a b → i < length xs → Spans lo hi (take (i + 1) xs) (min a (get_or xs i 0)) (max b (get_or xs i 0))
-spans_next lo hi xs {i} {a} {b} h l = record { told = more }
-  where
-    v : ℕ
-    v = get_or xs i 0
+-- a single entry
+pub spans_one : (lo hi v : ℕ) → Spans lo hi (v ∷ []) v v
+spans_one lo hi v = record { told = within_one lo hi v }
 
-    more : all (within lo hi) (take (i + 1) xs) ≡ (leb lo (min a v) && leb (max b v) hi)
+-- one entry more
+pub spans_more : (lo hi v : ℕ) {ys : List ℕ} {a b : ℕ} → Spans lo hi ys a b → Spans lo hi (ys ++ v ∷ []) (min a v) (max b v)
+spans_more lo hi v {ys} {a} {b} h = record { told = more }
+  where
+    more : all (within lo hi) (ys ++ v ∷ []) ≡ (leb lo (min a v) && leb (max b v) hi)
     more =
-        rw (add-one, take-suc xs i 0 l) (
-        all_append (within lo hi) (take i xs) (v ∷ [])
+        all_append (within lo hi) ys (v ∷ [])
         ∙ (ap₂ (λ s t. s && t) h.told (within_one lo hi v)
         ∙ (crossed (leb lo a) (leb b hi) (leb lo v) (leb v hi)
-        ∙ sym (ap₂ (λ s t. s && t) (least_test lo a v) (greatest_test hi b v)))))
+        ∙ sym (ap₂ (λ s t. s && t) (least_test lo a v) (greatest_test hi b v))))
 
--- the first entry
-pub spans_first : (lo hi : ℕ) (xs : List ℕ) → 0 < length xs → Spans lo hi (take 1 xs) (get_or xs 0 0) (get_or xs 0 0)
-spans_first lo hi [] l = absurd (not-suc-le-zero l)
-spans_first lo hi (x ∷ xs) l = record { told = within_one lo hi x }
+pub spans_next : (lo hi : ℕ) (xs : List ℕ) {i a b : ℕ} → Spans lo hi (take i xs) a b → i < length xs → Spans lo hi (take (i + 1) xs) (min a (get_or xs i 0)) (max b (get_or xs i 0))
+spans_next lo hi xs {i} h l = rw (add-one, take-suc xs i 0 l) (spans_more lo hi (get_or xs i 0) h)
+
+-- the same behind an entry at the head
+pub spans_behind : (lo hi x : ℕ) (xs : List ℕ) {i a b p q : ℕ} → Spans lo hi (x ∷ take i xs) a b → i < length xs → p ≡ min a (get_or xs i 0) → q ≡ max b (get_or xs i 0) → Spans lo hi (x ∷ take (i + 1) xs) p q
+spans_behind lo hi x xs {i} h l low high = rw (low, high, add-one, take-suc xs i 0 l) (spans_more lo hi (get_or xs i 0) h)
 
 -- no entry at all
 pub spans_none : (lo hi : ℕ) (xs : List ℕ) → length xs ≡ 0 → true ≡ all (within lo hi) xs
@@ -94,10 +96,6 @@ spans_none lo hi (x ∷ xs) h = let l : length (x ∷ xs) ≤ 0 = omega (arith, 
 spans_whole : (lo hi : ℕ) (xs : List ℕ) {i a b : ℕ} → Spans lo hi (take i xs) a b → length xs ≤ i → all (within lo hi) xs ≡ (leb lo a && leb b hi)
 spans_whole lo hi xs {i} h l = ap (all (within lo hi)) (sym (take_all i xs l)) ∙ h.told
 
--- the end of a list whose least entry is too small
-pub spans_under : (lo hi : ℕ) (xs : List ℕ) {i a b : ℕ} → Spans lo hi (take i xs) a b → length xs ≤ i → a < lo → false ≡ all (within lo hi) xs
-spans_under lo hi xs {i} {a} {b} h l u = sym (spans_whole lo hi xs h l ∙ ap (λ s. s && leb b hi) (lt-leb lo a u))
-
--- and of any other: the greatest entry tells
+-- the end of a list whose least entry is not too small: the greatest tells
 pub spans_end : (lo hi : ℕ) (xs : List ℕ) {i a b : ℕ} → Spans lo hi (take i xs) a b → length xs ≤ i → lo ≤ a → leb b hi ≡ all (within lo hi) xs
 spans_end lo hi xs {i} {a} {b} h l u = sym (spans_whole lo hi xs h l ∙ ap (λ s. s && leb b hi) (le-leb lo a u))

@@ -9,40 +9,28 @@ ghost use Rattle.base_range.specs.Scan.{within};
 pub fn least(a: u16, b: u16) -> u16
     ensures { result ≡ min a b }
 {
-    if b < a {
-        return b;
-    }
-    a
+    a.min(b)
 }
 
 // The greater of two greys.
 pub fn greatest(a: u16, b: u16) -> u16
     ensures { result ≡ max a b }
 {
-    if a < b {
-        return b;
-    }
-    a
+    a.max(b)
 }
 
 // Whether all these greys lie in Min to Max: the least and the greatest of them do. No grey is asked by itself, so that several go at once.
 pub fn all_within(greys: &[u16], min: u32, max: u32) -> bool
     ensures { result ≡ all (within min max) greys.now }
 {
-    if greys.len() == 0 {
+    let Some((first, rest)) = greys.split_first() else {
         return true;
+    };
+    let mut low = *first;
+    let mut high = *first;
+    for v in rest {
+        low = low.min(*v);
+        high = high.max(*v);
     }
-    let mut low = greys[0];
-    let mut high = greys[0];
-    let mut k = 1;
-    while k < greys.len() {
-        let v = greys[k];
-        low = least(low, v);
-        high = greatest(high, v);
-        k += 1;
-    }
-    if (low as u32) < min {
-        return false;
-    }
-    high as u32 <= max
+    min <= low as u32 && high as u32 <= max
 }

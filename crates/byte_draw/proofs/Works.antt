@@ -7,7 +7,7 @@ use mathlib.Core.Path.{◌≡◌, sym, ap, ◌∙◌}
 use lib.ListN.{length}
 use native.Mathlib.Nat.{mul-le-mul, le_of_eq}
 use native.Mathlib.Omega.{arith}
-use Rattle.base_rows.specs.Refuse.{first, unless}
+use Rattle.base_rows.specs.Refuse.{first, unless, accepted, refused}
 use Rattle.base_rows.proofs.Walk.{unless_refused}
 use Rattle.tile_count.specs.Tally.{greys_of}
 use Rattle.film_settings.specs.declared.Settings.{Settings}
@@ -15,7 +15,6 @@ use Rattle.film_settings.specs.declared.MapRecord.{MapRecord}
 use Rattle.film_settings.specs.declared.Window.{Window}
 use Rattle.film_settings.specs.Settings.{entries_of, clip_one_of}
 use Rattle.pixel_render.specs.Render.{render_of, rect_of}
-use Rattle.film_draw.specs.declared.Drawn.TheVariants.{Done, Refused}
 use Rattle.film_draw.specs.Draw.{drawn_pixels, draw_leaves}
 use Rattle.film_draw.proofs.Works.{render_asks}
 use Rattle.film_draw.proofs.Like.{drawn_pixels_lem}
@@ -66,13 +65,13 @@ module _ (w h : ℕ) (pic : List ℕ) (s : Settings) (win : Window) (m : List �
 -- ---- the returns of draw
 
 module _ (film w h : ℕ) (pic : List ℕ) (s : Settings) (r : MapRecord) (win : Window) (m out : List ℕ) where
-  pub byte_draw_ends_refused : {x : ℕ} → x ≡ first (byte_draw_rows film w h pic s r win m (length out)) → (x ≡ 0 → ⊥) → draw_leaves (Refused x) out ≡ byte_draw_of film w h pic s r win m out
+  pub byte_draw_ends_refused : {x : ℕ} → x ≡ first (byte_draw_rows film w h pic s r win m (length out)) → (x ≡ 0 → ⊥) → draw_leaves (refused x) out ≡ byte_draw_of film w h pic s r win m out
   unfolding byte_draw_of
   byte_draw_ends_refused {x} e z =
-      unless_refused x (λ n. draw_leaves (Refused n) out) (draw_leaves Done (drawn_pixels w h pic s win m)) z
-      ∙ ap (λ k. unless k (λ n. draw_leaves (Refused n) out) (draw_leaves Done (drawn_pixels w h pic s win m))) e
+      unless_refused x (λ n. draw_leaves (refused n) out) (draw_leaves (accepted tt) (drawn_pixels w h pic s win m)) z
+      ∙ ap (λ k. unless k (λ n. draw_leaves (refused n) out) (draw_leaves (accepted tt) (drawn_pixels w h pic s win m))) e
 
   pub byte_draw_ends_well : {x : ℕ} {end : List ℕ} → x ≡ first (byte_draw_rows film w h pic s r win m (length out)) → x ≡ 0 → end ≡ drawn_pixels w h pic s win m
-      → draw_leaves Done end ≡ byte_draw_of film w h pic s r win m out
+      → draw_leaves (accepted tt) end ≡ byte_draw_of film w h pic s r win m out
   unfolding byte_draw_of
-  byte_draw_ends_well e z q = ap (draw_leaves Done) q ∙ ap (λ k. unless k (λ n. draw_leaves (Refused n) out) (draw_leaves Done (drawn_pixels w h pic s win m))) (sym z ∙ e)
+  byte_draw_ends_well e z q = ap (draw_leaves (accepted tt)) q ∙ ap (λ k. unless k (λ n. draw_leaves (refused n) out) (draw_leaves (accepted tt) (drawn_pixels w h pic s win m))) (sym z ∙ e)

@@ -4,14 +4,15 @@
 ghost use Rattle.std.specs.Prelude.{true, ◌≡◌, length};
 ghost use Rattle.base_lists.specs.Lists.{all};
 ghost use Rattle.base_rows.specs.Refuse.{first};
+ghost use Rattle.base_rows.specs.Given.{given, said};
 ghost use Rattle.film_draw.specs.Draw.{drawn_pixels, draw_leaves};
 ghost use Rattle.byte_narrow.specs.Narrow.{is_byte};
 ghost use Rattle.byte_draw.specs.Bytes.{byte_draw_rows, byte_draw_of, ByteWindowReady};
 
-use film_draw::Drawn;
+use base_rows::Refusal;
 use film_settings::{MapRecord, Settings, Window};
 
-// The first refusal that applies, else 0; `room` is the output's length. A byte lies in 0 to 255, so 13 and 18 are never given and not looked for; that the entries of picture and map
+// The first refusal that applies; `room` is the output's length. A byte lies in 0 to 255, so 13 and 18 are never given and not looked for; that the entries of picture and map
 // buffer are bytes is told.
 fn refusal(
     film: u32,
@@ -23,17 +24,11 @@ fn refusal(
     win: Window,
     map: &[u8],
     room: usize,
-) -> u32
-    ensures { (result ≡ first (byte_draw_rows film width height picture.now s «record» win map.now room)) × (all is_byte picture.now ≡ true) × (all is_byte map.now ≡ true) }
+) -> Result<(), Refusal>
+    ensures { (given result ≡ first (byte_draw_rows film width height picture.now s «record» win map.now room)) × (all is_byte picture.now ≡ true) × (all is_byte map.now ≡ true) }
 {
-    let shared = byte_profile::shared(width, height, picture.len(), s, map.len());
-    if shared != 0 {
-        return shared;
-    }
-    let other = film_record::record_refusal(film, width, height, s, record);
-    if other != 0 {
-        return other;
-    }
+    byte_profile::shared(width, height, picture.len(), s, map.len())?;
+    film_record::record_refusal(film, width, height, s, record)?;
     film_record::window_refusal(width, height, win, room)
 }
 
@@ -51,8 +46,7 @@ fn work(
     ensures { out.new ≡ drawn_pixels width height picture.now s win map.now }
 {
     byte_render::copy_window(picture, width as usize, win, out);
-    let clip = s.clip;
-    if film_settings::clip_one(clip) {
+    if film_settings::clip_one(s.clip) {
         return;
     }
     byte_render::render_from(out, win, width, height, s, map);
@@ -69,13 +63,10 @@ pub fn draw_bytes(
     win: Window,
     map: &[u8],
     out: &mut [u8],
-) -> Drawn
-    ensures { (draw_leaves result out.new ≡ byte_draw_of film width height picture.now s «record» win map.now out.old) × (all is_byte picture.now ≡ true) × (all is_byte map.now ≡ true) }
+) -> Result<(), Refusal>
+    ensures { (draw_leaves (said result) out.new ≡ byte_draw_of film width height picture.now s «record» win map.now out.old) × (all is_byte picture.now ≡ true) × (all is_byte map.now ≡ true) }
 {
-    let refused = refusal(film, width, height, picture, s, record, win, map, out.len());
-    if refused != 0 {
-        return Drawn::Refused(refused);
-    }
+    refusal(film, width, height, picture, s, record, win, map, out.len())?;
     work(width, height, picture, s, win, map, out);
-    Drawn::Done
+    Ok(())
 }

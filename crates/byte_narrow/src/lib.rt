@@ -10,10 +10,8 @@ pub fn widen(src: &[u8], dst: &mut [u16])
     requires { length src.now ≤ length dst.old }
     ensures { dst.new ≡ onto dst.old src.now }
 {
-    let mut i = 0;
-    while i < src.len() {
+    for i in 0..src.len() {
         dst[i] = src[i] as u16;
-        i += 1;
     }
 }
 
@@ -22,9 +20,7 @@ pub fn narrow(src: &[u16], dst: &mut [u8])
     requires { (length src.now ≤ length dst.old) × (all is_byte src.now ≡ true) }
     ensures { dst.new ≡ onto dst.old src.now }
 {
-    let mut k = 0;
-    while k < src.len() {
+    for k in 0..src.len() {
         dst[k] = src[k] as u8;
-        k += 1;
     }
 }

@@ -5,13 +5,11 @@ use mathlib.Core.List.{List}
 use mathlib.Core.Path.{◌≡◌, refl, sym, ap, ◌∙◌}
 use native.Mathlib.Omega.{arith}
 use lib.ListN.{length}
-use Rattle.base_rows.specs.Refuse.{first, unless}
+use Rattle.base_rows.specs.Refuse.{first, unless, refused}
 use Rattle.base_rows.proofs.Walk.{unless_refused}
 use Rattle.film_settings.specs.declared.Settings.{Settings}
 use Rattle.byte_profile.specs.Profile.{profile_rows}
-use Rattle.film_prepare.specs.declared.Prepared.{Prepared}
-use Rattle.film_prepare.specs.declared.Enhanced.TheVariants as Enhanced
-use Rattle.film_prepare.specs.Prepare.{prepared_not, prepare_rows, enhance_rows, PrepareOut, prepare_leaves, prepared_of, prepare_of, EnhanceOut, enhance_leaves, enhanced_of, enhance_of}
+use Rattle.film_prepare.specs.Prepare.{prepare_rows, enhance_rows, PrepareOut, prepare_leaves, prepared_of, prepare_of, EnhanceOut, enhance_leaves, enhanced_of, enhance_of}
 use Rattle.film_prepare.proofs.Endings.{ends_refused, ends_done}
 use Rattle.film_prepare.proofs.Renders.{over_refused, over_done}
 use Rattle.byte_prepare.specs.Bytes.{byte_prepare_rows, byte_enhance_rows, byte_prepare_of, byte_enhance_of}
@@ -22,21 +20,16 @@ use Rattle.byte_prepare.proofs.Tables.{rows_inside, enhance_rows_inside, wide_ro
 module _ (film w h : ℕ) (pic : List ℕ) (s : Settings) (m t n : List ℕ) where
   -- a refusal, as it was worked out
   pub bytes_refused : {r : ℕ} → r ≡ first (byte_prepare_rows w h pic s (length m) (length t) (length n)) → (r ≡ 0 → ⊥)
-      → prepare_leaves (prepared_not r) m t n ≡ byte_prepare_of film w h pic s m t n
+      → prepare_leaves (refused r) m t n ≡ byte_prepare_of film w h pic s m t n
   unfolding byte_prepare_of
   bytes_refused {r} e z =
-      unless_refused r (λ k. prepare_leaves (prepared_not k) m t n) (prepared_of film w h pic s m t n) z
-      ∙ ap (λ i. unless i (λ k. prepare_leaves (prepared_not k) m t n) (prepared_of film w h pic s m t n)) e
-
-  -- the same of the answer that `not_prepared` gives
-  pub bytes_not : {r : ℕ} {p : Prepared} → r ≡ first (byte_prepare_rows w h pic s (length m) (length t) (length n)) → (r ≡ 0 → ⊥) → p ≡ prepared_not r
-      → prepare_leaves p m t n ≡ byte_prepare_of film w h pic s m t n
-  bytes_not e z q = ap (λ p. prepare_leaves p m t n) q ∙ bytes_refused e z
+      unless_refused r (λ k. prepare_leaves (refused k) m t n) (prepared_of film w h pic s m t n) z
+      ∙ ap (λ i. unless i (λ k. prepare_leaves (refused k) m t n) (prepared_of film w h pic s m t n)) e
 
   -- no refusal
   bytes_done : {r : ℕ} → r ≡ first (byte_prepare_rows w h pic s (length m) (length t) (length n)) → r ≡ 0 → prepared_of film w h pic s m t n ≡ byte_prepare_of film w h pic s m t n
   unfolding byte_prepare_of
-  bytes_done {r} e z = ap (λ i. unless i (λ k. prepare_leaves (prepared_not k) m t n) (prepared_of film w h pic s m t n)) (sym z ∙ e)
+  bytes_done {r} e z = ap (λ i. unless i (λ k. prepare_leaves (refused k) m t n) (prepared_of film w h pic s m t n)) (sym z ∙ e)
 
   -- what the wide call leaves then is what the byte call leaves
   pub bytes_well : {r : ℕ} {x : PrepareOut} → r ≡ first (byte_prepare_rows w h pic s (length m) (length t) (length n)) → r ≡ 0
@@ -61,16 +54,16 @@ module _ (film w h : ℕ) (pic : List ℕ) (s : Settings) (m t n : List ℕ) whe
 module _ (w h : ℕ) (pic : List ℕ) (s : Settings) (m t : List ℕ) where
   -- a refusal, as it was worked out
   pub film_refused : {r : ℕ} → r ≡ first (byte_enhance_rows w h pic s (length m) (length t)) → (r ≡ 0 → ⊥)
-      → enhance_leaves (Enhanced.Refused r) pic m t ≡ byte_enhance_of w h pic s m t
+      → enhance_leaves (refused r) pic m t ≡ byte_enhance_of w h pic s m t
   unfolding byte_enhance_of
   film_refused {r} e z =
-      unless_refused r (λ n. enhance_leaves (Enhanced.Refused n) pic m t) (enhanced_of w h pic s m t) z
-      ∙ ap (λ k. unless k (λ n. enhance_leaves (Enhanced.Refused n) pic m t) (enhanced_of w h pic s m t)) e
+      unless_refused r (λ n. enhance_leaves (refused n) pic m t) (enhanced_of w h pic s m t) z
+      ∙ ap (λ k. unless k (λ n. enhance_leaves (refused n) pic m t) (enhanced_of w h pic s m t)) e
 
   -- no refusal
   film_done : {r : ℕ} → r ≡ first (byte_enhance_rows w h pic s (length m) (length t)) → r ≡ 0 → enhanced_of w h pic s m t ≡ byte_enhance_of w h pic s m t
   unfolding byte_enhance_of
-  film_done {r} e z = ap (λ k. unless k (λ n. enhance_leaves (Enhanced.Refused n) pic m t) (enhanced_of w h pic s m t)) (sym z ∙ e)
+  film_done {r} e z = ap (λ k. unless k (λ n. enhance_leaves (refused n) pic m t) (enhanced_of w h pic s m t)) (sym z ∙ e)
 
   -- what the wide call leaves then is what the byte call leaves
   pub film_well : {r : ℕ} {x : EnhanceOut} → r ≡ first (byte_enhance_rows w h pic s (length m) (length t)) → r ≡ 0

@@ -2,12 +2,11 @@
 -- calls' table. w and h are the film's width and height, pic its bytes, m the map buffer, t the scratch and n the list as lent.
 -- Assumes nothing.
 use Rattle.std.specs.Prelude.{ℕ, ◌*◌, ◌≤◌, ◌<◌, false, List, ◌++◌, ◌≡◌, length}
-use Rattle.base_rows.specs.Refuse.{Row, first, unless}
+use Rattle.base_rows.specs.Refuse.{Row, first, unless, refused}
 use Rattle.film_settings.specs.declared.Settings.{Settings}
 use Rattle.film_settings.specs.Settings.{clip_one_of}
-use Rattle.film_prepare.specs.declared.Enhanced.TheVariants as Enhanced
 use Rattle.film_tiles.specs.Tiles.{spent_entries, Work}
-use Rattle.film_prepare.specs.Prepare.{prepared_not, work_rows, listed_rows, PrepareOut, prepare_leaves, prepared_of, EnhanceOut, enhance_leaves, enhanced_of}
+use Rattle.film_prepare.specs.Prepare.{work_rows, listed_rows, PrepareOut, prepare_leaves, prepared_of, EnhanceOut, enhance_leaves, enhanced_of}
 use Rattle.byte_profile.specs.Profile.{byte_rows, Profile}
 
 -- 1 to 10 with 31 after 9, "30 for a setting outside the profile, after 10", then 11 and on as in the wide call
@@ -21,12 +20,12 @@ byte_prepare_rows w h pic s room scratch list = byte_rows w h (length pic) s roo
 -- prepare on bytes: a refusal keeps all memory; else what prepare does
 unfoldable pub byte_prepare_of : (film w h : ℕ) (pic : List ℕ) (s : Settings) (m t n : List ℕ) → PrepareOut
 byte_prepare_of film w h pic s m t n =
-    unless (first (byte_prepare_rows w h pic s (length m) (length t) (length n))) (λ k. prepare_leaves (prepared_not k) m t n) (prepared_of film w h pic s m t n)
+    unless (first (byte_prepare_rows w h pic s (length m) (length t) (length n))) (λ k. prepare_leaves (refused k) m t n) (prepared_of film w h pic s m t n)
 
 -- enhance on bytes, "in place": a refusal keeps all memory; else what enhance does
 unfoldable pub byte_enhance_of : (w h : ℕ) (pic : List ℕ) (s : Settings) (m t : List ℕ) → EnhanceOut
 byte_enhance_of w h pic s m t =
-    unless (first (byte_enhance_rows w h pic s (length m) (length t))) (λ n. enhance_leaves (Enhanced.Refused n) pic m t) (enhanced_of w h pic s m t)
+    unless (first (byte_enhance_rows w h pic s (length m) (length t))) (λ n. enhance_leaves (refused n) pic m t) (enhanced_of w h pic s m t)
 
 -- ---- what the functions below ask
 

@@ -4,16 +4,18 @@
 ghost use Rattle.std.specs.Prelude.{true, ◌≡◌, length};
 ghost use Rattle.base_lists.specs.Lists.{all};
 ghost use Rattle.base_rows.specs.Refuse.{first};
+ghost use Rattle.base_rows.specs.Given.{given, said};
 ghost use Rattle.film_tiles.specs.Tiles.{TileDone, TilesDone};
-ghost use Rattle.film_prepare.specs.Prepare.{prepare_leaves, enhance_leaves};
+ghost use Rattle.film_prepare.specs.Prepare.{prepared_says, prepare_leaves, enhance_leaves};
 ghost use Rattle.byte_narrow.specs.Narrow.{is_byte};
 ghost use Rattle.byte_prepare.specs.Bytes.{byte_prepare_rows, byte_prepare_of, byte_enhance_of, ByteMapTilesAsks, ByteMapTileAsks};
 
-use film_prepare::{Enhanced, Made, Prepared};
-use film_settings::{Settings, Window};
+use base_rows::Refusal;
+use film_prepare::Prepared;
+use film_settings::{Footer, Settings, Window};
 use tile_clip::Spent;
 
-// The first refusal that applies, else 0. A byte lies in 0 to 255, so 13 is never given and not looked for; that the picture's entries are bytes is told.
+// The first refusal that applies. A byte lies in 0 to 255, so 13 is never given and not looked for; that the picture's entries are bytes is told.
 fn refusal(
     width: u32,
     height: u32,
@@ -22,20 +24,17 @@ fn refusal(
     room: usize,
     scratch: usize,
     list: usize,
-) -> u32
-    ensures { (result ≡ first (byte_prepare_rows width height picture.now s room scratch list)) × (all is_byte picture.now ≡ true) }
+) -> Result<(), Refusal>
+    ensures { (given result ≡ first (byte_prepare_rows width height picture.now s room scratch list)) × (all is_byte picture.now ≡ true) }
 {
-    let shared = byte_profile::shared(width, height, picture.len(), s, room);
-    if shared != 0 {
-        return shared;
-    }
+    byte_profile::shared(width, height, picture.len(), s, room)?;
     if scratch < (film_settings::bins(s) as usize) {
-        return 12;
+        return Err(Refusal::ScratchShort);
     }
     if list < (2 * (s.across * s.down) as usize) {
-        return 32;
+        return Err(Refusal::ListShort);
     }
-    0
+    Ok(())
 }
 
 // Makes the mapping of tile k, in its place in the map buffer. The answer is what clipping took.
@@ -52,8 +51,6 @@ fn map_tile(
     ensures { TileDone width height picture.now s k map.old map.new scratch.old scratch.new result }
 {
     let rect = film_tiles::tile_rect(width, height, s.across, s.down, k);
-    let clip = s.clip;
-    let edition = s.edition;
     let bins = film_settings::bins(s);
     let each = bins as usize;
     let a = k * each;
@@ -65,10 +62,10 @@ fn map_tile(
         s.min,
         s.max,
         bins,
-        clip,
+        s.clip,
         scratch,
         &mut map[a..e],
-        edition,
+        s.edition,
     )
 }
 
@@ -86,11 +83,9 @@ fn map_tiles(
     ensures { TilesDone width height picture.now s map.old map.new scratch.old scratch.new list.old list.new }
 {
     let tiles = (s.across * s.down) as usize;
-    let mut k = 0;
-    while k < tiles {
+    for k in 0..tiles {
         let spent = map_tile(picture, width, height, s, k, map, scratch);
         film_tiles::put_spent(list, k, spent);
-        k += 1;
     }
     let each = film_settings::bins(s) as usize;
     base_lists::clear(scratch, each);
@@ -106,10 +101,10 @@ pub fn prepare_bytes(
     map: &mut [u8],
     scratch: &mut [u32],
     list: &mut [u64],
-) -> Prepared
-    ensures { (prepare_leaves result map.new scratch.new list.new ≡ byte_prepare_of film width height picture.now s map.old scratch.old list.old) × (all is_byte picture.now ≡ true) }
+) -> Result<Prepared, Refusal>
+    ensures { (prepare_leaves (prepared_says result) map.new scratch.new list.new ≡ byte_prepare_of film width height picture.now s map.old scratch.old list.old) × (all is_byte picture.now ≡ true) }
 {
-    let refused = refusal(
+    refusal(
         width,
         height,
         picture,
@@ -117,25 +112,14 @@ pub fn prepare_bytes(
         map.len(),
         scratch.len(),
         list.len(),
-    );
-    if refused != 0 {
-        return film_prepare::not_prepared(refused);
-    }
-    let clip = s.clip;
-    let foot = film_tiles::foot(width, height, s);
+    )?;
     let kept = film_settings::made_for(film, width, height, s);
-    let one = film_settings::clip_one(clip);
-    if one {
-        return Prepared {
-            answer: Made::Done(foot),
-            kept,
-        };
+    let footer = film_tiles::foot(width, height, s);
+    if film_settings::clip_one(s.clip) {
+        return Ok(Prepared { kept, footer });
     }
     map_tiles(picture, width, height, s, map, scratch, list);
-    Prepared {
-        answer: Made::Done(foot),
-        kept,
-    }
+    Ok(Prepared { kept, footer })
 }
 
 // The whole film of bytes rendered in place, with the mappings in the map buffer. What a byte slice holds is told.
@@ -146,28 +130,24 @@ pub fn enhance_bytes(
     s: Settings,
     map: &mut [u8],
     scratch: &mut [u32],
-) -> Enhanced
-    ensures { (enhance_leaves result picture.new map.new scratch.new ≡ byte_enhance_of width height picture.old s map.old scratch.old) × (all is_byte picture.old ≡ true) }
+) -> Result<Footer, Refusal>
+    ensures { (enhance_leaves (said result) picture.new map.new scratch.new ≡ byte_enhance_of width height picture.old s map.old scratch.old) × (all is_byte picture.old ≡ true) }
 {
     // no list is lent, and none is too short: this one has two entries for each of 8 x 8 tiles
     let mut list = [0u64; 128];
-    let refused = refusal(
+    refusal(
         width,
         height,
         &picture[..],
         s,
         map.len(),
         scratch.len(),
-        128,
-    );
-    if refused != 0 {
-        return Enhanced::Refused(refused);
-    }
-    let clip = s.clip;
-    let foot = film_tiles::foot(width, height, s);
-    let unchanged = film_settings::clip_one(clip);
+        list.len(),
+    )?;
+    let footer = film_tiles::foot(width, height, s);
+    let unchanged = film_settings::clip_one(s.clip);
     if unchanged {
-        return Enhanced::Done(foot);
+        return Ok(footer);
     }
     map_tiles(&picture[..], width, height, s, map, scratch, &mut list);
     let whole = Window {
@@ -177,5 +157,5 @@ pub fn enhance_bytes(
         height,
     };
     byte_render::render_from(picture, whole, width, height, s, map);
-    Enhanced::Done(foot)
+    Ok(footer)
 }

@@ -45,8 +45,7 @@ fn render(
     ensures { pixels.new ≡ render_of width height s map.now win pixels.old }
 {
     let wide = win.width as usize;
-    let mut j = 0;
-    while j < win.height {
+    for j in 0..win.height {
         let a = (j as usize) * wide;
         let e = a + wide;
         byte_row(
@@ -60,7 +59,6 @@ fn render(
             line,
             table,
         );
-        j += 1;
     }
 }
 
@@ -78,18 +76,17 @@ pub fn render_from(pixels: &mut [u8], win: Window, width: u32, height: u32, s: S
 }
 
 // Copies the window's bytes to the output, row by row.
+#[tactic(auto, using(film_window::proofs::Frames::line_room, film_window::proofs::Frames::place_room))]
 pub fn copy_window(picture: &[u8], stride: usize, win: Window, out: &mut [u8])
     requires { CopyWindowAsks picture.now stride win out.old }
     ensures { out.new ≡ greys_of picture.now stride (rect_of win) }
 {
     let wide = win.width as usize;
-    let mut y = 0;
-    while y < win.height {
+    for y in 0..win.height {
         let from = ((win.top as usize) + (y as usize)) * stride + (win.left as usize);
         let to = from + wide;
         let at = (y as usize) * wide;
         let end = at + wide;
-        base_lists::copy8(&picture[from..to], &mut out[at..end]);
-        y += 1;
+        base_lists::copy(&picture[from..to], &mut out[at..end]);
     }
 }

@@ -5,7 +5,7 @@ use Rattle.std.specs.Prelude.{ℕ, List, Float}
 use Rattle.base_rows.specs.Refuse.{Says, accepted, refused}
 use Rattle.film_settings.specs.declared.Settings.{Settings}
 use Rattle.film_settings.specs.declared.Footer.{Footer}
-use Rattle.film_prepare.specs.Prepare.{enhanced_says, PaintOut}
+use Rattle.film_prepare.specs.Prepare.{PaintOut}
 use Rattle.c_flat.specs.Flat.{settings_from_of}
 use Rattle.c_flat.specs.Films.{Foot, foot_after}
 
@@ -31,4 +31,4 @@ arounded_by (refused n) o t foot = arounded_as n o t foot
 
 -- from what around leaves, and what the footer's cells held before
 unfoldable pub flat_arounded : PaintOut → Foot → FlatArounded
-flat_arounded p foot = arounded_by (enhanced_says p.answer) p.target p.scratch foot
+flat_arounded p foot = arounded_by p.answer p.target p.scratch foot

@@ -6,8 +6,6 @@ ghost use Rattle.film_around.specs.Around.{around_of};
 ghost use Rattle.c_flat.specs.Films.{foot_from};
 ghost use Rattle.c_around.specs.Flat.{regional, arounded_as, flat_arounded};
 
-use film_prepare::Enhanced;
-
 // No grid is looked at, so none is asked for.
 #[unsafe(no_mangle)]
 pub extern "C" fn tz_around(
@@ -30,12 +28,11 @@ pub extern "C" fn tz_around(
     ensures { arounded_as result target.new scratch.new (foot_from limit.new asked.new used.new) ≡ flat_arounded (around_of width height picture.now side (regional bins min max clip factor edition) target.old scratch.old) (foot_from limit.old asked.old used.old) }
 {
     let s = c_flat::settings_from(0, 0, bins, min, max, clip, factor, edition);
-    let answer = film_around::around(width, height, picture, side, s, target, scratch);
-    match answer {
-        Enhanced::Done(footer) => {
+    match film_around::around(width, height, picture, side, s, target, scratch) {
+        Ok(footer) => {
             c_flat::put_footer(limit, asked, used, footer);
             0
         }
-        Enhanced::Refused(n) => n,
+        Err(r) => r.number(),
     }
 }

@@ -9,8 +9,6 @@ ghost use Rattle.byte_draw.specs.Bytes.{byte_draw_of};
 ghost use Rattle.c_flat.specs.Flat.{settings_from_of, axes_from, record_from_of, window_from};
 ghost use Rattle.c_flat.specs.Films.{foot_from, cells_from, prepared_as, flat_prepared, enhanced_as, flat_enhanced, drawn_as, flat_drawn};
 
-use film_draw::Drawn;
-use film_prepare::Enhanced;
 use film_settings::Window;
 
 #[unsafe(no_mangle)]
@@ -80,13 +78,12 @@ pub extern "C" fn tz_enhance_bytes(
     ensures { (enhanced_as result picture.new map.new scratch.new (foot_from limit.new asked.new used.new) ≡ flat_enhanced (byte_enhance_of width height picture.old (settings_from_of across down bins min max clip factor edition) map.old scratch.old) (foot_from limit.old asked.old used.old)) × (all is_byte picture.old ≡ true) }
 {
     let s = c_flat::settings_from(across, down, bins, min, max, clip, factor, edition);
-    let answer = byte_prepare::enhance_bytes(width, height, picture, s, map, scratch);
-    match answer {
-        Enhanced::Done(footer) => {
+    match byte_prepare::enhance_bytes(width, height, picture, s, map, scratch) {
+        Ok(footer) => {
             c_flat::put_footer(limit, asked, used, footer);
             0
         }
-        Enhanced::Refused(n) => n,
+        Err(r) => r.number(),
     }
 }
 
@@ -130,8 +127,5 @@ pub extern "C" fn tz_draw_bytes(
         height: window_height,
     };
     let answer = byte_draw::draw_bytes(film, width, height, picture, s, record, window, map, out);
-    match answer {
-        Drawn::Done => 0,
-        Drawn::Refused(n) => n,
-    }
+    c_flat::code(answer)
 }

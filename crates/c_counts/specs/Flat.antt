@@ -5,7 +5,7 @@ use Rattle.std.specs.Prelude.{ℕ, List}
 use Rattle.tile_limit.specs.declared.Clip.TheVariants.{Off}
 use Rattle.tile_limit.specs.declared.Edition.TheVariants.{Ours}
 use Rattle.film_settings.specs.declared.Settings.{Settings}
-use Rattle.film_count.specs.Counting.{CountOut, counted_says}
+use Rattle.film_count.specs.Counting.{CountOut}
 use Rattle.c_flat.specs.Flat.{returned}
 
 -- counting never looks at the clip: the settings of five arguments, with clip off and our edition
@@ -23,4 +23,4 @@ counted_as n cs = record { number = n; counts = cs }
 
 -- from what counting leaves
 unfoldable pub flat_counted : CountOut → FlatCounted
-flat_counted t = counted_as (returned (counted_says t.answer)) t.counts
+flat_counted t = counted_as (returned t.answer) t.counts

@@ -8,7 +8,6 @@ ghost use Rattle.c_flat.specs.Flat.{settings_from_of, axes_from};
 ghost use Rattle.c_flat.specs.Films.{foot_from, cells_from, prepared_as, flat_prepared};
 ghost use Rattle.c_counts.specs.Flat.{unclipped, counted_as, flat_counted};
 
-use film_count::Counted;
 use film_settings::Settings;
 use tile_limit::{Clip, Edition};
 
@@ -37,10 +36,7 @@ pub extern "C" fn tz_count(
         edition: Edition::Ours,
     };
     let answer = film_count::count_tiles(width, height, picture, s, counts);
-    match answer {
-        Counted::Done => 0,
-        Counted::Refused(number) => number,
-    }
+    c_flat::code(answer)
 }
 
 #[unsafe(no_mangle)]

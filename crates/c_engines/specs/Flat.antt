@@ -4,7 +4,7 @@
 use Rattle.std.specs.Prelude.{ℕ, List}
 use Rattle.base_rows.specs.Refuse.{Says, accepted, refused}
 use Rattle.film_settings.specs.declared.Footer.{Footer}
-use Rattle.film_prepare.specs.Prepare.{enhanced_says, PaintOut}
+use Rattle.film_prepare.specs.Prepare.{PaintOut}
 use Rattle.c_flat.specs.Films.{Foot, foot_after}
 
 -- "It writes to a separate picture": the number returned, the target and the scratch that were lent, and the footer's three cells
@@ -25,4 +25,4 @@ painted_by (refused n) o t foot = painted_as n o t foot
 
 -- from what the engine leaves, and what the footer's cells held before
 unfoldable pub flat_painted : PaintOut → Foot → FlatPainted
-flat_painted p foot = painted_by (enhanced_says p.answer) p.target p.scratch foot
+flat_painted p foot = painted_by p.answer p.target p.scratch foot

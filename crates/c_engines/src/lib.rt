@@ -7,8 +7,6 @@ ghost use Rattle.c_flat.specs.Flat.{settings_from_of};
 ghost use Rattle.c_flat.specs.Films.{foot_from};
 ghost use Rattle.c_engines.specs.Flat.{painted_as, flat_painted};
 
-use film_prepare::Enhanced;
-
 #[unsafe(no_mangle)]
 pub extern "C" fn tz_direct(
     width: u32,
@@ -31,12 +29,11 @@ pub extern "C" fn tz_direct(
     ensures { painted_as result target.new scratch.new (foot_from limit.new asked.new used.new) ≡ flat_painted (direct_of width height picture.now (settings_from_of across down bins min max clip factor edition) target.old scratch.old) (foot_from limit.old asked.old used.old) }
 {
     let s = c_flat::settings_from(across, down, bins, min, max, clip, factor, edition);
-    let answer = film_direct::direct(width, height, picture, s, target, scratch);
-    match answer {
-        Enhanced::Done(footer) => {
+    match film_direct::direct(width, height, picture, s, target, scratch) {
+        Ok(footer) => {
             c_flat::put_footer(limit, asked, used, footer);
             0
         }
-        Enhanced::Refused(n) => n,
+        Err(r) => r.number(),
     }
 }

@@ -8,11 +8,10 @@ use mathlib.Core.Logic.{inl, inr}
 use mathlib.Core.Path.{◌≡◌, refl, sym, ap, ◌∙◌}
 use lib.ListN.{length}
 use Rattle.base_rows.specs.Refuse.{Says, accepted, refused}
-use Rattle.pgm_header.specs.declared.Head.{Head}
-use Rattle.pgm_header.specs.declared.Head.TheVariants as Head
-use Rattle.pgm_read.specs.Pgm.{read_of, sizes_of, sizes_says}
-use Rattle.pgm_greys.specs.Greys.{turned_says, turned_of}
-use Rattle.pgm_write.specs.Write.{written_says, write_of}
+use Rattle.pgm_header.specs.Header.{Head}
+use Rattle.pgm_read.specs.Pgm.{read_of, sizes_of}
+use Rattle.pgm_greys.specs.Greys.{turned_of}
+use Rattle.pgm_write.specs.Write.{write_of}
 use Rattle.promise_films.proofs.Accepted.{returned_kept}
 use Rattle.promise_films.proofs.Files.{greys_table, write_table}
 use Rattle.c_flat.specs.Files.{Answer, answered, flat_sizes, flat_raster, flat_greys, FlatWritten, flat_written}
@@ -37,7 +36,7 @@ raster_keeps (Head.Refused k) size old = inr refl
 pub tz_read_sizes_determined : {c k : TzSizesCall} → TzReadsSizes c → TzReadsSizes k → tz_sizes_arguments c ≡ tz_sizes_arguments k
     → (c.number ≡ k.number) × (c.sizes' ≡ k.sizes')
 tz_read_sizes_determined x y same =
-    let e = tz_sizes_ends x ∙ ap (λ g. flat_sizes (sizes_says (sizes_of (read_of g.0))) g.1) same ∙ sym (tz_sizes_ends y) in
+    let e = tz_sizes_ends x ∙ ap (λ g. flat_sizes (sizes_of (read_of g.0)) g.1) same ∙ sym (tz_sizes_ends y) in
     (ap (λ (z : Answer). z.number) e, ap (λ (z : Answer). z.values) e)
 
 -- a refusal keeps lent memory
@@ -72,7 +71,7 @@ tz_read_greys_determined x y same =
 
 -- a refusal keeps lent memory
 pub tz_read_greys_refusal_keeps : {c : TzGreysCall} → TzGreys c → 0 < c.number → c.target' ≡ c.target
-unfolding flat_greys turned_says
+unfolding flat_greys
 tz_read_greys_refusal_keeps ran l =
     ap (λ (z : Answer). z.values) (returned_kept (greys_table _ _ _ _ _ _) flat_greys (λ (z : Answer). z.number) refl (λ k. refl) (tz_greys_ends ran) l)
 
@@ -87,7 +86,7 @@ tz_write_determined x y same =
 
 -- a refusal keeps lent memory
 pub tz_write_refusal_keeps : {c : TzWriteCall} → TzWrites c → 0 < c.number → (c.out' ≡ c.out) × (c.count' ≡ c.count)
-unfolding flat_written written_says
+unfolding flat_written
 tz_write_refusal_keeps {c} ran l =
     let e = returned_kept (write_table _ _ _ _ _ _) (λ w. flat_written w c.count) (λ (z : FlatWritten). z.number) refl (λ k. refl) (tz_write_ends ran) l in
     (ap (λ (z : FlatWritten). z.out) e, ap (λ (z : FlatWritten). z.count) e)

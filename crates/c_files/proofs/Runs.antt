@@ -6,7 +6,7 @@ use mathlib.Core.List.{List}
 use mathlib.Core.Path.{◌≡◌}
 use lib.ListN.{length}
 use Rattle.base_rows.specs.Run.{Run, Ran}
-use Rattle.pgm_read.specs.Pgm.{read_of, sizes_of, sizes_says}
+use Rattle.pgm_read.specs.Pgm.{read_of, sizes_of}
 use Rattle.pgm_greys.specs.Greys.{turned_of}
 use Rattle.pgm_write.specs.Write.{write_of}
 use Rattle.c_flat.specs.Files.{answered, flat_sizes, flat_raster, flat_greys, written_as, flat_written}
@@ -41,7 +41,7 @@ tz_sizes_arguments c = (c.bytes, c.sizes)
 abbrev pub TzReadsSizes : TzSizesCall → Type 0
 TzReadsSizes = Ran tz_sizes_values
 
-pub tz_sizes_ends : {c : TzSizesCall} → TzReadsSizes c → answered c.number c.sizes' ≡ flat_sizes (sizes_says (sizes_of (read_of c.bytes))) c.sizes
+pub tz_sizes_ends : {c : TzSizesCall} → TzReadsSizes c → answered c.number c.sizes' ≡ flat_sizes (sizes_of (read_of c.bytes)) c.sizes
 tz_sizes_ends ran = rw ran.named ran.run.allowed
 
 -- ---- tz_read_raster

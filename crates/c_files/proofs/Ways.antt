@@ -8,8 +8,8 @@ use lib.ListN.{length, get_or, take}
 use Rattle.base_lists.specs.Lists.{onto}
 use Rattle.base_rows.specs.Refuse.{first, accepted, says}
 use Rattle.pgm_header.specs.Header.{header_bytes}
-use Rattle.pgm_write.specs.Write.{write_rows, written_says, file_of, write_of}
-use Rattle.pgm_read.specs.Pgm.{read_of, sizes_of, raster_of, sizes_says}
+use Rattle.pgm_write.specs.Write.{write_rows, file_of, write_of}
+use Rattle.pgm_read.specs.Pgm.{read_of, sizes_of, raster_of}
 use Rattle.pgm_write.proofs.Laws.{written_read}
 use Rattle.promise_films.proofs.Accepted.{table_says, returned_number}
 use Rattle.promise_films.proofs.Files.{write_table, written_file, file_sizes, file_greys}
@@ -36,13 +36,13 @@ pub record TzReadBack (c : TzWriteCall) (z : TzSizesCall) (k : TzRasterCall) (g 
 
 module _ {c : TzWriteCall} (ran : TzWrites c) (written : c.number ≡ 0) where
   loose : first (write_rows c.pixels c.width c.height c.maxval (length c.out)) ≡ 0
-  unfolding flat_written written_says
+  unfolding flat_written
   loose =
       sym (returned_number (write_table _ _ _ _ _ _) (λ w. flat_written w c.count) (λ (z : FlatWritten). z.number) refl (λ k. refl))
       ∙ sym (ap (λ (z : FlatWritten). z.number) (tz_write_ends ran))
       ∙ written
 
-  said : written_says (write_of c.pixels c.width c.height c.maxval c.out).answer ≡ accepted (length (file_of c.pixels c.width c.height c.maxval))
+  said : (write_of c.pixels c.width c.height c.maxval c.out).answer ≡ accepted (length (file_of c.pixels c.width c.height c.maxval))
   said = table_says (write_table _ _ _ _ _ _) ∙ ap (λ n. says n (length (file_of c.pixels c.width c.height c.maxval))) loose
 
   laid : written_as c.number c.out' c.count'
@@ -64,7 +64,7 @@ module _ {c : TzWriteCall} {z : TzSizesCall} {k : TzRasterCall} {g : TzGreysCall
   tz_sizes_read_back =
       let e =
       tz_sizes_ends way.sizes
-      ∙ ap (λ s. flat_sizes (sizes_says (sizes_of (read_of s))) z.sizes) (way.asked ∙ file way.writes way.written)
+      ∙ ap (λ s. flat_sizes (sizes_of (read_of s)) z.sizes) (way.asked ∙ file way.writes way.written)
       ∙ ap (λ x. flat_sizes x z.sizes) (file_sizes c.pixels c.width c.height c.maxval (length c.out) rows) in
       (ap (λ (x : Answer). x.number) e, ap (λ (x : Answer). x.values) e)
 

@@ -2,26 +2,21 @@
 #![tactic(auto)]
 
 ghost use Rattle.std.specs.Prelude.{◌≡◌, length};
-ghost use Rattle.pgm_read.specs.Pgm.{read_of, sizes_of, sizes_says};
+ghost use Rattle.pgm_read.specs.Pgm.{read_of, sizes_of};
 ghost use Rattle.pgm_greys.specs.Greys.{turned_of};
 ghost use Rattle.pgm_write.specs.Write.{write_of};
 ghost use Rattle.c_flat.specs.Files.{answered, flat_sizes, flat_raster, flat_greys, written_as, flat_written};
 
-use pgm_greys::Turned;
-use pgm_read::Sizes;
-use pgm_write::Written;
-
 #[unsafe(no_mangle)]
 pub extern "C" fn tz_read_sizes(bytes: &[u8], sizes: &mut [u32; 3]) -> u32
-    ensures { answered result sizes.new ≡ flat_sizes (sizes_says (sizes_of (read_of bytes.now))) sizes.old }
+    ensures { answered result sizes.new ≡ flat_sizes (sizes_of (read_of bytes.now)) sizes.old }
 {
-    let answer = pgm_read::read_sizes(bytes);
-    match answer {
-        Sizes::Found(width, height, maxval) => {
-            *sizes = [width, height, maxval];
+    match pgm_read::read_sizes(bytes) {
+        Ok(found) => {
+            *sizes = [found.width, found.height, found.maxval];
             0
         }
-        Sizes::Refused(n) => n,
+        Err(r) => r.number(),
     }
 }
 
@@ -29,15 +24,13 @@ pub extern "C" fn tz_read_sizes(bytes: &[u8], sizes: &mut [u32; 3]) -> u32
 pub extern "C" fn tz_read_raster(bytes: &[u8], part: &mut [usize; 2]) -> u32
     ensures { answered result part.new ≡ flat_raster (read_of bytes.now) (length bytes.now) part.old }
 {
-    let answer = pgm_read::read_sizes(bytes);
-    match answer {
-        Sizes::Found(_, _, _) => {
-            let raster = pgm_read::read_raster(bytes);
-            let size = raster.len();
+    match pgm_read::read_sizes(bytes) {
+        Ok(_) => {
+            let size = pgm_read::read_raster(bytes).len();
             *part = [bytes.len() - size, size];
             0
         }
-        Sizes::Refused(number) => number,
+        Err(refusal) => refusal.number(),
     }
 }
 
@@ -53,10 +46,7 @@ pub extern "C" fn tz_read_greys(
     ensures { answered result target.new ≡ flat_greys (turned_of bytes.now start width height maxval target.old) }
 {
     let answer = pgm_greys::read_greys(bytes, start, width, height, maxval, target);
-    match answer {
-        Turned::Done => 0,
-        Turned::Refused(n) => n,
-    }
+    c_flat::code(answer)
 }
 
 #[unsafe(no_mangle)]
@@ -70,12 +60,11 @@ pub extern "C" fn tz_write(
 ) -> u32
     ensures { written_as result out.new count.new ≡ flat_written (write_of picture.now width height maxval out.old) count.old }
 {
-    let answer = pgm_write::write(picture, width, height, maxval, out);
-    match answer {
-        Written::Bytes(n) => {
+    match pgm_write::write(picture, width, height, maxval, out) {
+        Ok(n) => {
             *count = n;
             0
         }
-        Written::Refused(n) => n,
+        Err(r) => r.number(),
     }
 }

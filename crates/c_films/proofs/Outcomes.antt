@@ -5,8 +5,8 @@
 -- Assumes nothing.
 use Prim.Native.Nat.{◌<◌}
 use mathlib.Core.Path.{◌≡◌, refl, sym, ap, ◌∙◌}
-use Rattle.film_prepare.specs.Prepare.{prepared_says, prepared_of, prepare_of, enhanced_says, enhanced_of, enhance_of}
-use Rattle.film_draw.specs.Draw.{drawn_says, draw_of}
+use Rattle.film_prepare.specs.Prepare.{prepared_of, prepare_of, enhanced_of, enhance_of}
+use Rattle.film_draw.specs.Draw.{draw_of}
 use Rattle.promise_films.proofs.Accepted.{returned_kept, prepare_table, enhance_table, draw_table}
 use Rattle.c_flat.specs.Flat.{record_from_of}
 use Rattle.c_flat.specs.Films.{FlatPrepared, flat_prepared, FlatEnhanced, flat_enhanced, FlatDrawn, flat_drawn}
@@ -23,7 +23,7 @@ tz_prepare_determined x y same =
 
 -- a refusal keeps lent memory
 pub tz_prepare_refusal_keeps : {c : TzPrepareCall} → TzPrepares c → 0 < c.number → (c.map' ≡ c.map) × (c.scratch' ≡ c.scratch) × (c.list' ≡ c.list) × (c.cells' ≡ c.cells)
-unfolding flat_prepared prepared_says prepared_of
+unfolding flat_prepared prepared_of
 tz_prepare_refusal_keeps {c} ran l =
     let e = returned_kept (prepare_table _ _ _ _ _ _ _ _) (λ e. flat_prepared e c.cells) (λ (z : FlatPrepared). z.number) refl (λ k. refl) (tz_prepare_ends ran) l in
     (ap (λ (z : FlatPrepared). z.map) e, ap (λ (z : FlatPrepared). z.scratch) e, ap (λ (z : FlatPrepared). z.list) e, ap (λ (z : FlatPrepared). z.cells) e)
@@ -39,7 +39,7 @@ tz_enhance_determined x y same =
 
 -- a refusal keeps lent memory
 pub tz_enhance_refusal_keeps : {c : TzEnhanceCall} → TzEnhances c → 0 < c.number → (c.pixels' ≡ c.pixels) × (c.map' ≡ c.map) × (c.scratch' ≡ c.scratch) × (c.foot' ≡ c.foot)
-unfolding flat_enhanced enhanced_says enhanced_of
+unfolding flat_enhanced enhanced_of
 tz_enhance_refusal_keeps {c} ran l =
     let e = returned_kept (enhance_table _ _ _ _ _ _) (λ o. flat_enhanced o c.foot) (λ (z : FlatEnhanced). z.number) refl (λ k. refl) (tz_enhance_ends ran) l in
     (ap (λ (z : FlatEnhanced). z.picture) e, ap (λ (z : FlatEnhanced). z.map) e, ap (λ (z : FlatEnhanced). z.scratch) e, ap (λ (z : FlatEnhanced). z.foot) e)
@@ -55,6 +55,6 @@ tz_draw_determined x y same =
 
 -- a refusal keeps lent memory
 pub tz_draw_refusal_keeps : {c : TzDrawCall} → TzDraws c → 0 < c.number → c.out' ≡ c.out
-unfolding flat_drawn drawn_says
+unfolding flat_drawn
 tz_draw_refusal_keeps ran l =
     ap (λ (z : FlatDrawn). z.out) (returned_kept (draw_table _ _ _ _ _ _ _ _ _) flat_drawn (λ (z : FlatDrawn). z.number) refl (λ k. refl) (tz_draw_ends ran) l)

@@ -11,9 +11,9 @@ use Rattle.base_rows.specs.Refuse.{first, accepted, says}
 use Rattle.film_settings.specs.declared.MapRecord.{MapRecord}
 use Rattle.film_settings.specs.Settings.{record_of, clip_one_of}
 use Rattle.film_settings.proofs.Records.{record_film}
-use Rattle.film_prepare.specs.Prepare.{prepared_says, prepare_rows, PrepareOut, prepare_of, prepared_of}
+use Rattle.film_prepare.specs.Prepare.{prepare_rows, PrepareOut, prepare_of, prepared_of}
 use Rattle.film_tiles.specs.Tiles.{foot_of}
-use Rattle.film_draw.specs.Draw.{draw_rows, drawn_says, draw_of}
+use Rattle.film_draw.specs.Draw.{draw_rows, draw_of}
 use Rattle.film_draw.proofs.Tables.{draw_ready}
 use Rattle.pixel_rule.specs.Rule.{rule_grey}
 use Rattle.promise_films.specs.Films.{HandedOn}
@@ -50,13 +50,13 @@ module _ {p : TzPrepareCall} (ran : TzPrepares p) (prepared : p.number ≡ 0) wh
   ended = prepare_of p.film p.width p.height p.pixels p.settings p.map p.scratch p.list
 
   none : first (prepare_rows p.width p.height p.pixels p.settings (length p.map) (length p.scratch) (length p.list)) ≡ 0
-  unfolding flat_prepared prepared_says prepared_of
+  unfolding flat_prepared prepared_of
   none =
       sym (returned_number (prepare_table _ _ _ _ _ _ _ _) (λ e. flat_prepared e p.cells) (λ (z : FlatPrepared). z.number) refl (λ k. refl))
       ∙ sym (ap (λ (z : FlatPrepared). z.number) (tz_prepare_ends ran))
       ∙ prepared
 
-  done : prepared_says ended.answer ≡ accepted (made, foot_of p.width p.height p.settings)
+  done : ended.answer ≡ accepted (made, foot_of p.width p.height p.settings)
   done = table_says (prepare_table _ _ _ _ _ _ _ _) ∙ ap (λ n. says n (made, foot_of p.width p.height p.settings)) none
 
   -- so the cells hold the film's record, and the map buffer what it gives
@@ -116,7 +116,7 @@ module _ {p : TzPrepareCall} {d : TzDrawCall} (handed : TzHandedToDraw p d) wher
 -- "A window drawn with the record of a film of another number is refused.": handed the numbers that tz_prepare left and another film's number, whatever else
 pub tz_other_film_refused : {p : TzPrepareCall} {d : TzDrawCall} → TzPrepares p → p.number ≡ 0 → TzDraws d → d.numbers ≡ p.cells'.numbers → d.film ≢ p.film
     → (0 < d.number) × (d.out' ≡ d.out)
-unfolding flat_drawn drawn_says
+unfolding flat_drawn
 tz_other_film_refused {p} {d} ran prepared drew numbers other = (some, tz_draw_refusal_keeps drew some)
   where
     number : d.number ≡ first (draw_rows d.film d.width d.height d.pixels d.settings (record_from_of d.numbers d.factor d.axes) d.window d.map (length d.out))

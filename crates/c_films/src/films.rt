@@ -5,8 +5,6 @@ ghost use Rattle.film_draw.specs.Draw.{draw_of};
 ghost use Rattle.c_flat.specs.Flat.{settings_from_of, axes_from, record_from_of, window_from};
 ghost use Rattle.c_flat.specs.Films.{foot_from, cells_from, prepared_as, flat_prepared, enhanced_as, flat_enhanced, drawn_as, flat_drawn};
 
-use film_draw::Drawn;
-use film_prepare::Enhanced;
 use film_settings::Window;
 
 #[unsafe(no_mangle)]
@@ -76,13 +74,12 @@ pub extern "C" fn tz_enhance(
     ensures { enhanced_as result picture.new map.new scratch.new (foot_from limit.new asked.new used.new) ≡ flat_enhanced (enhance_of width height picture.old (settings_from_of across down bins min max clip factor edition) map.old scratch.old) (foot_from limit.old asked.old used.old) }
 {
     let s = c_flat::settings_from(across, down, bins, min, max, clip, factor, edition);
-    let answer = film_prepare::enhance(width, height, picture, s, map, scratch);
-    match answer {
-        Enhanced::Done(footer) => {
+    match film_prepare::enhance(width, height, picture, s, map, scratch) {
+        Ok(footer) => {
             c_flat::put_footer(limit, asked, used, footer);
             0
         }
-        Enhanced::Refused(n) => n,
+        Err(r) => r.number(),
     }
 }
 
@@ -126,8 +123,5 @@ pub extern "C" fn tz_draw(
         height: window_height,
     };
     let answer = film_draw::draw(film, width, height, picture, s, record, window, map, out);
-    match answer {
-        Drawn::Done => 0,
-        Drawn::Refused(n) => n,
-    }
+    c_flat::code(answer)
 }

@@ -6,7 +6,6 @@ ghost use Rattle.c_flat.specs.Flat.{settings_from_of, window_from};
 ghost use Rattle.c_flat.specs.Films.{foot_from, drawn_as, flat_drawn};
 ghost use Rattle.c_room.specs.Flat.{room_cells_from, room_from_of, cells_of, stored_as, flat_stored, dropped_as, flat_dropped};
 
-use film_draw::Drawn;
 use film_settings::Window;
 
 // An empty room: count 0, and zeros in all cells.
@@ -14,7 +13,8 @@ use film_settings::Window;
 pub extern "C" fn tz_room_empty(count: &mut u32, numbers: &mut [u32; 80], factors: &mut [f32; 8])
     ensures { room_cells_from count.new numbers.new factors.new ≡ cells_of empty_room }
 {
-    c_room::put_room(count, numbers, factors, film_sets::empty());
+    let room = film_sets::empty();
+    c_room::put_room(count, numbers, factors, &room);
 }
 
 #[unsafe(no_mangle)]
@@ -44,9 +44,11 @@ pub extern "C" fn tz_room_store(
     ensures { stored_as result map.new scratch.new list.new (foot_from limit.new asked.new used.new) (room_cells_from count.new numbers.new factors.new) ≡ flat_stored (store_of (room_from_of (room_cells_from count.old numbers.old factors.old)) film width height picture.now (settings_from_of across down bins min max clip factor edition) map.old scratch.old list.old) (foot_from limit.old asked.old used.old) (room_cells_from count.old numbers.old factors.old) }
 {
     let s = c_flat::settings_from(across, down, bins, min, max, clip, factor, edition);
-    let room = c_room::room_from(*count, numbers, factors);
-    let kept = film_room::store(room, film, width, height, picture, s, map, scratch, list);
-    c_room::put_stored(limit, asked, used, count, numbers, factors, kept)
+    let mut room = c_room::room_from(*count, numbers, factors);
+    let answer = film_room::store(
+        &mut room, film, width, height, picture, s, map, scratch, list,
+    );
+    c_room::put_stored(limit, asked, used, count, numbers, factors, answer, &room)
 }
 
 #[unsafe(no_mangle)]
@@ -83,11 +85,8 @@ pub extern "C" fn tz_room_draw(
         width: window_width,
         height: window_height,
     };
-    let answer = film_room::draw(room, film, width, height, picture, s, window, map, out);
-    match answer {
-        Drawn::Done => 0,
-        Drawn::Refused(n) => n,
-    }
+    let answer = film_room::draw(&room, film, width, height, picture, s, window, map, out);
+    c_flat::code(answer)
 }
 
 #[unsafe(no_mangle)]
@@ -100,7 +99,7 @@ pub extern "C" fn tz_room_drop(
 ) -> u32
     ensures { dropped_as result map.new (room_cells_from count.new numbers.new factors.new) ≡ flat_dropped (drop_of (room_from_of (room_cells_from count.old numbers.old factors.old)) film map.old) (room_cells_from count.old numbers.old factors.old) }
 {
-    let room = c_room::room_from(*count, numbers, factors);
-    let left = film_room::drop_film(room, film, map);
-    c_room::put_dropped(count, numbers, factors, left)
+    let mut room = c_room::room_from(*count, numbers, factors);
+    let answer = film_room::drop_film(&mut room, film, map);
+    c_room::put_dropped(count, numbers, factors, answer, &room)
 }

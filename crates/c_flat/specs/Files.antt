@@ -3,10 +3,9 @@
 -- Assumes nothing.
 use Rattle.std.specs.Prelude.{ℕ, ◌-◌, List, [], ◌∷◌}
 use Rattle.base_rows.specs.Refuse.{Says, accepted, refused}
-use Rattle.pgm_header.specs.declared.Head.{Head}
-use Rattle.pgm_header.specs.declared.Head.TheVariants as Head
-use Rattle.pgm_greys.specs.Greys.{turned_says, GreysOut}
-use Rattle.pgm_write.specs.Write.{written_says, WriteOut}
+use Rattle.pgm_header.specs.Header.{Head}
+use Rattle.pgm_greys.specs.Greys.{GreysOut}
+use Rattle.pgm_write.specs.Write.{WriteOut}
 use Rattle.c_flat.specs.Flat.{returned}
 
 -- "one answer can't hold numbers and a part": the number returned, and the numbers or the target that were lent for the rest
@@ -30,7 +29,7 @@ flat_raster (Head.Refused n) size old = answered n old
 
 -- "a second call turns it into greys": from what that call leaves
 unfoldable pub flat_greys : GreysOut → Answer
-flat_greys g = answered (returned (turned_says g.answer)) g.target
+flat_greys g = answered (returned g.answer) g.target
 
 -- "returns the byte count": what tz_write and tz_listing leave, the count in a cell of its own
 pub record FlatWritten : Type 0 where
@@ -49,4 +48,4 @@ written_by (refused n) out count = written_as n out count
 
 -- from what write leaves, and what the count's cell held before
 unfoldable pub flat_written : WriteOut → ℕ → FlatWritten
-flat_written w count = written_by (written_says w.answer) w.out count
+flat_written w count = written_by w.answer w.out count

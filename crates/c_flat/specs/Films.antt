@@ -5,8 +5,8 @@ use Rattle.std.specs.Prelude.{ℕ, List, Float}
 use Rattle.base_rows.specs.Refuse.{Says, accepted, refused}
 use Rattle.film_settings.specs.declared.MapRecord.{MapRecord}
 use Rattle.film_settings.specs.declared.Footer.{Footer}
-use Rattle.film_prepare.specs.Prepare.{prepared_says, enhanced_says, PrepareOut, EnhanceOut}
-use Rattle.film_draw.specs.Draw.{drawn_says, DrawOut}
+use Rattle.film_prepare.specs.Prepare.{PrepareOut, EnhanceOut}
+use Rattle.film_draw.specs.Draw.{DrawOut}
 use Rattle.c_flat.specs.Flat.{returned, record_numbers, clip_factor_of, Axes, axes_after}
 
 -- "a footer record with L, the factor asked as f32 and the factor used as f64": the three cells that it is handed out in
@@ -55,7 +55,7 @@ prepared_as n m t list cells = record { number = n; map = m; scratch = t; list =
 
 -- from what prepare leaves, and what the cells held before
 unfoldable pub flat_prepared : PrepareOut → Cells → FlatPrepared
-flat_prepared e cells = prepared_as (returned (prepared_says e.answer)) e.map e.scratch e.list (cells_after (prepared_says e.answer) cells)
+flat_prepared e cells = prepared_as (returned e.answer) e.map e.scratch e.list (cells_after e.answer cells)
 
 -- ---- tz_enhance
 
@@ -78,7 +78,7 @@ enhanced_by (refused n) pic m t foot = enhanced_as n pic m t foot
 
 -- from what enhance leaves, and what the footer's cells held before
 unfoldable pub flat_enhanced : EnhanceOut → Foot → FlatEnhanced
-flat_enhanced o foot = enhanced_by (enhanced_says o.answer) o.picture o.map o.scratch foot
+flat_enhanced o foot = enhanced_by o.answer o.picture o.map o.scratch foot
 
 -- ---- tz_draw
 
@@ -93,4 +93,4 @@ drawn_as n out = record { number = n; out = out }
 
 -- from what draw leaves
 unfoldable pub flat_drawn : DrawOut → FlatDrawn
-flat_drawn s = drawn_as (returned (drawn_says s.answer)) s.out
+flat_drawn s = drawn_as (returned s.answer) s.out

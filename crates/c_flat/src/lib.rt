@@ -2,11 +2,13 @@
 #![tactic(auto)]
 
 ghost use Rattle.std.specs.Prelude.{◌≡◌};
+ghost use Rattle.base_rows.specs.Given.{said};
 ghost use Rattle.film_prepare.specs.Prepare.{prepared_says};
 ghost use Rattle.c_flat.specs.Flat.{returned, clip_from_of, clip_number_of, clip_factor_of, edition_from_of, edition_number_of, settings_from_of, record_numbers, axes_from, axes_of, axes_after, axis_from_of, record_from_of};
 ghost use Rattle.c_flat.specs.Films.{foot_from, foot_after, cells_from, cells_after};
 
-use film_prepare::{Made, Prepared};
+use base_rows::Refusal;
+use film_prepare::Prepared;
 use film_settings::{Footer, MapRecord, Settings};
 use pixel_grid::Axis;
 use tile_limit::{Clip, Edition};
@@ -15,9 +17,10 @@ pub fn clip_from(clip: u32, factor: f32) -> Clip
     ensures { result ≡ clip_from_of clip factor }
 {
     if clip == 0 {
-        return Clip::Off;
+        Clip::Off
+    } else {
+        Clip::Factor(factor)
     }
-    Clip::Factor(factor)
 }
 
 pub fn clip_number(clip: Clip) -> u32
@@ -42,9 +45,10 @@ pub fn edition_from(edition: u32) -> Edition
     ensures { result ≡ edition_from_of edition }
 {
     if edition == 0 {
-        return Edition::Ours;
+        Edition::Ours
+    } else {
+        Edition::Of1986
     }
-    Edition::Of1986
 }
 
 pub fn edition_number(edition: Edition) -> u32
@@ -68,16 +72,14 @@ pub fn settings_from(
 ) -> Settings
     ensures { result ≡ settings_from_of across down bins min max clip factor edition }
 {
-    let clip = clip_from(clip, factor);
-    let edition = edition_from(edition);
     Settings {
         across,
         down,
         bins,
         min,
         max,
-        clip,
-        edition,
+        clip: clip_from(clip, factor),
+        edition: edition_from(edition),
     }
 }
 
@@ -115,8 +117,6 @@ fn put_record(
     ensures { (numbers.new ≡ record_numbers r) × (kept.new ≡ clip_factor_of r.settings.clip) × (axes_from column_edges.new column_centres.new row_edges.new row_centres.new ≡ axes_after r) }
 {
     let s = r.settings;
-    let clip = s.clip;
-    let edition = s.edition;
     *numbers = [
         r.film,
         r.width,
@@ -126,14 +126,12 @@ fn put_record(
         s.bins,
         s.min,
         s.max,
-        clip_number(clip),
-        edition_number(edition),
+        clip_number(s.clip),
+        edition_number(s.edition),
     ];
-    *kept = clip_factor(clip);
-    let columns = r.columns;
-    put_axis(column_edges, column_centres, columns);
-    let rows = r.rows;
-    put_axis(row_edges, row_centres, rows);
+    *kept = clip_factor(s.clip);
+    put_axis(column_edges, column_centres, r.columns);
+    put_axis(row_edges, row_centres, r.rows);
 }
 
 pub fn record_from(numbers: &[u32; 10], factor: f32, columns: Axis, rows: Axis) -> MapRecord
@@ -149,6 +147,16 @@ pub fn record_from(numbers: &[u32; 10], factor: f32, columns: Axis, rows: Axis) 
         settings,
         columns,
         rows,
+    }
+}
+
+// What a call returns that hands back no values: 0, or the refusal's number.
+pub fn code(answer: Result<(), Refusal>) -> u32
+    ensures { result ≡ returned (said answer) }
+{
+    match answer {
+        Ok(()) => 0,
+        Err(r) => r.number(),
     }
 }
 
@@ -172,14 +180,12 @@ pub fn put_prepared(
     column_centres: &mut [u32; 16],
     row_edges: &mut [u32; 17],
     row_centres: &mut [u32; 16],
-    p: Prepared,
+    p: Result<Prepared, Refusal>,
 ) -> u32
     ensures { (result ≡ returned (prepared_says p)) × (cells_from numbers.new kept.new (axes_from column_edges.new column_centres.new row_edges.new row_centres.new) (foot_from limit.new asked.new used.new) ≡ cells_after (prepared_says p) (cells_from numbers.old kept.old (axes_from column_edges.old column_centres.old row_edges.old row_centres.old) (foot_from limit.old asked.old used.old))) }
 {
-    let answer = p.answer;
-    match answer {
-        Made::Done(foot) => {
-            let r = p.kept;
+    match p {
+        Ok(made) => {
             put_record(
                 numbers,
                 kept,
@@ -187,11 +193,11 @@ pub fn put_prepared(
                 column_centres,
                 row_edges,
                 row_centres,
-                r,
+                made.kept,
             );
-            put_footer(limit, asked, used, foot);
+            put_footer(limit, asked, used, made.footer);
             0
         }
-        Made::Refused(n) => n,
+        Err(r) => r.number(),
     }
 }

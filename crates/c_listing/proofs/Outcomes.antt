@@ -8,9 +8,8 @@ use mathlib.Core.Logic.{inl, inr}
 use mathlib.Core.Path.{◌≡◌, refl, sym, ap, ◌∙◌}
 use lib.ListN.{length}
 use Rattle.base_lists.specs.Lists.{onto}
-use Rattle.base_rows.specs.Refuse.{first, unless}
-use Rattle.pgm_write.specs.declared.Written.TheVariants as Written
-use Rattle.pgm_write.specs.Write.{written_says, write_leaves}
+use Rattle.base_rows.specs.Refuse.{first, unless, accepted, refused}
+use Rattle.pgm_write.specs.Write.{write_leaves}
 use Rattle.listing_file.specs.Listing.{listing_of, text_rows, list_of}
 use Rattle.c_flat.specs.Files.{FlatWritten, written_as, flat_written}
 use Rattle.c_flat.proofs.Kept.{Keeps, kept}
@@ -18,12 +17,12 @@ use Rattle.c_listing.proofs.Runs.{TzListingCall, TzLists, tz_listing_arguments, 
 
 -- an outcome that is accepted, or that holds what was lent beside its number
 listing_keeps : (s out : List ℕ) (count : ℕ) → Keeps (λ (z : FlatWritten). z.number) (λ n. written_as n out count) (flat_written (list_of s out) count)
-unfolding flat_written written_says list_of
+unfolding flat_written list_of
 listing_keeps s out count = go (first (text_rows (length out)))
   where
     go : (n : ℕ)
         → Keeps (λ (z : FlatWritten). z.number) (λ n. written_as n out count)
-        (flat_written (unless n (λ k. write_leaves (Written.Refused k) out) (write_leaves (Written.Bytes (length (listing_of s))) (onto out (listing_of s)))) count)
+        (flat_written (unless n (λ k. write_leaves (refused k) out) (write_leaves (accepted (length (listing_of s))) (onto out (listing_of s)))) count)
     go zero = inl refl
     go (suc n) = inr refl
 

@@ -8,12 +8,8 @@ use native.Mathlib.Omega.{arith}
 use lib.ListN.{length, get_or, take}
 use Rattle.base_lists.specs.Lists.{onto}
 use Rattle.base_lists.proofs.Fills.{take_onto}
-use Rattle.base_rows.specs.Refuse.{first, refused}
-use Rattle.pgm_read.specs.declared.Sizes.{Sizes}
-use Rattle.pgm_read.specs.declared.Sizes.TheVariants as Sizes
-use Rattle.pgm_read.specs.Pgm.{sizes_says}
-use Rattle.pgm_greys.specs.declared.Turned.TheVariants as Turned
-use Rattle.pgm_greys.specs.Greys.{turn_rows, turned_says, greys_leave}
+use Rattle.base_rows.specs.Refuse.{Says, first, accepted, refused}
+use Rattle.pgm_greys.specs.Greys.{turn_rows, greys_leave}
 use Rattle.pgm_write.specs.Write.{WriteReady, file_of}
 use Rattle.pgm_plain_read.specs.PlainRead.{PlainRead, plain_read_as, plain_of}
 use Rattle.pgm_plain_write.specs.PlainWrite.{plain_file_of}
@@ -37,21 +33,21 @@ cells_same p q =
     (ap (λ s. get_or s 0 0) e, ap (λ s. get_or s 1 0) e, ap (λ s. get_or s 2 0) e)
 
 -- where 0 is returned, the sizes that lie in their cells were answered, and the target is what was left
-read_done : (p : PlainRead) (old : List ℕ) {sizes target : List ℕ} {w h m : ℕ} → ((n : ℕ) → sizes_says p.answer ≡ refused n → 0 < n)
-    → read_as 0 sizes target ≡ flat_read p old → sizes ≡ w ∷ h ∷ m ∷ [] → p ≡ plain_read_as (Sizes.Found w h m) target
-unfolding flat_read sizes_says
+read_done : (p : PlainRead) (old : List ℕ) {sizes target : List ℕ} {w h m : ℕ} → ((n : ℕ) → p.answer ≡ refused n → 0 < n)
+    → read_as 0 sizes target ≡ flat_read p old → sizes ≡ w ∷ h ∷ m ∷ [] → p ≡ plain_read_as (accepted (w, h, m)) target
+unfolding flat_read
 read_done p old {sizes} {target} {w} {h} {m} some e q = go p.answer refl
   where
-    found : {a b d : ℕ} → p.answer ≡ Sizes.Found a b d → (a ≡ w) × (b ≡ h) × (d ≡ m) → target ≡ p.target → p ≡ plain_read_as (Sizes.Found w h m) target
-    found i same t = ap (λ x. plain_read_as x p.target) (i ∙ rw (same.0, same.1, same.2) refl) ∙ ap (plain_read_as (Sizes.Found w h m)) (sym t)
+    found : {a b d : ℕ} → p.answer ≡ accepted (a, b, d) → (a ≡ w) × (b ≡ h) × (d ≡ m) → target ≡ p.target → p ≡ plain_read_as (accepted (w, h, m)) target
+    found i same t = ap (λ x. plain_read_as x p.target) (i ∙ rw (same.0, same.1, same.2) refl) ∙ ap (plain_read_as (accepted (w, h, m))) (sym t)
 
-    go : (x : Sizes) → p.answer ≡ x → p ≡ plain_read_as (Sizes.Found w h m) target
-    go (Sizes.Found a b d) i =
-        let f : read_as 0 sizes target ≡ read_as 0 (a ∷ b ∷ d ∷ []) p.target = e ∙ ap (λ x. read_by (sizes_says x) old p.target) i in
+    go : (x : Says (ℕ × ℕ × ℕ)) → p.answer ≡ x → p ≡ plain_read_as (accepted (w, h, m)) target
+    go (accepted v) i =
+        let f : read_as 0 sizes target ≡ read_as 0 (v.0 ∷ v.1 ∷ v.2 ∷ []) p.target = e ∙ ap (λ x. read_by x old p.target) i in
         found i (cells_same (ap (λ (x : FlatRead). x.sizes) f) q) (ap (λ (x : FlatRead). x.target) f)
-    go (Sizes.Refused n) i =
-        let f : read_as 0 sizes target ≡ read_as n old p.target = e ∙ ap (λ x. read_by (sizes_says x) old p.target) i in
-        absurd (omega (arith, some n (ap sizes_says i), ap (λ (x : FlatRead). x.number) f))
+    go (refused n) i =
+        let f : read_as 0 sizes target ≡ read_as n old p.target = e ∙ ap (λ x. read_by x old p.target) i in
+        absurd (omega (arith, some n i, ap (λ (x : FlatRead). x.number) f))
 
 -- what tz_read_plain left is a film
 plain_left : {r : TzPlainCall} {w h m : ℕ} → TzReadsPlain r → r.number ≡ 0 → r.sizes' ≡ w ∷ h ∷ m ∷ [] → WriteReady (take (w * h) r.target') w h m
@@ -62,14 +58,14 @@ plain_left {r} {w} {h} {m} ran none found =
 
 -- and so is what tz_read_greys left
 raw_left : {g : TzGreysCall} → TzGreys g → g.number ≡ 0 → WriteReady (take (g.width * g.height) g.target') g.width g.height g.maxval
-unfolding flat_greys turned_says
+unfolding flat_greys
 raw_left {g} ran none =
     let table = greys_table g.bytes g.start g.width g.height g.maxval g.target in
     let loose : first (turn_rows g.bytes g.start g.width g.height g.maxval (length g.target)) ≡ 0 =
     sym (returned_number table flat_greys (λ (z : Answer). z.number) refl (λ k. refl)) ∙ sym (ap (λ (z : Answer). z.number) (tz_greys_ends ran)) ∙ none in
     let done = table.when_none loose in
     Left.raw_left g.bytes g.start g.target g.target' g.width g.height g.maxval
-    (done ∙ ap (greys_leave Turned.Done) (sym (ap (λ (z : Answer). z.values) (tz_greys_ends ran ∙ ap flat_greys done))))
+    (done ∙ ap (greys_leave (accepted tt)) (sym (ap (λ (z : Answer). z.values) (tz_greys_ends ran ∙ ap flat_greys done))))
 
 -- ---- "Any accepted file keeps its size, maxval and greys in either move."
 

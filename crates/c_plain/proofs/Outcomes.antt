@@ -8,8 +8,7 @@ use mathlib.Core.Logic.{inl, inr}
 use mathlib.Core.Path.{◌≡◌, refl, sym, ap, ◌∙◌}
 use lib.ListN.{length}
 use Rattle.base_rows.specs.Refuse.{first, Says, accepted, refused}
-use Rattle.pgm_read.specs.Pgm.{sizes_says}
-use Rattle.pgm_write.specs.Write.{file_picture_rows, written_says}
+use Rattle.pgm_write.specs.Write.{file_picture_rows}
 use Rattle.promise_films.proofs.Accepted.{returned_number, returned_kept}
 use Rattle.promise_films.proofs.Files.{write_table}
 use Rattle.c_flat.specs.Files.{Answer, answered, flat_sizes, FlatWritten, flat_written}
@@ -30,7 +29,7 @@ use Rattle.c_plain.proofs.Runs.{TzPlainSizes, tz_plain_sizes_ends, TzPlainCall, 
 pub tz_plain_sizes_determined : {c k : TzSizesCall} → TzPlainSizes c → TzPlainSizes k → tz_sizes_arguments c ≡ tz_sizes_arguments k
     → (c.number ≡ k.number) × (c.sizes' ≡ k.sizes')
 tz_plain_sizes_determined x y same =
-    let e = tz_plain_sizes_ends x ∙ ap (λ g. flat_sizes (sizes_says (limited_of (plain_head_of g.0))) g.1) same ∙ sym (tz_plain_sizes_ends y) in
+    let e = tz_plain_sizes_ends x ∙ ap (λ g. flat_sizes (limited_of (plain_head_of g.0)) g.1) same ∙ sym (tz_plain_sizes_ends y) in
     (ap (λ (z : Answer). z.number) e, ap (λ (z : Answer). z.values) e)
 
 -- a refusal keeps lent memory
@@ -58,7 +57,7 @@ unfolding flat_read
 tz_read_plain_refusal_keeps {c} ran l =
     let e =
     kept (λ (z : FlatRead). z.number) (λ n. read_as n c.sizes c.target) (tz_read_plain_ends ran)
-    (read_keeps (sizes_says (plain_of c.bytes c.target).answer) c.sizes c.target (plain_of c.bytes c.target).target (λ n. read_says_kept c.bytes c.target n)) l in
+    (read_keeps (plain_of c.bytes c.target).answer c.sizes c.target (plain_of c.bytes c.target).target (λ n. read_says_kept c.bytes c.target n)) l in
     (ap (λ (z : FlatRead). z.sizes) e, ap (λ (z : FlatRead). z.target) e)
 
 -- ---- tz_write_plain
@@ -72,7 +71,7 @@ tz_write_plain_determined x y same =
 
 -- a refusal keeps lent memory
 pub tz_write_plain_refusal_keeps : {c : TzWriteCall} → TzWritesPlain c → 0 < c.number → (c.out' ≡ c.out) × (c.count' ≡ c.count)
-unfolding flat_written written_says
+unfolding flat_written
 tz_write_plain_refusal_keeps {c} ran l =
     let e = returned_kept (write_table _ _ _ _ _ _) (λ w. flat_written w c.count) (λ (z : FlatWritten). z.number) refl (λ k. refl) (tz_write_plain_ends ran) l in
     (ap (λ (z : FlatWritten). z.out) e, ap (λ (z : FlatWritten). z.count) e)
@@ -80,7 +79,7 @@ tz_write_plain_refusal_keeps {c} ran l =
 -- 18 bytes and five for each pixel are room enough for any film: 22, 23, 2 and 26 alone decide
 pub tz_write_plain_roomy : {c : TzWriteCall} → TzWritesPlain c → 18 + c.width * c.height * 5 ≤ length c.out
     → c.number ≡ first (file_picture_rows c.pixels c.width c.height c.maxval)
-unfolding flat_written written_says
+unfolding flat_written
 tz_write_plain_roomy {c} ran l =
     ap (λ (z : FlatWritten). z.number) (tz_write_plain_ends ran)
     ∙ returned_number (write_table _ _ _ _ _ _) (λ w. flat_written w c.count) (λ (z : FlatWritten). z.number) refl (λ k. refl)

@@ -4,7 +4,6 @@ use Prim.Native.Nat.{ℕ}
 use mathlib.Core.List.{List}
 use mathlib.Core.Path.{◌≡◌}
 use Rattle.base_rows.specs.Run.{Run, Ran}
-use Rattle.pgm_read.specs.Pgm.{sizes_says}
 use Rattle.c_flat.specs.Files.{answered, flat_sizes, written_as, flat_written}
 use Rattle.pgm_plain.specs.Plain.{plain_head_of}
 use Rattle.pgm_plain_read.specs.PlainRead.{plain_of, limited_of}
@@ -30,7 +29,7 @@ tz_plain_sizes_values run =
 abbrev pub TzPlainSizes : TzSizesCall → Type 0
 TzPlainSizes = Ran tz_plain_sizes_values
 
-pub tz_plain_sizes_ends : {c : TzSizesCall} → TzPlainSizes c → answered c.number c.sizes' ≡ flat_sizes (sizes_says (limited_of (plain_head_of c.bytes))) c.sizes
+pub tz_plain_sizes_ends : {c : TzSizesCall} → TzPlainSizes c → answered c.number c.sizes' ≡ flat_sizes (limited_of (plain_head_of c.bytes)) c.sizes
 tz_plain_sizes_ends ran = rw ran.named ran.run.allowed
 
 -- ---- tz_read_plain

@@ -7,8 +7,7 @@ use mathlib.Core.Path.{◌≡◌, refl, sym, ap, ◌∙◌}
 use lib.ListN.{length, take}
 use Rattle.base_lists.specs.Lists.{onto}
 use Rattle.base_rows.specs.Refuse.{first, accepted, says}
-use Rattle.pgm_read.specs.Pgm.{sizes_says}
-use Rattle.pgm_write.specs.Write.{WriteReady, written_rows, written_says, written_of}
+use Rattle.pgm_write.specs.Write.{WriteReady, written_rows, written_of}
 use Rattle.pgm_write.proofs.Tables.{write_asks}
 use Rattle.pgm_plain.specs.Plain.{plain_head_of}
 use Rattle.pgm_plain_read.specs.PlainRead.{plain_of, limited_of}
@@ -26,20 +25,20 @@ use Rattle.c_plain.proofs.Runs.{TzPlainSizes, tz_plain_sizes_ends, TzPlainCall, 
 module _ (c : TzWriteCall) (file : List ℕ)
     (ends : written_as c.number c.out' c.count' ≡ flat_written (written_of c.pixels c.width c.height c.maxval file c.out) c.count) where
   -- that its answer says a count hands it out
-  laid : {n : ℕ} → written_says (written_of c.pixels c.width c.height c.maxval file c.out).answer ≡ accepted n
+  laid : {n : ℕ} → (written_of c.pixels c.width c.height c.maxval file c.out).answer ≡ accepted n
       → written_as c.number c.out' c.count' ≡ written_as 0 (written_of c.pixels c.width c.height c.maxval file c.out).out n
   unfolding flat_written
   laid said = ends ∙ ap (λ x. written_by x (written_of c.pixels c.width c.height c.maxval file c.out).out c.count) said
 
   module _ (written : c.number ≡ 0) where
     loose : first (written_rows c.pixels c.width c.height c.maxval file (length c.out)) ≡ 0
-    unfolding flat_written written_says
+    unfolding flat_written
     loose =
         sym (returned_number (write_table _ _ _ _ _ _) (λ w. flat_written w c.count) (λ (z : FlatWritten). z.number) refl (λ k. refl))
         ∙ sym (ap (λ (z : FlatWritten). z.number) ends)
         ∙ written
 
-    said : written_says (written_of c.pixels c.width c.height c.maxval file c.out).answer ≡ accepted (length file)
+    said : (written_of c.pixels c.width c.height c.maxval file c.out).answer ≡ accepted (length file)
     said = table_says (write_table _ _ _ _ _ _) ∙ ap (λ n. says n (length file)) loose
 
     -- what was written is a film
@@ -99,18 +98,18 @@ module _ {c : TzWriteCall} (ran : TzWritesPlain c) (written : c.number ≡ 0) wh
   -- "a film written and read back is the same film": tz_plain_sizes over those bytes hands out its width, height and maxval
   pub tz_plain_sizes_read_back : {z : TzSizesCall} → TzPlainSizes z → z.bytes ≡ take c.count' c.out'
       → (z.number ≡ 0) × (z.sizes' ≡ c.width ∷ c.height ∷ c.maxval ∷ [])
-  unfolding flat_sizes sizes_says
+  unfolding flat_sizes
   tz_plain_sizes_read_back {z} sizes asked =
       let e =
       tz_plain_sizes_ends sizes
-      ∙ ap (λ s. flat_sizes (sizes_says (limited_of (plain_head_of s))) z.sizes) (asked ∙ plain_file)
-      ∙ ap (λ x. flat_sizes (sizes_says x) z.sizes) (plain_sizes_back c.pixels c.width c.height c.maxval plain_film) in
+      ∙ ap (λ s. flat_sizes (limited_of (plain_head_of s)) z.sizes) (asked ∙ plain_file)
+      ∙ ap (λ x. flat_sizes x z.sizes) (plain_sizes_back c.pixels c.width c.height c.maxval plain_film) in
       (ap (λ (x : Answer). x.number) e, ap (λ (x : Answer). x.values) e)
 
 -- and tz_read_plain does so too, and leaves its greys in a target with room
 pub tz_plain_read_back : {c : TzWriteCall} {r : TzPlainCall} → TzPlainBack c r
     → (r.number ≡ 0) × (r.sizes' ≡ c.width ∷ c.height ∷ c.maxval ∷ []) × (r.target' ≡ onto r.target c.pixels)
-unfolding flat_read sizes_says
+unfolding flat_read
 tz_plain_read_back {c} {r} way =
     let e =
     tz_read_plain_ends way.reads

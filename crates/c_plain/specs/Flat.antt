@@ -3,7 +3,6 @@
 -- Assumes nothing.
 use Rattle.std.specs.Prelude.{ℕ, List, [], ◌∷◌}
 use Rattle.base_rows.specs.Refuse.{Says, accepted, refused}
-use Rattle.pgm_read.specs.Pgm.{sizes_says}
 use Rattle.pgm_plain_read.specs.PlainRead.{PlainRead}
 
 -- "A refusal returns its number alone": the number returned, and the sizes' cells and the target that were lent
@@ -23,4 +22,4 @@ read_by (refused n) old target = read_as n old target
 
 -- from what read_plain leaves, and what the sizes' cells held before
 unfoldable pub flat_read : PlainRead → List ℕ → FlatRead
-flat_read p old = read_by (sizes_says p.answer) old p.target
+flat_read p old = read_by p.answer old p.target

@@ -2,27 +2,22 @@
 #![tactic(auto)]
 
 ghost use Rattle.std.specs.Prelude.{◌≡◌};
-ghost use Rattle.pgm_read.specs.Pgm.{sizes_says};
 ghost use Rattle.c_flat.specs.Files.{answered, flat_sizes, written_as, flat_written};
 ghost use Rattle.pgm_plain.specs.Plain.{plain_head_of};
 ghost use Rattle.pgm_plain_read.specs.PlainRead.{plain_of, limited_of};
 ghost use Rattle.pgm_plain_write.specs.PlainWrite.{plain_write_of};
 ghost use Rattle.c_plain.specs.Flat.{read_as, flat_read};
 
-use pgm_read::Sizes;
-use pgm_write::Written;
-
 #[unsafe(no_mangle)]
 pub extern "C" fn tz_plain_sizes(bytes: &[u8], sizes: &mut [u32; 3]) -> u32
-    ensures { answered result sizes.new ≡ flat_sizes (sizes_says (limited_of (plain_head_of bytes.now))) sizes.old }
+    ensures { answered result sizes.new ≡ flat_sizes (limited_of (plain_head_of bytes.now)) sizes.old }
 {
-    let answer = pgm_plain_read::plain_sizes(bytes);
-    match answer {
-        Sizes::Found(width, height, maxval) => {
-            *sizes = [width, height, maxval];
+    match pgm_plain_read::plain_sizes(bytes) {
+        Ok(found) => {
+            *sizes = [found.width, found.height, found.maxval];
             0
         }
-        Sizes::Refused(n) => n,
+        Err(refusal) => refusal.number(),
     }
 }
 
@@ -30,13 +25,12 @@ pub extern "C" fn tz_plain_sizes(bytes: &[u8], sizes: &mut [u32; 3]) -> u32
 pub extern "C" fn tz_read_plain(bytes: &[u8], sizes: &mut [u32; 3], target: &mut [u16]) -> u32
     ensures { read_as result sizes.new target.new ≡ flat_read (plain_of bytes.now target.old) sizes.old }
 {
-    let answer = pgm_plain_read::read_plain(bytes, target);
-    match answer {
-        Sizes::Found(w, h, m) => {
-            *sizes = [w, h, m];
+    match pgm_plain_read::read_plain(bytes, target) {
+        Ok(read) => {
+            *sizes = [read.width, read.height, read.maxval];
             0
         }
-        Sizes::Refused(number) => number,
+        Err(no) => no.number(),
     }
 }
 
@@ -51,12 +45,11 @@ pub extern "C" fn tz_write_plain(
 ) -> u32
     ensures { written_as result out.new count.new ≡ flat_written (plain_write_of picture.now width height maxval out.old) count.old }
 {
-    let answer = pgm_plain_write::write_plain(picture, width, height, maxval, out);
-    match answer {
-        Written::Bytes(n) => {
+    match pgm_plain_write::write_plain(picture, width, height, maxval, out) {
+        Ok(n) => {
             *count = n;
             0
         }
-        Written::Refused(n) => n,
+        Err(r) => r.number(),
     }
 }

@@ -7,6 +7,10 @@ use native.Mathlib.Nat.{add-zero}
 use native.Mathlib.Omega.{arith}
 use lib.Ieee.{nan}
 use lib.ListN.{length, get_or}
+use Rattle.std.proofs.Common.{Result, Ok, Err}
+use Rattle.base_rows.specs.declared.Refusal.{Refusal}
+use Rattle.base_rows.specs.Refuse.{Says}
+use Rattle.base_rows.specs.Given.{number_of, said}
 use Rattle.base_lists.specs.Lists.{tab}
 use Rattle.base_lists.proofs.Tabs.{get_or_tab, tab_cong, tab_all}
 use Rattle.base_lists.proofs.Blocks.{get_or_joined}
@@ -17,11 +21,7 @@ use Rattle.film_settings.specs.declared.Footer.{Footer}
 use Rattle.film_sets.specs.declared.Set.{Set}
 use Rattle.film_sets.specs.declared.Room.{Room}
 use Rattle.film_sets.specs.Sets.{no_set_of}
-use Rattle.film_room.specs.declared.Stored.{Stored}
-use Rattle.film_room.specs.declared.Stored.TheVariants as Stored
-use Rattle.film_room.specs.declared.Dropped.{Dropped}
-use Rattle.film_room.specs.declared.Dropped.TheVariants as Dropped
-use Rattle.film_room.specs.Room.{stored_says, StoreOut, store_leaves, dropped_says, DropOut, drop_leaves}
+use Rattle.film_room.specs.Room.{StoreOut, store_leaves, DropOut, drop_leaves}
 use Rattle.c_flat.specs.Flat.{settings_from_of, clip_number_of, clip_factor_of, edition_number_of}
 use Rattle.c_flat.specs.Films.{Foot, foot_after}
 use Rattle.c_flat.proofs.Handed.{record_back}
@@ -30,36 +30,33 @@ use Rattle.c_room.specs.Flat.{RoomCells, set_from_of, room_from_of, set_numbers_
 -- ---- store
 
 -- a stored film's footer and the room stand in their cells
-pub stored_done : (a : Stored) (room : Room) (foot : Foot) (old : RoomCells) {f : Footer} {y : Foot} {cells : RoomCells}
-    → a ≡ Stored.Done f → y ≡ foot_after f → cells ≡ cells_of room → stored_cells_from 0 y cells ≡ stored_cells (stored_says a) room foot old
-unfolding stored_says
+pub stored_done : (a : Result Footer Refusal) (room : Room) (foot : Foot) (old : RoomCells) {f : Footer} {y : Foot} {cells : RoomCells}
+    → a ≡ Ok f → y ≡ foot_after f → cells ≡ cells_of room → stored_cells_from 0 y cells ≡ stored_cells (said a) room foot old
 stored_done a room foot old q y c = rw (q, y, c) refl
 
 -- a refusal leaves them
-pub stored_refused : (a : Stored) (room : Room) (foot : Foot) (old : RoomCells) {n : ℕ} → a ≡ Stored.Refused n
-    → stored_cells_from n foot old ≡ stored_cells (stored_says a) room foot old
-unfolding stored_says
-stored_refused a room foot old q = rw q refl
+pub stored_refused : (a : Result Footer Refusal) (room : Room) (foot : Foot) (old : RoomCells) {r : Refusal} {n : ℕ} → a ≡ Err r → n ≡ number_of r
+    → stored_cells_from n foot old ≡ stored_cells (said a) room foot old
+stored_refused a room foot old q n = rw (q, n) refl
 
 -- so what store leaves and what was handed out are what the call for C leaves
-pub stored_handed : {a : Stored} {room : Room} {m t ls : List ℕ} (k : StoreOut) (foot : Foot) (old : RoomCells) {n : ℕ} {y : Foot} {cells : RoomCells}
-    → store_leaves a room m t ls ≡ k → stored_cells_from n y cells ≡ stored_cells (stored_says a) room foot old → stored_as n m t ls y cells ≡ flat_stored k foot old
+pub stored_handed : {a : Says Footer} {room : Room} {m t ls : List ℕ} (k : StoreOut) (foot : Foot) (old : RoomCells) {n : ℕ} {y : Foot} {cells : RoomCells}
+    → store_leaves a room m t ls ≡ k → stored_cells_from n y cells ≡ stored_cells a room foot old → stored_as n m t ls y cells ≡ flat_stored k foot old
 unfolding flat_stored
 stored_handed {m = m} {t = t} {ls = ls} k foot old q h = rw (← q) (ap (λ z. stored_as z.number m t ls z.foot z.room) h)
 
 -- ---- drop
 
-pub dropped_done : (a : Dropped) (room : Room) (old : RoomCells) {cells : RoomCells} → a ≡ Dropped.Done → cells ≡ cells_of room
-    → dropped_cells_from 0 cells ≡ dropped_cells (dropped_says a) room old
-unfolding dropped_says
+pub dropped_done : (a : Result (Unit {0}) Refusal) (room : Room) (old : RoomCells) {v : Unit {0}} {cells : RoomCells} → a ≡ Ok v → cells ≡ cells_of room
+    → dropped_cells_from 0 cells ≡ dropped_cells (said a) room old
 dropped_done a room old q c = rw (q, c) refl
 
-pub dropped_refused : (a : Dropped) (room : Room) (old : RoomCells) {n : ℕ} → a ≡ Dropped.Refused n → dropped_cells_from n old ≡ dropped_cells (dropped_says a) room old
-unfolding dropped_says
-dropped_refused a room old q = rw q refl
+pub dropped_refused : (a : Result (Unit {0}) Refusal) (room : Room) (old : RoomCells) {r : Refusal} {n : ℕ} → a ≡ Err r → n ≡ number_of r
+    → dropped_cells_from n old ≡ dropped_cells (said a) room old
+dropped_refused a room old q n = rw (q, n) refl
 
-pub dropped_handed : {a : Dropped} {room : Room} {m : List ℕ} (l : DropOut) (old : RoomCells) {n : ℕ} {cells : RoomCells}
-    → drop_leaves a room m ≡ l → dropped_cells_from n cells ≡ dropped_cells (dropped_says a) room old → dropped_as n m cells ≡ flat_dropped l old
+pub dropped_handed : {a : Says (Unit {0})} {room : Room} {m : List ℕ} (l : DropOut) (old : RoomCells) {n : ℕ} {cells : RoomCells}
+    → drop_leaves a room m ≡ l → dropped_cells_from n cells ≡ dropped_cells a room old → dropped_as n m cells ≡ flat_dropped l old
 unfolding flat_dropped
 dropped_handed {m = m} l old q h = rw (← q) (ap (λ z. dropped_as z.number m z.room) h)
 

@@ -9,7 +9,7 @@ use Rattle.film_settings.specs.declared.Footer.{Footer}
 use Rattle.film_sets.specs.declared.Set.{Set}
 use Rattle.film_sets.specs.declared.Room.{Room}
 use Rattle.film_sets.specs.Sets.{no_set_of}
-use Rattle.film_room.specs.Room.{stored_says, StoreOut, dropped_says, DropOut}
+use Rattle.film_room.specs.Room.{StoreOut, DropOut}
 use Rattle.c_flat.specs.Flat.{settings_from_of, clip_number_of, clip_factor_of, edition_number_of}
 use Rattle.c_flat.specs.Films.{Foot, foot_after}
 
@@ -103,7 +103,7 @@ stored_as n m t list foot room = record { number = n; map = m; scratch = t; list
 -- from what store leaves, and what the cells held before
 unfoldable pub flat_stored : StoreOut → Foot → RoomCells → FlatStored
 flat_stored k foot cells =
-    let c : StoredCells = stored_cells (stored_says k.answer) k.room foot cells in
+    let c : StoredCells = stored_cells k.answer k.room foot cells in
     stored_as c.number k.map k.scratch k.list c.foot c.room
 
 -- ---- tz_room_drop
@@ -133,5 +133,5 @@ dropped_as n m room = record { number = n; map = m; room = room }
 -- from what drop leaves, and what the cells held before
 unfoldable pub flat_dropped : DropOut → RoomCells → FlatDropped
 flat_dropped l cells =
-    let c : DroppedCells = dropped_cells (dropped_says l.answer) l.room cells in
+    let c : DroppedCells = dropped_cells l.answer l.room cells in
     dropped_as c.number l.map c.room

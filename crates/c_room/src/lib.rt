@@ -4,12 +4,13 @@
 
 ghost use Rattle.std.specs.Prelude.{◌≡◌, ◌<◌, get_or};
 ghost use Rattle.std.specs.Float.{nan};
-ghost use Rattle.film_room.specs.Room.{stored_says, dropped_says};
+ghost use Rattle.base_rows.specs.Given.{said};
 ghost use Rattle.c_flat.specs.Films.{foot_from};
 ghost use Rattle.c_room.specs.Flat.{set_from_of, room_cells_from, room_from_of, set_numbers_of, room_numbers_of, factor_at, room_factors_of, cells_of, stored_cells_from, stored_cells, dropped_cells_from, dropped_cells};
 
-use film_room::{Dropped, Keep, Left, Stored};
+use base_rows::Refusal;
 use film_sets::{Room, Set};
+use film_settings::Footer;
 
 // One of the numbers.
 fn cell(numbers: &[u32; 80], i: usize) -> u32
@@ -55,17 +56,18 @@ fn set_from(numbers: &[u32; 80], factors: &[f32; 8], i: usize) -> Set
 pub fn room_from(count: u32, numbers: &[u32; 80], factors: &[f32; 8]) -> Room
     ensures { result ≡ room_from_of (room_cells_from count numbers.now factors.now) }
 {
-    let a = set_from(numbers, factors, 0);
-    let b = set_from(numbers, factors, 1);
-    let c = set_from(numbers, factors, 2);
-    let d = set_from(numbers, factors, 3);
-    let e = set_from(numbers, factors, 4);
-    let f = set_from(numbers, factors, 5);
-    let g = set_from(numbers, factors, 6);
-    let h = set_from(numbers, factors, 7);
     Room {
         count,
-        sets: [a, b, c, d, e, f, g, h],
+        sets: [
+            set_from(numbers, factors, 0),
+            set_from(numbers, factors, 1),
+            set_from(numbers, factors, 2),
+            set_from(numbers, factors, 3),
+            set_from(numbers, factors, 4),
+            set_from(numbers, factors, 5),
+            set_from(numbers, factors, 6),
+            set_from(numbers, factors, 7),
+        ],
     }
 }
 
@@ -74,8 +76,6 @@ fn set_numbers(r: Set) -> [u32; 10]
     ensures { result ≡ set_numbers_of r }
 {
     let s = r.settings;
-    let clip = s.clip;
-    let edition = s.edition;
     [
         r.film,
         r.width,
@@ -85,42 +85,34 @@ fn set_numbers(r: Set) -> [u32; 10]
         s.bins,
         s.min,
         s.max,
-        c_flat::clip_number(clip),
-        c_flat::edition_number(edition),
+        c_flat::clip_number(s.clip),
+        c_flat::edition_number(s.edition),
     ]
 }
 
 // The numbers of all eight places, ten a set.
-fn room_numbers(room: Room) -> [u32; 80]
-    ensures { result ≡ room_numbers_of room }
+fn room_numbers(room: &Room) -> [u32; 80]
+    ensures { result ≡ room_numbers_of room.now }
 {
     let mut numbers = [0; 80];
-    let mut i = 0;
-    while i < 8 {
-        let r = film_sets::at(room, i);
-        let ten = set_numbers(r);
-        let a = i * 10;
-        let e = a + 10;
-        base_lists::copy32(&ten, &mut numbers[a..e]);
-        i += 1;
+    for i in 0..8 {
+        let ten = set_numbers(film_sets::at(room, i));
+        base_lists::copy(&ten, &mut numbers[i * 10..i * 10 + 10]);
     }
     numbers
 }
 
 // The factor in place i, 0.0 where clip is off.
-fn set_factor(room: Room, i: usize) -> f32
+fn set_factor(room: &Room, i: usize) -> f32
     requires { i < 8 }
-    ensures { result ≡ factor_at room i }
+    ensures { result ≡ factor_at room.now i }
 {
-    let r = film_sets::at(room, i);
-    let s = r.settings;
-    let clip = s.clip;
-    c_flat::clip_factor(clip)
+    c_flat::clip_factor(film_sets::at(room, i).settings.clip)
 }
 
 // The factors of all eight places.
-fn room_factors(room: Room) -> [f32; 8]
-    ensures { result ≡ room_factors_of room }
+fn room_factors(room: &Room) -> [f32; 8]
+    ensures { result ≡ room_factors_of room.now }
 {
     [
         set_factor(room, 0),
@@ -135,8 +127,8 @@ fn room_factors(room: Room) -> [f32; 8]
 }
 
 // A room goes out to its cells, all of them.
-pub fn put_room(count: &mut u32, numbers: &mut [u32; 80], factors: &mut [f32; 8], room: Room)
-    ensures { room_cells_from count.new numbers.new factors.new ≡ cells_of room }
+pub fn put_room(count: &mut u32, numbers: &mut [u32; 80], factors: &mut [f32; 8], room: &Room)
+    ensures { room_cells_from count.new numbers.new factors.new ≡ cells_of room.now }
 {
     *count = room.count;
     *numbers = room_numbers(room);
@@ -151,33 +143,36 @@ pub fn put_stored(
     count: &mut u32,
     numbers: &mut [u32; 80],
     factors: &mut [f32; 8],
-    k: Keep,
+    answer: Result<Footer, Refusal>,
+    room: &Room,
 ) -> u32
-    ensures { stored_cells_from result (foot_from limit.new asked.new used.new) (room_cells_from count.new numbers.new factors.new) ≡ stored_cells (stored_says k.answer) k.room (foot_from limit.old asked.old used.old) (room_cells_from count.old numbers.old factors.old) }
+    ensures { stored_cells_from result (foot_from limit.new asked.new used.new) (room_cells_from count.new numbers.new factors.new) ≡ stored_cells (said answer) room.now (foot_from limit.old asked.old used.old) (room_cells_from count.old numbers.old factors.old) }
 {
-    let answer = k.answer;
     match answer {
-        Stored::Done(foot) => {
+        Ok(foot) => {
             c_flat::put_footer(limit, asked, used, foot);
-            let next = k.room;
-            put_room(count, numbers, factors, next);
+            put_room(count, numbers, factors, room);
             0
         }
-        Stored::Refused(n) => n,
+        Err(r) => r.number(),
     }
 }
 
 // What drop answers goes out, likewise.
-pub fn put_dropped(count: &mut u32, numbers: &mut [u32; 80], factors: &mut [f32; 8], l: Left) -> u32
-    ensures { dropped_cells_from result (room_cells_from count.new numbers.new factors.new) ≡ dropped_cells (dropped_says l.answer) l.room (room_cells_from count.old numbers.old factors.old) }
+pub fn put_dropped(
+    count: &mut u32,
+    numbers: &mut [u32; 80],
+    factors: &mut [f32; 8],
+    answer: Result<(), Refusal>,
+    room: &Room,
+) -> u32
+    ensures { dropped_cells_from result (room_cells_from count.new numbers.new factors.new) ≡ dropped_cells (said answer) room.now (room_cells_from count.old numbers.old factors.old) }
 {
-    let answer = l.answer;
     match answer {
-        Dropped::Done => {
-            let next = l.room;
-            put_room(count, numbers, factors, next);
+        Ok(()) => {
+            put_room(count, numbers, factors, room);
             0
         }
-        Dropped::Refused(n) => n,
+        Err(r) => r.number(),
     }
 }

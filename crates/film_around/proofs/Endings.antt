@@ -8,14 +8,13 @@ use native.Mathlib.Omega.{arith}
 use lib.ListN.{length}
 use Rattle.base_lists.specs.Lists.{joined, onto, filled}
 use Rattle.base_lists.proofs.Maps.{onto_whole}
-use Rattle.base_rows.specs.Refuse.{first, unless}
+use Rattle.base_rows.specs.Refuse.{first, unless, accepted, refused}
 use Rattle.base_rows.proofs.Walk.{unless_refused}
 use Rattle.film_settings.specs.declared.Settings.{Settings}
 use Rattle.film_settings.specs.declared.Footer.{Footer}
 use Rattle.film_settings.specs.Settings.{bins_of, clip_one_of}
 use Rattle.film_tiles.specs.Tiles.{footer_of, FooterAsks}
 use Rattle.tile_slide.specs.Slide.{RegionAsks}
-use Rattle.film_prepare.specs.declared.Enhanced.TheVariants as Enhanced
 use Rattle.film_prepare.specs.Prepare.{paint_leaves}
 use Rattle.film_around.specs.Around.{around_rows, region_pixels, around_row, around_film, around_foot, arounded_of, around_of, AroundPaintAsks}
 use Rattle.film_around.proofs.Table.{Known, known}
@@ -53,16 +52,16 @@ module _ (w h : ℕ) (pic : List ℕ) (side : ℕ) (s : Settings) (scratch targe
 
 module _ (w h : ℕ) (pic : List ℕ) (side : ℕ) (s : Settings) (o t : List ℕ) where
   -- a refusal, as it was worked out
-  pub around_refused : {r : ℕ} → r ≡ first (around_rows w h pic side s (length t) (length o)) → (r ≡ 0 → ⊥) → paint_leaves (Enhanced.Refused r) o t ≡ around_of w h pic side s o t
+  pub around_refused : {r : ℕ} → r ≡ first (around_rows w h pic side s (length t) (length o)) → (r ≡ 0 → ⊥) → paint_leaves (refused r) o t ≡ around_of w h pic side s o t
   unfolding around_of
   around_refused {r} e z =
-      unless_refused r (λ n. paint_leaves (Enhanced.Refused n) o t) (arounded_of w h pic side s t) z
-      ∙ ap (λ k. unless k (λ n. paint_leaves (Enhanced.Refused n) o t) (arounded_of w h pic side s t)) e
+      unless_refused r (λ n. paint_leaves (refused n) o t) (arounded_of w h pic side s t) z
+      ∙ ap (λ k. unless k (λ n. paint_leaves (refused n) o t) (arounded_of w h pic side s t)) e
 
   -- no refusal
   pub around_done : {r : ℕ} → r ≡ first (around_rows w h pic side s (length t) (length o)) → r ≡ 0 → arounded_of w h pic side s t ≡ around_of w h pic side s o t
   unfolding around_of
-  around_done {r} e z = ap (λ k. unless k (λ n. paint_leaves (Enhanced.Refused n) o t) (arounded_of w h pic side s t)) (sym z ∙ e)
+  around_done {r} e z = ap (λ k. unless k (λ n. paint_leaves (refused n) o t) (arounded_of w h pic side s t)) (sym z ∙ e)
 
   module _ {r n b : ℕ} {foot : Footer} {c : Bool} (e : r ≡ first (around_rows w h pic side s (length t) (length o))) (z : r ≡ 0)
       (p : n ≡ region_pixels w h side 0 0) (q : b ≡ bins_of s) (f : foot ≡ footer_of s.clip n b) (u : c ≡ clip_one_of s.clip) where
@@ -71,7 +70,7 @@ module _ (w h : ℕ) (pic : List ℕ) (side : ℕ) (s : Settings) (o t : List �
     footed = f ∙ ap₂ (footer_of s.clip) p q
 
     -- at the factor 1.0 the film is copied, and the scratch stays
-    pub around_one : {o' : List ℕ} → c ≡ true → o' ≡ onto o pic → paint_leaves (Enhanced.Done foot) o' t ≡ around_of w h pic side s o t
+    pub around_one : {o' : List ℕ} → c ≡ true → o' ≡ onto o pic → paint_leaves (accepted foot) o' t ≡ around_of w h pic side s o t
     unfolding arounded_of
     around_one {o'} y g =
         let one : clip_one_of s.clip ≡ true = sym u ∙ y in
@@ -81,7 +80,7 @@ module _ (w h : ℕ) (pic : List ℕ) (side : ℕ) (s : Settings) (o t : List �
 
     -- else it is painted
     pub around_well : {o' t' : List ℕ} → c ≡ false → o' ≡ joined h (around_row w h pic side s) → t' ≡ filled (λ k. 0) t (2 * bins_of s)
-        → paint_leaves (Enhanced.Done foot) o' t' ≡ around_of w h pic side s o t
+        → paint_leaves (accepted foot) o' t' ≡ around_of w h pic side s o t
     unfolding arounded_of around_film
     around_well {o'} {t'} y g v =
         let one : clip_one_of s.clip ≡ false = sym u ∙ y in

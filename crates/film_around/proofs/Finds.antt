@@ -1,20 +1,17 @@
 -- The value of a bin by the counts in the front of the scratch: by those of some bins in a row, where these are all pixels, or by all of them.
 -- Assumes nothing.
 use Prim.Native.Nat.{ℕ, zero, suc, ◌+◌, ◌-◌, ◌≤◌, ◌<◌}
-use mathlib.Core.Bool.{true, false, true≢false}
 use mathlib.Core.List.{List, [], ◌∷◌, ◌++◌}
 use mathlib.Core.Path.{◌≡◌, refl, sym, ap, ap₂, ◌∙◌, subst}
-use lib.ListN.{length, length-drop, take, drop, get_or, set, take-append-drop}
-use lib.Seq.{take-suc, take_all, length-take-le, get_or-take}
-use native.Mathlib.Numerals.{add-one}
+use lib.ListN.{length, length-drop, take, drop, get_or, take-append-drop}
+use lib.Seq.{take_all, length-take-le, get_or-take}
 use native.Mathlib.Omega.{arith}
 use borrow.Rule.Slice.PartMut.{put_mid}
 use Rattle.base_lists.specs.Lists.{total, tab, over}
 use Rattle.base_lists.proofs.Tabs.{eq_tab, tab_cong}
 use Rattle.base_lists.proofs.Sums.{total_take_drop}
 use Rattle.base_lists.proofs.Tallies.{part_tab}
-use Rattle.base_lists.proofs.Windows.{get_d_part, length_part}
-use Rattle.base_lists.proofs.Overs.{over_nil, over_step}
+use Rattle.base_lists.proofs.Windows.{length_part}
 use Rattle.base_lists.proofs.Fills.{length_over}
 use Rattle.base_lists.proofs.Maps.{over_part, onto_whole}
 use Rattle.base_lists.proofs.Parts.{over_here, over_later}
@@ -22,29 +19,11 @@ use Rattle.tile_clip.specs.Spans.{framed}
 use Rattle.tile_map.specs.Tile.{clipped_by, divided_by, mapped_of}
 use Rattle.tile_map.proofs.Tiles.{length_clipped_by}
 use Rattle.film_settings.specs.declared.Settings.{Settings}
-use Rattle.tile_value.specs.declared.Found.{Found}
+use Rattle.std.proofs.Common.{Option, Some, None}
+use Rattle.std.specs.Option.{IfSome}
 use Rattle.tile_value.specs.Value.{ValueAsks, ValueGiven, SpanValueAsks, SpanValueGiven}
-use Rattle.film_around.specs.Around.{FoundAsks, FoundIn, found_as}
+use Rattle.film_around.specs.Around.{FoundAsks, FoundIn}
 use Rattle.film_around.proofs.Twins.{front_over, twin_length, twin_part_lem, twin_front, twin_behind, twin_size}
-
--- ---- the turns of `twin_part`
-
-pub part_first : (t : List ℕ) (half low : ℕ) → t ≡ over t half (take 0 (drop low t))
-part_first t half low = sym (over_nil t half)
-
-pub part_next : (t₀ : List ℕ) (half low n k : ℕ) {t : List ℕ} → t ≡ over t₀ half (take k (drop low t₀)) → low + n ≤ half → half + half ≤ length t₀ → k < n
-    → set t (half + k) (get_or t (low + k) 0) ≡ over t₀ half (take (k + 1) (drop low t₀))
-part_next t₀ half low n k {t} e r l h =
-    let m : length (take k (drop low t₀)) ≡ k = length_part t₀ k low (omega arith) in
-    let v : get_or t (low + k) 0 ≡ get_or t₀ (low + k) 0 = ap (λ z. get_or z (low + k) 0) e ∙ front_over t₀ half (take k (drop low t₀)) (low + k) (omega arith) (omega arith) in
-    let d : get_or (drop low t₀) k 0 ≡ get_or t₀ (low + k) 0 = sym (get_or-take (k + 1) (drop low t₀) k 0 (omega arith)) ∙ get_d_part t₀ (k + 1) low (omega arith) in
-    let more : take (k + 1) (drop low t₀) ≡ take k (drop low t₀) ++ (get_or (drop low t₀) k 0 ∷ []) = rw add-one (take-suc (drop low t₀) k 0 (omega (arith, length-drop low t₀))) in
-    over_step t₀ (take k (drop low t₀)) half (get_or t (low + k) 0) e (omega (arith, m)) (omega arith)
-    ∙ ap (λ x. over t₀ half (take k (drop low t₀) ++ (x ∷ []))) (v ∙ sym d)
-    ∙ ap (over t₀ half) (sym more)
-
-pub part_end : (t₀ : List ℕ) (half low n k : ℕ) {t : List ℕ} → t ≡ over t₀ half (take k (drop low t₀)) → k ≤ n → n ≤ k → t ≡ over t₀ half (take n (drop low t₀))
-part_end t₀ half low n k e p q = let same : k ≡ n = omega arith in e ∙ ap (λ j. over t₀ half (take j (drop low t₀))) same
 
 -- ---- counts that are all in some bins in a row
 
@@ -70,12 +49,17 @@ framed_by b low m cs l r e =
     ∙ ap (λ y. take m (drop low cs) ++ y)
     (empty_is (drop m (drop low cs)) (b - (low + length (take m (drop low cs)))) (omega (arith, length-drop m (drop low cs), length-drop low cs, long)) (omega (arith, one, two))))
 
+-- a value that equals x where it is known equals what x does
+same_value : (f : Option ℕ) {x y : ℕ} → x ≡ y → IfSome f (λ v. v ≡ x) → IfSome f (λ v. v ≡ y)
+same_value None e h = tt
+same_value (Some v) e h = h ∙ e
+
 -- ---- the steps of `found_in`
 
 module _ {s : Settings} {n k b : ℕ} {t : List ℕ} (asks : FoundAsks s n k b t) where
   -- nothing was looked at
-  pub not_found : FoundIn s n k b t t (record { known = false; value = 0 })
-  not_found = record { front = λ i l. refl; behind = refl; size = refl; value = λ e. absurd (true≢false (sym e)) }
+  pub not_found : FoundIn s n k b t t None
+  not_found = record { front = λ i l. refl; behind = refl; size = refl; value = tt }
 
   front_long : length (take b t) ≡ b
   front_long = length-take-le b t (omega (arith, asks.room))
@@ -137,7 +121,7 @@ module _ {s : Settings} {n k b : ℕ} {t : List ℕ} (asks : FoundAsks s n k b t
               last = omega (arith, ap length copy_part, part_long);
             }
 
-        pub span_found : {ds : List ℕ} {f : Found} → SpanValueGiven s.edition s.clip n s.min s.max k b low (take (b + (end - low) - b) (drop b t')) ds f
+        pub span_found : {ds : List ℕ} {f : Option ℕ} → SpanValueGiven s.edition s.clip n s.min s.max k b low (take (b + (end - low) - b) (drop b t')) ds f
             → FoundIn s n k b t (put_mid b (b + (end - low) - b) t' ds) f
         span_found {ds} {f} given =
             let m : length ds ≡ end - low = given.size ∙ ap length copy_part ∙ part_long in
@@ -151,7 +135,7 @@ module _ {s : Settings} {n k b : ℕ} {t : List ℕ} (asks : FoundAsks s n k b t
                   ap (drop (b + b)) written ∙ over_later t' ds b (b + b) (omega (arith, m)) (omega (arith, copy_long, asks.room))
                   ∙ ap (drop (b + b)) e ∙ over_later t (take (end - low) (drop low t)) b (b + b) (omega (arith, part_long)) (omega (arith, asks.room));
               size = ap length written ∙ length_over t' b ds (omega (arith, copy_long, asks.room, m)) ∙ copy_long;
-              value = λ known. given.value known ∙ ap (λ cs. mapped_of s.min s.max (divided_by s.edition s.clip n cs) (clipped_by s.edition s.clip n cs) k) (sym copy_framed);
+              value = same_value f (ap (λ cs. mapped_of s.min s.max (divided_by s.edition s.clip n cs) (clipped_by s.edition s.clip n cs) k) (sym copy_framed)) given.value;
             }
 
   -- ---- the steps of `found_whole`
@@ -163,7 +147,7 @@ module _ {s : Settings} {n k b : ℕ} {t : List ℕ} (asks : FoundAsks s n k b t
     pub whole_asks : ValueAsks s.clip n s.min s.max k (take (b + b - b) (drop b t'))
     whole_asks = subst (λ cs. ValueAsks s.clip n s.min s.max k cs) (sym (twin_part_lem t b asks.room e)) asks.asks
 
-    pub whole_found : {ds : List ℕ} {v : ℕ} → ValueGiven s.edition s.clip n s.min s.max k (take (b + b - b) (drop b t')) ds v → FoundIn s n k b t (put_mid b (b + b - b) t' ds) (found_as v)
+    pub whole_found : {ds : List ℕ} {v : ℕ} → ValueGiven s.edition s.clip n s.min s.max k (take (b + b - b) (drop b t')) ds v → FoundIn s n k b t (put_mid b (b + b - b) t' ds) (Some v)
     whole_found {ds} {v} given =
         let same = twin_part_lem t b asks.room e in
         let m : length ds ≡ b = ap length given.counts ∙ length_clipped_by s.edition s.clip n (take (b + b - b) (drop b t')) ∙ ap length same ∙ front_long in
@@ -171,5 +155,5 @@ module _ {s : Settings} {n k b : ℕ} {t : List ℕ} (asks : FoundAsks s n k b t
           front = twin_front t b asks.room e ds m;
           behind = twin_behind t b asks.room e ds m;
           size = twin_size t b asks.room e ds m;
-          value = λ known. given.value ∙ ap (λ cs. mapped_of s.min s.max (divided_by s.edition s.clip n cs) (clipped_by s.edition s.clip n cs) k) same;
+          value = given.value ∙ ap (λ cs. mapped_of s.min s.max (divided_by s.edition s.clip n cs) (clipped_by s.edition s.clip n cs) k) same;
         }

@@ -1,6 +1,6 @@
 -- A pixel: its bin, and its region's counts clipped and summed.
 -- Assumes nothing.
-use Prim.Native.Nat.{ℕ, ◌+◌, ◌-◌, ◌*◌, ◌≤◌, ◌<◌}
+use Prim.Native.Nat.{ℕ, ◌+◌, ◌*◌, ◌≤◌, ◌<◌}
 use mathlib.Core.Bool.{true}
 use mathlib.Core.List.{List, map}
 use mathlib.Core.Path.{◌≡◌, refl, sym, ap, ap₂, ◌∙◌, subst}
@@ -26,7 +26,8 @@ use Rattle.film_settings.specs.declared.Settings.{Settings}
 use Rattle.film_tiles.proofs.Films.{clip_holds}
 use Rattle.tile_slide.specs.Slide.{region_rect, RegionAsks}
 use Rattle.tile_slide.proofs.Regions.{region_inside}
-use Rattle.tile_value.specs.declared.Found.{Found}
+use Rattle.std.proofs.Common.{Option, Some}
+use Rattle.std.specs.Option.{IfSome}
 use Rattle.tile_value.specs.Value.{ValueAsks, ValueGiven}
 use Rattle.film_around.specs.Around.{region_pixels, region_mapping, around_grey, AroundReady, AroundBinAsks, AroundPixelAsks, AroundGreyed, RegionHeld, SpanAsks, FoundAsks, FoundIn, AroundStartAsks}
 
@@ -199,13 +200,14 @@ module _ {w h : ℕ} {pic : List ℕ} {side : ℕ} {s : Settings} {x y b factor 
     pub found_asks : FoundAsks s n k b t
     found_asks = record { asks = counts_asks front_counts; room = asks.room }
 
-    module _ {t' : List ℕ} {f : Found} (found : FoundIn s n k b t t' f) where
+    module _ {t' : List ℕ} {f : Option ℕ} (found : FoundIn s n k b t t' f) where
       pub found_held : RegionHeld w h pic side s x y b t t'
       found_held = record { front = λ i l. found.front i l ∙ asks.front i l; behind = found.behind; size = found.size }
 
-      pub found_grey : f.known ≡ true → AroundGreyed w h pic side s x y f.value
-      found_grey e =
-          let given : ValueGiven s.edition s.clip n s.min s.max k (take b t) (clipped_by s.edition s.clip n (take b t)) f.value = record { counts = refl; value = found.value e } in
+      pub found_grey : {v : ℕ} → f ≡ Some v → AroundGreyed w h pic side s x y v
+      found_grey {v} e =
+          let known : IfSome (Some v) (λ u. u ≡ mapped_of s.min s.max (divided_by s.edition s.clip n (take b t)) (clipped_by s.edition s.clip n (take b t)) k) = subst (λ g. IfSome g (λ u. u ≡ mapped_of s.min s.max (divided_by s.edition s.clip n (take b t)) (clipped_by s.edition s.clip n (take b t)) k)) e found.value in
+          let given : ValueGiven s.edition s.clip n s.min s.max k (take b t) (clipped_by s.edition s.clip n (take b t)) v = record { counts = refl; value = known } in
           let is = counts_value front_counts given in
           record { grey = is ∙ own_grey; most = omega (arith, is, mapped_most) }
 

@@ -1,15 +1,14 @@
--- `twin`: the first entries stand twice, and what is written over the second of them leaves the first and what lies behind.
+-- Counts that are copied behind those in front: the first entries stand twice, and what is written over the second of them leaves the first and what lies behind.
 -- Assumes nothing.
 use Prim.Native.Nat.{ℕ, ◌+◌, ◌-◌, ◌≤◌, ◌<◌}
-use mathlib.Core.List.{List, [], ◌∷◌, ◌++◌}
+use mathlib.Core.List.{List, ◌++◌, append_assoc}
 use mathlib.Core.Path.{◌≡◌, sym, ap, ◌∙◌}
-use lib.ListN.{length, take, drop, get_or, set}
-use lib.Seq.{take-suc, take_at, drop_at, length-take-le, get_or-take, drop-drop}
-use native.Mathlib.Numerals.{add-one}
+use lib.ListN.{length, take, drop, get_or, length-drop}
+use lib.Seq.{take_at, drop_at, length-take-le, get_or-take, drop-drop}
 use native.Mathlib.Omega.{arith}
 use borrow.Rule.Slice.PartMut.{put_mid}
+use Rattle.std.specs.List.{copy_within}
 use Rattle.base_lists.specs.Lists.{over}
-use Rattle.base_lists.proofs.Overs.{over_nil, over_step}
 use Rattle.base_lists.proofs.Fills.{length_over}
 use Rattle.base_lists.proofs.Maps.{over_part, onto_whole}
 
@@ -36,22 +35,16 @@ behind_over d at ys n e l =
     ∙ drop_at ys (drop (at + length ys) d) n e
     ∙ ap (λ m. drop (at + m) d) e
 
--- ---- the turns of `twin`
+-- ---- what `copy_within` leaves
 
-pub twin_first : (t : List ℕ) (n : ℕ) → t ≡ over t n (take 0 t)
-twin_first t n = sym (over_nil t n)
+pub within_over : (t : List ℕ) (low end at : ℕ) → low ≤ end → end ≤ length t → copy_within t low end at ≡ over t at (take (end - low) (drop low t))
+unfolding over
+within_over t low end at l h =
+    append_assoc (take at t) (take (end - low) (drop low t)) _
+    ∙ ap (λ n. take at t ++ (take (end - low) (drop low t) ++ drop (at + n) t)) (sym (length-take-le (end - low) (drop low t) (omega (arith, length-drop low t))))
 
-pub twin_next : (t₀ : List ℕ) (n k : ℕ) {t : List ℕ} → t ≡ over t₀ n (take k t₀) → n + n ≤ length t₀ → k < n → set t (n + k) (get_or t k 0) ≡ over t₀ n (take (k + 1) t₀)
-twin_next t₀ n k {t} e l h =
-    let m : length (take k t₀) ≡ k = length-take-le k t₀ (omega arith) in
-    let v : get_or t k 0 ≡ get_or t₀ k 0 = ap (λ z. get_or z k 0) e ∙ front_over t₀ n (take k t₀) k (omega arith) h in
-    let more : take (k + 1) t₀ ≡ take k t₀ ++ (get_or t₀ k 0 ∷ []) = rw add-one (take-suc t₀ k 0 (omega arith)) in
-    over_step t₀ (take k t₀) n (get_or t k 0) e (omega (arith, m)) (omega arith)
-    ∙ ap (λ x. over t₀ n (take k t₀ ++ (x ∷ []))) v
-    ∙ ap (over t₀ n) (sym more)
-
-pub twin_end : (t₀ : List ℕ) (n k : ℕ) {t : List ℕ} → t ≡ over t₀ n (take k t₀) → k ≤ n → n ≤ k → t ≡ over t₀ n (take n t₀)
-twin_end t₀ n k {t} e p q = let same : k ≡ n = omega arith in e ∙ ap (λ j. over t₀ n (take j t₀)) same
+pub within_twin : (t : List ℕ) (n : ℕ) → n + n ≤ length t → copy_within t 0 n n ≡ over t n (take n t)
+within_twin t n l = let same : n - 0 ≡ n = omega arith in within_over t 0 n n (omega arith) (omega arith) ∙ ap (λ j. over t n (take j t)) same
 
 -- ---- the second of them, lent
 

@@ -1,14 +1,13 @@
 -- Document 02, order 13: a window around each pixel, "in which every pixel has its own region".
 -- w and h are the film's width and height, pic its pixels, side the region's, o the target and t the scratch as lent.
 -- Assumes nothing.
-use Rattle.std.specs.Prelude.{ℕ, ◌+◌, ◌-◌, ◌*◌, ◌%◌, ◌≤◌, ◌<◌, true, false, cond, List, [], ◌∷◌, ◌++◌, map, ◌≡◌, ltb, eqb, length, take, drop, get_or}
+use Rattle.std.specs.Prelude.{ℕ, ◌+◌, ◌-◌, ◌*◌, ◌%◌, ◌≤◌, ◌<◌, true, false, cond, List, [], ◌∷◌, ◌++◌, map, ◌≡◌, ltb, eqb, length, take, drop, get_or, Option, IfSome}
 use Rattle.base_lists.specs.Lists.{tab, joined, times, all}
-use Rattle.base_rows.specs.Refuse.{Row, row, scratch_row, target_row, first, unless}
+use Rattle.base_rows.specs.Refuse.{Row, row, scratch_row, target_row, first, unless, accepted, refused}
 use Rattle.base_range.specs.Scan.{within}
 use Rattle.tile_bin.specs.Binning.{bin_of, factor_of}
 use Rattle.tile_count.specs.Tally.{greys_of, Scale}
 use Rattle.tile_map.specs.Tile.{clipped_by, divided_by, mapped_of, tile_mapping}
-use Rattle.tile_value.specs.declared.Found.{Found}
 use Rattle.tile_value.specs.Value.{ValueAsks}
 use Rattle.pixel_render.specs.Render.{rect_of}
 use Rattle.film_settings.specs.declared.Settings.{Settings}
@@ -16,7 +15,6 @@ use Rattle.film_settings.specs.declared.Footer.{Footer}
 use Rattle.film_settings.specs.declared.Window.{Window}
 use Rattle.film_settings.specs.Settings.{bins_of, clip_bad_of, clip_one_of, outside_row, size_rows, grey_rows}
 use Rattle.film_tiles.specs.Tiles.{footer_of}
-use Rattle.film_prepare.specs.declared.Enhanced.TheVariants as Enhanced
 use Rattle.film_prepare.specs.Prepare.{scratch_left, PaintOut, paint_leaves}
 use Rattle.tile_slide.specs.Slide.{first_of, end_of, region_rect, RegionAsks, SlideAsks}
 
@@ -66,14 +64,14 @@ around_foot w h side s = footer_of s.clip (region_pixels w h side 0 0) (bins_of 
 unfoldable pub arounded_of : (w h : ℕ) (pic : List ℕ) (side : ℕ) (s : Settings) (t : List ℕ) → PaintOut
 arounded_of w h pic side s t =
     paint_leaves
-    (Enhanced.Done (around_foot w h side s))
+    (accepted (around_foot w h side s))
     (cond (clip_one_of s.clip) pic (around_film w h pic side s))
     (scratch_left s t (2 * bins_of s))
 
 -- a refusal leaves all memory as it was
 unfoldable pub around_of : (w h : ℕ) (pic : List ℕ) (side : ℕ) (s : Settings) (o t : List ℕ) → PaintOut
 around_of w h pic side s o t =
-    unless (first (around_rows w h pic side s (length t) (length o))) (λ n. paint_leaves (Enhanced.Refused n) o t) (arounded_of w h pic side s t)
+    unless (first (around_rows w h pic side s (length t) (length o))) (λ n. paint_leaves (refused n) o t) (arounded_of w h pic side s t)
 
 -- ---- what the functions ask and leave
 
@@ -167,15 +165,11 @@ pub record FoundAsks (s : Settings) (n k b : ℕ) (t : List ℕ) : Type 0 where
   pub room : b + b ≤ length t
 
 -- and leaves: the counts, what lies behind twice the bins, and the value, if it is known
-pub record FoundIn (s : Settings) (n k b : ℕ) (t₀ t : List ℕ) (f : Found) : Type 0 where
+pub record FoundIn (s : Settings) (n k b : ℕ) (t₀ t : List ℕ) (f : Option ℕ) : Type 0 where
   pub front : (i : ℕ) → i < b → get_or t i 0 ≡ get_or t₀ i 0
   pub behind : drop (b + b) t ≡ drop (b + b) t₀
   pub size : length t ≡ length t₀
-  pub value : f.known ≡ true → f.value ≡ mapped_of s.min s.max (divided_by s.edition s.clip n (take b t₀)) (clipped_by s.edition s.clip n (take b t₀)) k
-
--- a value that is known
-abbrev pub found_as : ℕ → Found
-found_as r = record { known = true; value = r }
+  pub value : IfSome f (λ v. v ≡ mapped_of s.min s.max (divided_by s.edition s.clip n (take b t₀)) (clipped_by s.edition s.clip n (take b t₀)) k)
 
 -- what the first region of a row asks
 pub record AroundStartAsks (w h : ℕ) (pic : List ℕ) (side : ℕ) (s : Settings) (y b scratch : ℕ) : Type 0 where

@@ -4,33 +4,30 @@
 ghost use Rattle.std.specs.Prelude.{◌≡◌, ◌+◌, ◌-◌, ◌*◌, ◌%◌, ◌≤◌, ◌<◌, min, length, take, drop, get_or};
 ghost use Rattle.base_lists.specs.Lists.{joined, filled, over};
 ghost use Rattle.base_rows.specs.Refuse.{first};
+ghost use Rattle.base_rows.specs.Given.{given, said};
 ghost use Rattle.tile_bin.specs.Binning.{bin_of};
 ghost use Rattle.film_settings.specs.Settings.{bins_of};
 ghost use Rattle.tile_slide.specs.Slide.{RegionAsks, Slid};
 ghost use Rattle.film_prepare.specs.Prepare.{paint_leaves};
-ghost use Rattle.film_around.specs.Around.{region_rows, around_work_rows, around_rows, region_pixels, around_row, around_of, AroundBinAsks, AroundPixelAsks, AroundGreyed, RegionHeld, SpanAsks, PartAround, KeptPart, KeepAsks, front_of, SlideInAsks, FoundAsks, FoundIn, found_as, AroundStartAsks, PaintPixelsAsks, AroundRowAsks, AroundPaintAsks, BehindTwiceBins};
+ghost use Rattle.film_around.specs.Around.{region_rows, around_work_rows, around_rows, region_pixels, around_row, around_of, AroundBinAsks, AroundPixelAsks, AroundGreyed, RegionHeld, SpanAsks, PartAround, KeptPart, KeepAsks, front_of, SlideInAsks, FoundAsks, FoundIn, AroundStartAsks, PaintPixelsAsks, AroundRowAsks, AroundPaintAsks, BehindTwiceBins};
 
-use film_prepare::Enhanced;
-use film_settings::{Settings, Window};
-use tile_value::Found;
+use base_rows::Refusal;
+use film_settings::{Footer, Settings, Window};
+use tile_count::Binning;
 
-// Refusal 39, where it applies, else 0.
-fn region_refusal(side: u32) -> u32
-    ensures { result ≡ first (region_rows side) }
+// Refusal 39, where it applies.
+#[tactic(auto, unfolding(base_rows::specs::Refuse::first, crate::specs::Around::region_rows))]
+fn region_refusal(side: u32) -> Result<(), Refusal>
+    ensures { given result ≡ first (region_rows side) }
 {
-    if side % 2 == 0 {
-        return 39;
+    if side % 2 == 0 || side < 3 || 63 < side {
+        return Err(Refusal::RegionSide);
     }
-    if side < 3 {
-        return 39;
-    }
-    if 63 < side {
-        return 39;
-    }
-    0
+    Ok(())
 }
 
-// The first of the refusals 12, 17 and 13 that applies, else 0.
+// The first of the refusals 12, 17 and 13 that applies.
+#[tactic(auto, unfolding(base_rows::specs::Refuse::first, crate::specs::Around::around_work_rows))]
 fn work_refusal(
     width: u32,
     height: u32,
@@ -38,23 +35,23 @@ fn work_refusal(
     s: Settings,
     scratch: usize,
     target: usize,
-) -> u32
+) -> Result<(), Refusal>
     requires { (width ≤ 4096) × (height ≤ 4096) }
-    ensures { result ≡ first (around_work_rows width height picture.now s scratch target) }
+    ensures { given result ≡ first (around_work_rows width height picture.now s scratch target) }
 {
     if scratch < 2 * (film_settings::bins(s) as usize) {
-        return 12;
+        return Err(Refusal::ScratchShort);
     }
     if target != (width as usize) * (height as usize) {
-        return 17;
+        return Err(Refusal::OutputLength);
     }
     if !base_range::all_within(picture, s.min, s.max) {
-        return 13;
+        return Err(Refusal::PixelOutside);
     }
-    0
+    Ok(())
 }
 
-// The first of the refusals 1, 2, 39, 7 to 9, 31, 10, 12, 17 and 13 that applies, else 0.
+// The first of the refusals 1, 2, 39, 7 to 9, 31, 10, 12, 17 and 13 that applies.
 fn refusal(
     width: u32,
     height: u32,
@@ -63,42 +60,21 @@ fn refusal(
     s: Settings,
     scratch: usize,
     target: usize,
-) -> u32
-    ensures { result ≡ first (around_rows width height picture.now side s scratch target) }
+) -> Result<(), Refusal>
+    ensures { given result ≡ first (around_rows width height picture.now side s scratch target) }
 {
-    let sizes = film_settings::size_refusal(width, height, picture.len());
-    if sizes != 0 {
-        return sizes;
-    }
-    let region = region_refusal(side);
-    if region != 0 {
-        return region;
-    }
-    let greys = film_settings::grey_refusal(s);
-    if greys != 0 {
-        return greys;
-    }
+    film_settings::size_refusal(width, height, picture.len())?;
+    region_refusal(side)?;
+    film_settings::grey_refusal(s)?;
     work_refusal(width, height, picture, s, scratch, target)
 }
 
-// Copies the first n entries over the n that follow: the counts are clipped there, and stay whole in front.
-fn twin(t: &mut [u32], n: usize)
-    requires { n + n ≤ length t.old }
-    ensures { t.new ≡ over t.old n (take n t.old) }
-{
-    let mut k = 0;
-    while k < n {
-        t[n + k] = t[k];
-        k += 1;
-    }
-}
-
 // The bin of the grey at `at`.
-fn bin_at(picture: &[u16], s: Settings, at: usize, bins: u32, factor: u32) -> usize
-    requires { AroundBinAsks picture.now s at bins factor }
-    ensures { result ≡ bin_of s.min s.max bins (get_or picture.now at 0) }
+fn bin_at(picture: &[u16], s: Settings, at: usize, by: Binning) -> usize
+    requires { AroundBinAsks picture.now s at by.bins by.factor }
+    ensures { result ≡ bin_of s.min s.max by.bins (get_or picture.now at 0) }
 {
-    tile_bin::bin_by(picture[at] as u32, s.min, factor) as usize
+    tile_bin::bin_by(picture[at] as u32, s.min, by.factor) as usize
 }
 
 // The pixels of the region around the pixel in column x and row y.
@@ -129,37 +105,31 @@ struct Span {
 fn row_greys(row: &[u16], was: Greys) -> Greys {
     let mut low = was.low;
     let mut high = was.high;
-    let mut k = 0;
-    while k < row.len() {
-        let v = row[k];
-        low = base_range::least(low, v);
-        high = base_range::greatest(high, v);
-        k += 1;
+    for grey in row {
+        low = low.min(*grey);
+        high = high.max(*grey);
     }
     Greys { low, high }
 }
 
 // The bin of a grey, and bin 0 for one that is none of the range.
-fn bin_near(grey: u16, min: u32, factor: u32) -> usize {
+fn bin_near(grey: u16, by: Binning) -> usize {
     let v = grey as u32;
-    if v < min {
+    if v < by.min || 4095 < v {
         return 0;
     }
-    if 4095 < v {
-        return 0;
-    }
-    tile_bin::bin_by(v, min, factor) as usize
+    tile_bin::bin_by(v, by.min, by.factor) as usize
 }
 
 // The bins of some greys.
-fn span_of(greys: &[u16], min: u32, factor: u32) -> Span {
+fn span_of(greys: &[u16], by: Binning) -> Span {
     let none = Greys {
         low: 65535,
         high: 0,
     };
     let found = row_greys(greys, none);
-    let low = bin_near(found.low, min, factor);
-    let top = bin_near(found.high, min, factor);
+    let low = bin_near(found.low, by);
+    let top = bin_near(found.high, by);
     Span { low, top }
 }
 
@@ -213,10 +183,9 @@ fn keep(
     width: u32,
     height: u32,
     side: u32,
-    min: u32,
     x: u32,
     y: u32,
-    factor: u32,
+    by: Binning,
     part: &mut [u16],
 ) -> Kept
     requires { SpanAsks (length picture.now) width height side x y × (8192 ≤ length part.old) × (x % 64 ≡ 0) }
@@ -225,7 +194,7 @@ fn keep(
     let win = part_of(width, height, side, x, y);
     let n = (win.height as usize) * (win.width as usize);
     film_window::copy_window(picture, width as usize, win, &mut part[..n]);
-    let span = span_of(&part[..n], min, factor);
+    let span = span_of(&part[..n], by);
     Kept { win, span }
 }
 
@@ -235,10 +204,9 @@ fn keep_at(
     width: u32,
     height: u32,
     side: u32,
-    min: u32,
     x: u32,
     y: u32,
-    factor: u32,
+    by: Binning,
     was: Kept,
     part: &mut [u16],
 ) -> Kept
@@ -248,7 +216,7 @@ fn keep_at(
     if 0 < x % 64 {
         return was;
     }
-    keep(picture, width, height, side, min, x, y, factor, part)
+    keep(picture, width, height, side, x, y, by, part)
 }
 
 // Moves the counts of the region around the pixel in column x and row y to the right, by the pixels of the part alone.
@@ -259,12 +227,11 @@ fn slide_in(
     s: Settings,
     x: u32,
     y: u32,
-    bins: u32,
-    factor: u32,
+    by: Binning,
     scratch: &mut [u32],
 )
-    requires { SlideInAsks part.now win side s x y bins factor scratch.old }
-    ensures { Slid (front_of win part.now) win.width win.height side (x - win.left) (y - win.top) s.min s.max bins scratch.old scratch.new }
+    requires { SlideInAsks part.now win side s x y by.bins by.factor scratch.old × (by.min ≡ s.min) × (by.max ≡ s.max) }
+    ensures { Slid (front_of win part.now) win.width win.height side (x - win.left) (y - win.top) s.min s.max by.bins scratch.old scratch.new }
 {
     let n = (win.height as usize) * (win.width as usize);
     tile_slide::slide(
@@ -274,88 +241,66 @@ fn slide_in(
         side,
         x - win.left,
         y - win.top,
-        s.min,
-        s.max,
-        bins,
-        factor,
+        by,
         scratch,
     );
 }
 
-// Copies n entries from bin `low` on to where the second half begins.
-fn twin_part(t: &mut [u32], half: usize, low: usize, n: usize)
-    requires { (low + n ≤ half) × (half + half ≤ length t.old) }
-    ensures { t.new ≡ over t.old half (take n (drop low t.old)) }
-{
-    let mut k = 0;
-    while k < n {
-        t[half + k] = t[low + k];
-        k += 1;
-    }
-}
-
 // The mapped value of bin k by the counts in the front of the scratch, of which those of the span are looked at alone. It is known where they
 // are all pixels, and no bin beside them fills up.
-fn found_in(s: Settings, pixels: u32, k: usize, bins: u32, span: Span, scratch: &mut [u32]) -> Found
+fn found_in(
+    s: Settings,
+    pixels: u32,
+    k: usize,
+    bins: u32,
+    span: Span,
+    scratch: &mut [u32],
+) -> Option<u32>
     requires { FoundAsks s pixels k bins scratch.old }
     ensures { FoundIn s pixels k bins scratch.old scratch.new result }
 {
     let half = bins as usize;
     let low = span.low;
     let top = span.top;
-    let unknown = Found {
-        known: false,
-        value: 0,
-    };
-    if k < low {
-        return unknown;
-    }
-    if top < k {
-        return unknown;
-    }
-    if half <= top {
-        return unknown;
+    if k < low || top < k || half <= top {
+        return None;
     }
     let end = top + 1;
     let n = end - low;
     if tile_value::through(&scratch[low..end], n - 1) != pixels as u64 {
-        return unknown;
+        return None;
     }
-    twin_part(scratch, half, low, n);
-    let last = half + n;
-    let clip = s.clip;
-    let edition = s.edition;
+    // they are clipped behind the first half, and stay whole in front
+    scratch.copy_within(low..end, half);
     tile_value::value_span(
-        clip,
+        s.clip,
         pixels,
         s.min,
         s.max,
         k,
         half,
         low,
-        &mut scratch[half..last],
-        edition,
+        &mut scratch[half..half + n],
+        s.edition,
     )
 }
 
 // The same by all counts.
 fn found_whole(s: Settings, pixels: u32, k: usize, bins: u32, scratch: &mut [u32]) -> u32
     requires { FoundAsks s pixels k bins scratch.old }
-    ensures { FoundIn s pixels k bins scratch.old scratch.new (found_as result) }
+    ensures { FoundIn s pixels k bins scratch.old scratch.new (Some result) }
 {
     let each = bins as usize;
     let end = each + each;
-    let clip = s.clip;
-    let edition = s.edition;
-    twin(scratch, each);
+    scratch.copy_within(..each, each);
     tile_value::value(
-        clip,
+        s.clip,
         pixels,
         s.min,
         s.max,
         k,
         &mut scratch[each..end],
-        edition,
+        s.edition,
     )
 }
 
@@ -368,22 +313,20 @@ fn grey(
     s: Settings,
     x: u32,
     y: u32,
-    bins: u32,
-    factor: u32,
+    by: Binning,
     span: Span,
     scratch: &mut [u32],
 ) -> u32
-    requires { AroundPixelAsks width height picture.now side s x y bins factor scratch.old }
-    ensures { RegionHeld width height picture.now side s x y bins scratch.old scratch.new × AroundGreyed width height picture.now side s x y result }
+    requires { AroundPixelAsks width height picture.now side s x y by.bins by.factor scratch.old }
+    ensures { RegionHeld width height picture.now side s x y by.bins scratch.old scratch.new × AroundGreyed width height picture.now side s x y result }
 {
     let at = (y as usize) * (width as usize) + (x as usize);
-    let k = bin_at(picture, s, at, bins, factor);
+    let k = bin_at(picture, s, at, by);
     let pixels = area(width, height, side, x, y);
-    let found = found_in(s, pixels, k, bins, span, scratch);
-    if found.known {
-        return found.value;
+    match found_in(s, pixels, k, by.bins, span, scratch) {
+        Some(value) => value,
+        None => found_whole(s, pixels, k, by.bins, scratch),
     }
-    found_whole(s, pixels, k, bins, scratch)
 }
 
 // The same, and the counts moved on to the region around the pixel to the right.
@@ -395,20 +338,17 @@ fn pixel(
     s: Settings,
     x: u32,
     y: u32,
-    bins: u32,
-    factor: u32,
+    by: Binning,
     kept: Kept,
     part: &[u16],
     scratch: &mut [u32],
 ) -> u32
-    requires { AroundPixelAsks width height picture.now side s x y bins factor scratch.old × KeptPart width height picture.now side x y kept.win part.now }
-    ensures { RegionHeld width height picture.now side s (x + 1) y bins scratch.old scratch.new × AroundGreyed width height picture.now side s x y result }
+    requires { AroundPixelAsks width height picture.now side s x y by.bins by.factor scratch.old × KeptPart width height picture.now side x y kept.win part.now × (by.min ≡ s.min) × (by.max ≡ s.max) }
+    ensures { RegionHeld width height picture.now side s (x + 1) y by.bins scratch.old scratch.new × AroundGreyed width height picture.now side s x y result }
 {
     let span = kept.span;
-    let shown = grey(
-        picture, width, height, side, s, x, y, bins, factor, span, scratch,
-    );
-    slide_in(part, kept.win, side, s, x, y, bins, factor, scratch);
+    let shown = grey(picture, width, height, side, s, x, y, by, span, scratch);
+    slide_in(part, kept.win, side, s, x, y, by, scratch);
     shown
 }
 
@@ -438,27 +378,21 @@ fn paint_pixels(
     side: u32,
     s: Settings,
     y: u32,
-    bins: u32,
-    factor: u32,
+    by: Binning,
     part: &mut [u16],
     out: &mut [u16],
     scratch: &mut [u32],
 )
-    requires { PaintPixelsAsks width height picture.now side s y bins factor (length part.old) (length out.old) scratch.old }
+    requires { PaintPixelsAsks width height picture.now side s y by.bins by.factor (length part.old) (length out.old) scratch.old × (by.min ≡ s.min) × (by.max ≡ s.max) }
     ensures { BehindTwiceBins s scratch.old scratch.new × (out.new ≡ around_row width height picture.now side s y) }
 {
     let mut kept = nothing_kept();
-    let mut x = 0;
-    while x < width {
-        kept = keep_at(
-            picture, width, height, side, s.min, x, y, factor, kept, part,
-        );
+    for x in 0..width {
+        kept = keep_at(picture, width, height, side, x, y, by, kept, part);
         let shown = pixel(
-            picture, width, height, side, s, x, y, bins, factor, kept, part, scratch,
+            picture, width, height, side, s, x, y, by, kept, part, scratch,
         );
-        let i = x as usize;
-        out[i] = shown as u16;
-        x += 1;
+        out[x as usize] = shown as u16;
     }
 }
 
@@ -477,11 +411,16 @@ fn paint_row(
     ensures { BehindTwiceBins s scratch.old scratch.new × (out.new ≡ around_row width height picture.now side s y) }
 {
     let bins = film_settings::bins(s);
-    let factor = tile_bin::bin_factor(s.min, s.max, bins);
+    let by = Binning {
+        min: s.min,
+        max: s.max,
+        bins,
+        factor: tile_bin::bin_factor(s.min, s.max, bins),
+    };
     start(picture, width, height, side, s, y, bins, scratch);
     let mut part = [0u16; 8192];
     paint_pixels(
-        picture, width, height, side, s, y, bins, factor, &mut part, out, scratch,
+        picture, width, height, side, s, y, by, &mut part, out, scratch,
     );
 }
 
@@ -499,8 +438,7 @@ fn paint(
     ensures { (target.new ≡ joined height (around_row width height picture.now side s)) × (scratch.new ≡ filled (λ k. 0) scratch.old (2 * bins_of s)) }
 {
     let wide = width as usize;
-    let mut y = 0;
-    while y < height {
+    for y in 0..height {
         let a = (y as usize) * wide;
         let e = a + wide;
         paint_row(
@@ -513,7 +451,6 @@ fn paint(
             &mut target[a..e],
             scratch,
         );
-        y += 1;
     }
     let each = film_settings::bins(s) as usize;
     base_lists::clear(scratch, 2 * each);
@@ -528,21 +465,16 @@ pub fn around(
     s: Settings,
     target: &mut [u16],
     scratch: &mut [u32],
-) -> Enhanced
-    ensures { paint_leaves result target.new scratch.new ≡ around_of width height picture.now side s target.old scratch.old }
+) -> Result<Footer, Refusal>
+    ensures { paint_leaves (said result) target.new scratch.new ≡ around_of width height picture.now side s target.old scratch.old }
 {
-    let refused = refusal(width, height, picture, side, s, scratch.len(), target.len());
-    if refused != 0 {
-        return Enhanced::Refused(refused);
-    }
-    let clip = s.clip;
+    refusal(width, height, picture, side, s, scratch.len(), target.len())?;
     let pixels = area(width, height, side, 0, 0);
-    let foot = film_tiles::footer(clip, pixels, film_settings::bins(s));
-    let unchanged = film_settings::clip_one(clip);
-    if unchanged {
+    let footer = film_tiles::footer(s.clip, pixels, film_settings::bins(s));
+    if film_settings::clip_one(s.clip) {
         base_lists::copy(picture, target);
-        return Enhanced::Done(foot);
+        return Ok(footer);
     }
     paint(picture, width, height, side, s, target, scratch);
-    Enhanced::Done(foot)
+    Ok(footer)
 }

@@ -11,7 +11,6 @@ use Rattle.base_rows.specs.Refuse.{Row, row, first, unless, Says, accepted, refu
 use Rattle.film_settings.specs.declared.Settings.{Settings}
 use Rattle.film_settings.specs.Settings.{bins_of, entries_of, outside_row, size_rows, grid_rows, range_rows, Tiled}
 use Rattle.film_tiles.specs.Tiles.{tile_of}
-use Rattle.film_count.specs.declared.Counted.{Counted}
 
 -- ---- counts
 
@@ -47,27 +46,22 @@ count_rows w h pic s size = picture_rows w h (length pic) s ++ (counts_rows s si
 
 -- ---- counting
 
--- document 01's number of counting's answers: done, or a refusal
-unfoldable pub counted_says : Counted → Says (Unit {0})
-counted_says Counted.Done = accepted tt
-counted_says (Counted.Refused n) = refused n
-
--- what counting leaves: its answer and the counts
+-- what counting leaves: its answer, which hands back no value or is a refusal, and the counts
 pub record CountOut : Type 0 where
-  pub answer : Counted
+  pub answer : Says (Unit {0})
   pub counts : List ℕ
 
 -- the answer and the counts at the end, as counting leaves them
-abbrev pub count_leaves : Counted → List ℕ → CountOut
+abbrev pub count_leaves : Says (Unit {0}) → List ℕ → CountOut
 count_leaves r cs = record { answer = r; counts = cs }
 
 -- "counting, which fills only the front of a lent buffer with each tile's raw counts"
 unfoldable pub count_done_of : (w h : ℕ) (pic : List ℕ) (s : Settings) (cs : List ℕ) → CountOut
-count_done_of w h pic s cs = count_leaves Counted.Done (onto cs (countings w h pic s))
+count_done_of w h pic s cs = count_leaves (accepted tt) (onto cs (countings w h pic s))
 
 -- a refusal leaves the counts as they were; where none applies, counting does its work
 unfoldable pub count_of : (w h : ℕ) (pic : List ℕ) (s : Settings) (cs : List ℕ) → CountOut
-count_of w h pic s cs = unless (first (count_rows w h pic s (length cs))) (λ n. count_leaves (Counted.Refused n) cs) (count_done_of w h pic s cs)
+count_of w h pic s cs = unless (first (count_rows w h pic s (length cs))) (λ n. count_leaves (refused n) cs) (count_done_of w h pic s cs)
 
 -- ---- one counting for each factor
 

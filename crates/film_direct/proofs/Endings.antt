@@ -13,14 +13,13 @@ use Rattle.base_lists.proofs.Tabs.{length_tab, tab_cong}
 use Rattle.base_lists.proofs.Tallies.{part_tab}
 use Rattle.base_lists.proofs.Fills.{length_joined, joined_cong}
 use Rattle.base_lists.proofs.Maps.{onto_whole}
-use Rattle.base_rows.specs.Refuse.{first, unless}
+use Rattle.base_rows.specs.Refuse.{first, unless, accepted, refused}
 use Rattle.base_rows.proofs.Walk.{unless_refused}
 use Rattle.film_settings.specs.declared.Settings.{Settings}
 use Rattle.film_settings.specs.declared.Footer.{Footer}
 use Rattle.film_settings.specs.Settings.{bins_of, entries_of, clip_one_of}
 use Rattle.film_tiles.specs.Tiles.{foot_of, Work, FilmFooterAsks}
 use Rattle.film_tiles.proofs.Footers.{film_asks}
-use Rattle.film_prepare.specs.declared.Enhanced.TheVariants as Enhanced
 use Rattle.pixel_rule.proofs.Rule.{shown_one, shown_rule}
 use Rattle.film_prepare.specs.Prepare.{paint_leaves}
 use Rattle.film_direct.specs.Direct.{direct_rows, shown_film, rule_row, directed_of, direct_of, DirectPaintAsks}
@@ -80,21 +79,21 @@ module _ (w h : ℕ) (pic : List ℕ) (s : Settings) (scratch target : ℕ) {r :
 
 module _ (w h : ℕ) (pic : List ℕ) (s : Settings) (o t : List ℕ) where
   -- a refusal, as it was worked out
-  pub direct_refused : {r : ℕ} → r ≡ first (direct_rows w h pic s (length t) (length o)) → (r ≡ 0 → ⊥) → paint_leaves (Enhanced.Refused r) o t ≡ direct_of w h pic s o t
+  pub direct_refused : {r : ℕ} → r ≡ first (direct_rows w h pic s (length t) (length o)) → (r ≡ 0 → ⊥) → paint_leaves (refused r) o t ≡ direct_of w h pic s o t
   unfolding direct_of
   direct_refused {r} e z =
-      unless_refused r (λ n. paint_leaves (Enhanced.Refused n) o t) (directed_of w h pic s t) z
-      ∙ ap (λ k. unless k (λ n. paint_leaves (Enhanced.Refused n) o t) (directed_of w h pic s t)) e
+      unless_refused r (λ n. paint_leaves (refused n) o t) (directed_of w h pic s t) z
+      ∙ ap (λ k. unless k (λ n. paint_leaves (refused n) o t) (directed_of w h pic s t)) e
 
   -- no refusal
   pub direct_done : {r : ℕ} → r ≡ first (direct_rows w h pic s (length t) (length o)) → r ≡ 0 → directed_of w h pic s t ≡ direct_of w h pic s o t
   unfolding direct_of
-  direct_done {r} e z = ap (λ k. unless k (λ n. paint_leaves (Enhanced.Refused n) o t) (directed_of w h pic s t)) (sym z ∙ e)
+  direct_done {r} e z = ap (λ k. unless k (λ n. paint_leaves (refused n) o t) (directed_of w h pic s t)) (sym z ∙ e)
 
   -- at the factor 1.0 the film is copied, and the scratch stays
   pub direct_one : {r : ℕ} {foot : Footer} {c : Bool} {o' : List ℕ} → r ≡ first (direct_rows w h pic s (length t) (length o)) → r ≡ 0
       → foot ≡ foot_of w h s → c ≡ clip_one_of s.clip → c ≡ true → o' ≡ onto o pic
-      → paint_leaves (Enhanced.Done foot) o' t ≡ direct_of w h pic s o t
+      → paint_leaves (accepted foot) o' t ≡ direct_of w h pic s o t
   unfolding directed_of
   direct_one {r} {foot} {c} {o'} e z f q y g =
       let one : clip_one_of s.clip ≡ true = sym q ∙ y in
@@ -105,7 +104,7 @@ module _ (w h : ℕ) (pic : List ℕ) (s : Settings) (o t : List ℕ) where
   -- else it is painted
   pub direct_well : {r : ℕ} {foot : Footer} {c : Bool} {o' t' : List ℕ} → r ≡ first (direct_rows w h pic s (length t) (length o)) → r ≡ 0
       → foot ≡ foot_of w h s → c ≡ clip_one_of s.clip → c ≡ false → o' ≡ joined h (rule_row w h pic s) → t' ≡ filled (λ k. 0) t (bins_of s)
-      → paint_leaves (Enhanced.Done foot) o' t' ≡ direct_of w h pic s o t
+      → paint_leaves (accepted foot) o' t' ≡ direct_of w h pic s o t
   unfolding directed_of
   direct_well {r} {foot} {c} {o'} {t'} e z f q y g u =
       let one : clip_one_of s.clip ≡ false = sym q ∙ y in

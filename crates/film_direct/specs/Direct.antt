@@ -3,14 +3,13 @@
 -- Assumes nothing.
 use Rattle.std.specs.Prelude.{ℕ, ◌+◌, ◌*◌, ◌≤◌, ◌<◌, true, List, [], ◌∷◌, ◌++◌, ◌≡◌, length, drop}
 use Rattle.base_lists.specs.Lists.{tab, joined, all}
-use Rattle.base_rows.specs.Refuse.{Row, scratch_row, target_row, first, unless}
+use Rattle.base_rows.specs.Refuse.{Row, scratch_row, target_row, first, unless, accepted, refused}
 use Rattle.base_range.specs.Scan.{within}
 use Rattle.tile_count.specs.Tally.{greys_of, Scale}
 use Rattle.tile_map.specs.Tile.{mapped_of, tile_counts, tile_divides}
 use Rattle.film_settings.specs.declared.Settings.{Settings}
 use Rattle.film_settings.specs.Settings.{bins_of, entries_of, outside_row, setting_rows}
 use Rattle.film_tiles.specs.Tiles.{tile_of, foot_of, TilesReady}
-use Rattle.film_prepare.specs.declared.Enhanced.TheVariants as Enhanced
 use Rattle.film_prepare.specs.Prepare.{scratch_left, PaintOut, paint_leaves}
 use Rattle.pixel_rule.specs.Rule.{rule_grey, shown_grey}
 
@@ -37,12 +36,12 @@ rule_row w h pic s y = tab w (λ x. rule_grey w h pic s x y)
 -- "It writes to a separate picture", with "only lent scratch for one tile's counts, left as enhance leaves it"
 unfoldable pub directed_of : (w h : ℕ) (pic : List ℕ) (s : Settings) (t : List ℕ) → PaintOut
 directed_of w h pic s t =
-    paint_leaves (Enhanced.Done (foot_of w h s)) (shown_film w h pic s) (scratch_left s t (bins_of s))
+    paint_leaves (accepted (foot_of w h s)) (shown_film w h pic s) (scratch_left s t (bins_of s))
 
 -- a refusal leaves all memory as it was
 unfoldable pub direct_of : (w h : ℕ) (pic : List ℕ) (s : Settings) (o t : List ℕ) → PaintOut
 direct_of w h pic s o t =
-    unless (first (direct_rows w h pic s (length t) (length o))) (λ n. paint_leaves (Enhanced.Refused n) o t) (directed_of w h pic s t)
+    unless (first (direct_rows w h pic s (length t) (length o))) (λ n. paint_leaves (refused n) o t) (directed_of w h pic s t)
 
 -- ---- what the functions ask and leave
 

@@ -5,17 +5,19 @@
 ghost use Rattle.std.specs.Prelude.{◌≡◌, [], ◌∷◌, ◌*◌, ◌≤◌, length, get_or};
 ghost use Rattle.base_lists.specs.Lists.{joined, onto, filled};
 ghost use Rattle.base_rows.specs.Refuse.{first};
+ghost use Rattle.base_rows.specs.Given.{given, said};
 ghost use Rattle.tile_bin.specs.Binning.{bin_of};
 ghost use Rattle.tile_count.specs.Tally.{greys_of, counts_of, added_of, CountRowAsks, AddAsks, CountRectAsks};
 ghost use Rattle.film_settings.specs.Settings.{bins_of};
 ghost use Rattle.film_prepare.specs.Prepare.{paint_leaves};
 ghost use Rattle.film_direct.specs.Direct.{direct_work_rows, direct_rows, rule_row, direct_of, corner_value, TileValueAsks, DirectBinAsks, DirectPixelAsks, DirectRowAsks, DirectPaintAsks, BehindBins, RuleGreyed};
 
-use film_prepare::Enhanced;
-use film_settings::Settings;
+use base_rows::Refusal;
+use film_settings::{Footer, Settings};
 use tile_count::Rect;
 
-// The first of the refusals 12, 17 and 13 that applies, else 0.
+// The first of the refusals 12, 17 and 13 that applies.
+#[tactic(auto, unfolding(base_rows::specs::Refuse::first, crate::specs::Direct::direct_work_rows))]
 fn work_refusal(
     width: u32,
     height: u32,
@@ -23,23 +25,23 @@ fn work_refusal(
     s: Settings,
     scratch: usize,
     target: usize,
-) -> u32
+) -> Result<(), Refusal>
     requires { (width ≤ 4096) × (height ≤ 4096) }
-    ensures { result ≡ first (direct_work_rows width height picture.now s scratch target) }
+    ensures { given result ≡ first (direct_work_rows width height picture.now s scratch target) }
 {
     if scratch < (film_settings::bins(s) as usize) {
-        return 12;
+        return Err(Refusal::ScratchShort);
     }
     if target != (width as usize) * (height as usize) {
-        return 17;
+        return Err(Refusal::OutputLength);
     }
     if !base_range::all_within(picture, s.min, s.max) {
-        return 13;
+        return Err(Refusal::PixelOutside);
     }
-    0
+    Ok(())
 }
 
-// The first of the refusals 1 to 9, 31, 10, 12, 17 and 13 that applies, else 0.
+// The first of the refusals 1 to 9, 31, 10, 12, 17 and 13 that applies.
 fn refusal(
     width: u32,
     height: u32,
@@ -47,13 +49,10 @@ fn refusal(
     s: Settings,
     scratch: usize,
     target: usize,
-) -> u32
-    ensures { result ≡ first (direct_rows width height picture.now s scratch target) }
+) -> Result<(), Refusal>
+    ensures { given result ≡ first (direct_rows width height picture.now s scratch target) }
 {
-    let shared = film_settings::setting_refusal(width, height, picture.len(), s);
-    if shared != 0 {
-        return shared;
-    }
+    film_settings::setting_refusal(width, height, picture.len(), s)?;
     work_refusal(width, height, picture, s, scratch, target)
 }
 
@@ -71,10 +70,8 @@ fn add_row(row: &[u16], min: u32, max: u32, bins: u32, factor: u32, counts: &mut
     requires { CountRowAsks row.now min max bins factor counts.old }
     ensures { counts.new ≡ added_of min max bins counts.old row.now }
 {
-    let mut x = 0;
-    while x < row.len() {
-        add_grey(row[x] as u32, min, max, bins, factor, counts);
-        x += 1;
+    for grey in row {
+        add_grey(*grey as u32, min, max, bins, factor, counts);
     }
 }
 
@@ -92,12 +89,9 @@ fn add_rows(
     requires { AddAsks picture.now stride rect min max bins factor counts.old }
     ensures { counts.new ≡ added_of min max bins counts.old (greys_of picture.now stride rect) }
 {
-    let mut y = 0;
-    while y < rect.height {
-        let a = (rect.top + y) * stride + rect.left;
-        let e = a + rect.width;
-        add_row(&picture[a..e], min, max, bins, factor, counts);
-        y += 1;
+    for y in 0..rect.height {
+        let row = tile_count::row_at(picture, stride, rect, y);
+        add_row(row, min, max, bins, factor, counts);
     }
 }
 
@@ -135,13 +129,19 @@ fn tile_value(
 {
     let at = (j * s.across + i) as usize;
     let rect = film_tiles::tile_rect(width, height, s.across, s.down, at);
-    let clip = s.clip;
-    let edition = s.edition;
     let bins = film_settings::bins(s);
     let each = bins as usize;
     let pixels = (rect.width * rect.height) as u32;
     count_tile(picture, width as usize, rect, s.min, s.max, bins, scratch);
-    tile_value::value(clip, pixels, s.min, s.max, k, &mut scratch[..each], edition)
+    tile_value::value(
+        s.clip,
+        pixels,
+        s.min,
+        s.max,
+        k,
+        &mut scratch[..each],
+        s.edition,
+    )
 }
 
 // The bin of the grey at `at`.
@@ -226,12 +226,9 @@ fn paint_row(
     requires { DirectRowAsks width height picture.now s y (length out.old) (length scratch.old) }
     ensures { BehindBins s scratch.old scratch.new × (out.new ≡ rule_row width height picture.now s y) }
 {
-    let mut x = 0;
-    while x < width {
+    for x in 0..width {
         let grey = pixel(picture, width, height, s, x, y, scratch);
-        let i = x as usize;
-        out[i] = grey as u16;
-        x += 1;
+        out[x as usize] = grey as u16;
     }
 }
 
@@ -248,12 +245,10 @@ fn paint(
     ensures { (target.new ≡ joined height (rule_row width height picture.now s)) × (scratch.new ≡ filled (λ k. 0) scratch.old (bins_of s)) }
 {
     let wide = width as usize;
-    let mut y = 0;
-    while y < height {
+    for y in 0..height {
         let a = (y as usize) * wide;
         let e = a + wide;
         paint_row(picture, width, height, s, y, &mut target[a..e], scratch);
-        y += 1;
     }
     let each = film_settings::bins(s) as usize;
     base_lists::clear(scratch, each);
@@ -267,20 +262,15 @@ pub fn direct(
     s: Settings,
     target: &mut [u16],
     scratch: &mut [u32],
-) -> Enhanced
-    ensures { paint_leaves result target.new scratch.new ≡ direct_of width height picture.now s target.old scratch.old }
+) -> Result<Footer, Refusal>
+    ensures { paint_leaves (said result) target.new scratch.new ≡ direct_of width height picture.now s target.old scratch.old }
 {
-    let refused = refusal(width, height, picture, s, scratch.len(), target.len());
-    if refused != 0 {
-        return Enhanced::Refused(refused);
-    }
-    let clip = s.clip;
-    let foot = film_tiles::foot(width, height, s);
-    let unchanged = film_settings::clip_one(clip);
-    if unchanged {
+    refusal(width, height, picture, s, scratch.len(), target.len())?;
+    let footer = film_tiles::foot(width, height, s);
+    if film_settings::clip_one(s.clip) {
         base_lists::copy(picture, target);
-        return Enhanced::Done(foot);
+        return Ok(footer);
     }
     paint(picture, width, height, s, target, scratch);
-    Enhanced::Done(foot)
+    Ok(footer)
 }

@@ -10,7 +10,7 @@ use lib.ListN.{length, take, length-take}
 use lib.Seq.{take_all, length-take-le}
 use borrow.Author.Tests.{le-ltb, ltb-true, ltb-false}
 use Rattle.base_lists.specs.Lists.{all}
-use Rattle.base_rows.specs.Refuse.{row, first, unless}
+use Rattle.base_rows.specs.Refuse.{row, first, unless, accepted, refused}
 use Rattle.base_range.specs.Scan.{within}
 use Rattle.tile_count.specs.Tally.{greys_of}
 use Rattle.tile_limit.specs.declared.Clip.{Clip}
@@ -25,7 +25,6 @@ use Rattle.pixel_render.specs.Render.{render_of, rect_of}
 use Rattle.pixel_render.proofs.Laws.{render_front, render_kept}
 use Rattle.film_record.specs.Held.{record_rows, window_rows}
 use Rattle.film_record.proofs.Laws.{record_kept, record_kept_record, reclipped, reclipped_record, record_alike}
-use Rattle.film_draw.specs.declared.Drawn.TheVariants.{Done, Refused}
 use Rattle.film_draw.specs.Draw.{pixel_rows, draw_rows, draw_leaves, drawn_pixels, draw_of, DrawReady}
 use Rattle.film_draw.proofs.Tables.{draw_ready}
 use Rattle.film_draw.proofs.Works.{render_asks, draw_ends_refused, draw_ends_well}
@@ -60,7 +59,7 @@ pub draw_kept : (film w h : ℕ) (pic : List ℕ) (s : Settings) (r : MapRecord)
     → draw_of film w h pic (kept_of s) r win m out ≡ draw_of film w h pic s r win m out
 unfolding draw_of
 draw_kept film w h pic s r win m out =
-    ap₂ (λ rows ys. unless (first rows) (λ n. draw_leaves (Refused n) out) (draw_leaves Done ys)) (rows_kept film w h pic s r win m (length out)) (pixels_kept w h pic s win m)
+    ap₂ (λ rows ys. unless (first rows) (λ n. draw_leaves (refused n) out) (draw_leaves (accepted tt) ys)) (rows_kept film w h pic s r win m (length out)) (pixels_kept w h pic s win m)
 
 -- which reads the record's bins so too: "bins 0 read as 128 on both sides"
 pub draw_kept_record : (film w h : ℕ) (pic : List ℕ) (s : Settings) (r : MapRecord) (win : Window) (m out : List ℕ)

@@ -7,7 +7,7 @@ use mathlib.Core.Path.{◌≡◌, refl, sym, ap, ◌∙◌}
 use lib.ListN.{length}
 use native.Mathlib.Nat.{mul_comm}
 use Rattle.base_lists.specs.Lists.{all}
-use Rattle.base_rows.specs.Refuse.{first, unless}
+use Rattle.base_rows.specs.Refuse.{first, unless, accepted, refused}
 use Rattle.base_rows.proofs.Walk.{unless_refused}
 use Rattle.base_range.specs.Scan.{within}
 use Rattle.tile_count.specs.Tally.{greys_of}
@@ -18,7 +18,6 @@ use Rattle.film_settings.specs.Settings.{clip_one_of}
 use Rattle.pixel_render.specs.Render.{rect_of, Mapped, Shown}
 use Rattle.tile_count.proofs.Greys.{length_greys}
 use Rattle.pixel_render.proofs.Laws.{ready_mapped}
-use Rattle.film_draw.specs.declared.Drawn.TheVariants.{Done, Refused}
 use Rattle.film_window.specs.Frame.{CopyWindowAsks}
 use Rattle.film_window.proofs.Frames.{framed}
 use Rattle.film_draw.specs.Draw.{draw_rows, drawn_pixels, draw_of, draw_leaves, WindowReady}
@@ -44,13 +43,13 @@ render_asks {w} {h} {pic} {s} {win} {m} {out} ready e one = (
 -- ---- the returns of draw
 
 module _ (film w h : ℕ) (pic : List ℕ) (s : Settings) (r : MapRecord) (win : Window) (m out : List ℕ) where
-  pub draw_ends_refused : {x : ℕ} → x ≡ first (draw_rows film w h pic s r win m (length out)) → (x ≡ 0 → ⊥) → draw_leaves (Refused x) out ≡ draw_of film w h pic s r win m out
+  pub draw_ends_refused : {x : ℕ} → x ≡ first (draw_rows film w h pic s r win m (length out)) → (x ≡ 0 → ⊥) → draw_leaves (refused x) out ≡ draw_of film w h pic s r win m out
   unfolding draw_of
   draw_ends_refused {x} e z =
-      unless_refused x (λ n. draw_leaves (Refused n) out) (draw_leaves Done (drawn_pixels w h pic s win m)) z
-      ∙ ap (λ k. unless k (λ n. draw_leaves (Refused n) out) (draw_leaves Done (drawn_pixels w h pic s win m))) e
+      unless_refused x (λ n. draw_leaves (refused n) out) (draw_leaves (accepted tt) (drawn_pixels w h pic s win m)) z
+      ∙ ap (λ k. unless k (λ n. draw_leaves (refused n) out) (draw_leaves (accepted tt) (drawn_pixels w h pic s win m))) e
 
   pub draw_ends_well : {x : ℕ} {end : List ℕ} → x ≡ first (draw_rows film w h pic s r win m (length out)) → x ≡ 0 → end ≡ drawn_pixels w h pic s win m
-      → draw_leaves Done end ≡ draw_of film w h pic s r win m out
+      → draw_leaves (accepted tt) end ≡ draw_of film w h pic s r win m out
   unfolding draw_of
-  draw_ends_well e z q = ap (draw_leaves Done) q ∙ ap (λ k. unless k (λ n. draw_leaves (Refused n) out) (draw_leaves Done (drawn_pixels w h pic s win m))) (sym z ∙ e)
+  draw_ends_well e z q = ap (draw_leaves (accepted tt)) q ∙ ap (λ k. unless k (λ n. draw_leaves (refused n) out) (draw_leaves (accepted tt) (drawn_pixels w h pic s win m))) (sym z ∙ e)

@@ -13,8 +13,6 @@ use Rattle.film_settings.specs.Settings.{bins_of, entries_of, clip_one_of, outsi
 use Rattle.pixel_render.specs.Render.{render_of, rect_of}
 use Rattle.film_record.specs.Held.{record_rows, window_rows, Held}
 use Rattle.film_window.specs.Frame.{Framed}
-use Rattle.film_draw.specs.declared.Drawn.{Drawn}
-use Rattle.film_draw.specs.declared.Drawn.TheVariants.{Done, Refused}
 
 -- "then 13 over the window, then 18 (not at factor 1.0)": 18 is "one of the first (grid across) x (grid down) x B map entries outside Min to Max"
 unfoldable pub pixel_rows : ℕ → List ℕ → Settings → Window → List ℕ → List Row
@@ -28,18 +26,13 @@ unfoldable pub draw_rows : (film w h : ℕ) (pic : List ℕ) (s : Settings) (r :
 draw_rows film w h pic s r win m room =
     shared_rows w h (length pic) s (length m) ++ (record_rows film w h s r ++ (window_rows w h win room ++ pixel_rows w pic s win m))
 
--- document 01's number of draw's answers: none where it drew, which hands back no value, or a refusal
-unfoldable pub drawn_says : Drawn → Says (Unit {0})
-drawn_says Done = accepted tt
-drawn_says (Refused n) = refused n
-
--- what draw leaves: its answer and the output
+-- what draw leaves: its answer, which hands back no value or is a refusal, and the output
 pub record DrawOut : Type 0 where
-  pub answer : Drawn
+  pub answer : Says (Unit {0})
   pub out : List ℕ
 
 -- the answer and the output at the end, as draw leaves them
-abbrev pub draw_leaves : Drawn → List ℕ → DrawOut
+abbrev pub draw_leaves : Says (Unit {0}) → List ℕ → DrawOut
 draw_leaves answer out = record { answer = answer; out = out }
 
 -- "the window's pixels row by row in the output, each by the rule above from the map entries as lent, whoever wrote them. At factor 1.0 it copies them"
@@ -49,8 +42,8 @@ drawn_pixels w h pic s win m = cond (clip_one_of s.clip) (greys_of pic w (rect_o
 -- where no row applies draw leaves them in the output; a refusal leaves the output as it was
 unfoldable pub draw_of : (film w h : ℕ) (pic : List ℕ) (s : Settings) (r : MapRecord) (win : Window) (m out : List ℕ) → DrawOut
 draw_of film w h pic s r win m out =
-    unless (first (draw_rows film w h pic s r win m (length out))) (λ n. draw_leaves (Refused n) out)
-    (draw_leaves Done (drawn_pixels w h pic s win m))
+    unless (first (draw_rows film w h pic s r win m (length out))) (λ n. draw_leaves (refused n) out)
+    (draw_leaves (accepted tt) (drawn_pixels w h pic s win m))
 
 -- ---- what the functions ask
 

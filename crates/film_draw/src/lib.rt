@@ -3,37 +3,38 @@
 
 ghost use Rattle.std.specs.Prelude.{◌≡◌, length};
 ghost use Rattle.base_rows.specs.Refuse.{first};
+ghost use Rattle.base_rows.specs.Given.{given, said};
 ghost use Rattle.film_draw.specs.Draw.{pixel_rows, draw_rows, drawn_pixels, draw_of, draw_leaves, LookAsks, WindowReady};
 
+use base_rows::Refusal;
 use film_settings::{MapRecord, Settings, Window};
 
-// What draw answers: done, or the refusal's number alone.
-#[derive(Clone, Copy)]
-pub enum Drawn {
-    Done,
-    Refused(u32),
-}
-
-// The first of the refusals 13 and 18 that applies, else 0. At factor 1.0 the mappings are not looked at.
-fn pixel_refusal(width: u32, picture: &[u16], s: Settings, win: Window, map: &[u16]) -> u32
+// The first of the refusals 13 and 18 that applies. At factor 1.0 the mappings are not looked at.
+#[tactic(auto, unfolding(base_rows::specs::Refuse::first, crate::specs::Draw::pixel_rows))]
+fn pixel_refusal(
+    width: u32,
+    picture: &[u16],
+    s: Settings,
+    win: Window,
+    map: &[u16],
+) -> Result<(), Refusal>
     requires { LookAsks (length picture.now) width s win (length map.now) }
-    ensures { result ≡ first (pixel_rows width picture.now s win map.now) }
+    ensures { given result ≡ first (pixel_rows width picture.now s win map.now) }
 {
     if !film_window::window_within(picture, width as usize, win, s.min, s.max) {
-        return 13;
+        return Err(Refusal::PixelOutside);
     }
-    let clip = s.clip;
-    if film_settings::clip_one(clip) {
-        return 0;
+    if film_settings::clip_one(s.clip) {
+        return Ok(());
     }
     let entries = (s.across as usize) * (s.down as usize) * (film_settings::bins(s) as usize);
     if !film_window::greys_within(&map[..entries], s.min, s.max) {
-        return 18;
+        return Err(Refusal::MappingOutside);
     }
-    0
+    Ok(())
 }
 
-// The number of the first refusal of draw that applies, else 0; `room` is the output's length.
+// The first refusal of draw that applies; `room` is the output's length.
 fn refusal(
     film: u32,
     width: u32,
@@ -44,21 +45,12 @@ fn refusal(
     win: Window,
     map: &[u16],
     room: usize,
-) -> u32
-    ensures { result ≡ first (draw_rows film width height picture.now s «record» win map.now room) }
+) -> Result<(), Refusal>
+    ensures { given result ≡ first (draw_rows film width height picture.now s «record» win map.now room) }
 {
-    let shared = film_settings::shared(width, height, picture.len(), s, map.len());
-    if shared != 0 {
-        return shared;
-    }
-    let differs = film_record::record_refusal(film, width, height, s, record);
-    if differs != 0 {
-        return differs;
-    }
-    let outside = film_record::window_refusal(width, height, win, room);
-    if outside != 0 {
-        return outside;
-    }
+    film_settings::shared(width, height, picture.len(), s, map.len())?;
+    film_record::record_refusal(film, width, height, s, record)?;
+    film_record::window_refusal(width, height, win, room)?;
     pixel_refusal(width, picture, s, win, map)
 }
 
@@ -76,8 +68,7 @@ fn work(
     ensures { out.new ≡ drawn_pixels width height picture.now s win map.now }
 {
     film_window::copy_window(picture, width as usize, win, out);
-    let clip = s.clip;
-    if film_settings::clip_one(clip) {
+    if film_settings::clip_one(s.clip) {
         return;
     }
     pixel_render::render(out, win, width, height, s, map);
@@ -94,13 +85,10 @@ pub fn draw(
     win: Window,
     map: &[u16],
     out: &mut [u16],
-) -> Drawn
-    ensures { draw_leaves result out.new ≡ draw_of film width height picture.now s «record» win map.now out.old }
+) -> Result<(), Refusal>
+    ensures { draw_leaves (said result) out.new ≡ draw_of film width height picture.now s «record» win map.now out.old }
 {
-    let refused = refusal(film, width, height, picture, s, record, win, map, out.len());
-    if refused != 0 {
-        return Drawn::Refused(refused);
-    }
+    refusal(film, width, height, picture, s, record, win, map, out.len())?;
     work(width, height, picture, s, win, map, out);
-    Drawn::Done
+    Ok(())
 }

@@ -5,15 +5,14 @@ use mathlib.Core.Bool.{Bool, true, false}
 use mathlib.Core.List.{List}
 use mathlib.Core.Path.{◌≡◌, refl, sym, ap, ◌∙◌}
 use lib.ListN.{length}
-use Rattle.base_rows.specs.Refuse.{first, unless}
+use Rattle.base_rows.specs.Refuse.{first, unless, accepted, refused}
 use Rattle.base_rows.proofs.Walk.{unless_refused}
 use Rattle.film_settings.specs.declared.Settings.{Settings}
 use Rattle.film_settings.specs.declared.Footer.{Footer}
 use Rattle.film_settings.specs.declared.MapRecord.{MapRecord}
 use Rattle.film_settings.specs.Settings.{record_of, clip_one_of}
 use Rattle.film_tiles.specs.Tiles.{foot_of, FilmFooterAsks}
-use Rattle.film_prepare.specs.declared.Prepared.{Prepared}
-use Rattle.film_prepare.specs.Prepare.{prepared_with, prepared_not, prepare_leaves}
+use Rattle.film_prepare.specs.Prepare.{prepare_leaves}
 use Rattle.film_map.specs.Counts.{map_rows_of, map_done_of, map_of, MapAllAsks, AllMapped}
 use Rattle.film_map.proofs.Tables.{map_ready}
 
@@ -32,26 +31,21 @@ module _ (w h : ℕ) (s : Settings) (cs : List ℕ) (room scratch list : ℕ) {r
 
 module _ (film w h : ℕ) (s : Settings) (cs m t n : List ℕ) where
   -- a refusal, as it was worked out
-  pub map_refused : {r : ℕ} → r ≡ first (map_rows_of w h s cs (length m) (length t) (length n)) → (r ≡ 0 → ⊥) → prepare_leaves (prepared_not r) m t n ≡ map_of film w h s cs m t n
+  pub map_refused : {r : ℕ} → r ≡ first (map_rows_of w h s cs (length m) (length t) (length n)) → (r ≡ 0 → ⊥) → prepare_leaves (refused r) m t n ≡ map_of film w h s cs m t n
   unfolding map_of
   map_refused {r} e z =
-      unless_refused r (λ k. prepare_leaves (prepared_not k) m t n) (map_done_of film w h s cs m t n) z
-      ∙ ap (λ x. unless x (λ k. prepare_leaves (prepared_not k) m t n) (map_done_of film w h s cs m t n)) e
-
-  -- the same of the answer that prepare's refusals have
-  pub map_not : {r : ℕ} {p : Prepared} → r ≡ first (map_rows_of w h s cs (length m) (length t) (length n)) → (r ≡ 0 → ⊥) → p ≡ prepared_not r
-      → prepare_leaves p m t n ≡ map_of film w h s cs m t n
-  map_not e z q = ap (λ p. prepare_leaves p m t n) q ∙ map_refused e z
+      unless_refused r (λ k. prepare_leaves (refused k) m t n) (map_done_of film w h s cs m t n) z
+      ∙ ap (λ x. unless x (λ k. prepare_leaves (refused k) m t n) (map_done_of film w h s cs m t n)) e
 
   module _ {r : ℕ} (e : r ≡ first (map_rows_of w h s cs (length m) (length t) (length n))) (z : r ≡ 0) where
     -- no refusal
     pub map_done : map_done_of film w h s cs m t n ≡ map_of film w h s cs m t n
     unfolding map_of
-    map_done = ap (λ x. unless x (λ k. prepare_leaves (prepared_not k) m t n) (map_done_of film w h s cs m t n)) (sym z ∙ e)
+    map_done = ap (λ x. unless x (λ k. prepare_leaves (refused k) m t n) (map_done_of film w h s cs m t n)) (sym z ∙ e)
 
     module _ {kept : MapRecord} {foot : Footer} {o : Bool} (f : foot ≡ foot_of w h s) (k : kept ≡ record_of film w h s) (c : o ≡ clip_one_of s.clip) where
       -- at the factor 1.0 the buffers and the list stay
-      pub map_one : o ≡ true → prepare_leaves (prepared_with kept foot) m t n ≡ map_of film w h s cs m t n
+      pub map_one : o ≡ true → prepare_leaves (accepted (kept, foot)) m t n ≡ map_of film w h s cs m t n
       unfolding map_done_of
       map_one y =
           let one : clip_one_of s.clip ≡ true = sym c ∙ y in
@@ -59,7 +53,7 @@ module _ (film w h : ℕ) (s : Settings) (cs m t n : List ℕ) where
 
       -- else the mappings and what clipping took are laid down, and the scratch is zero
       pub map_well : {m' t' n' : List ℕ} → o ≡ false → AllMapped w h s cs m m' t t' n n'
-          → prepare_leaves (prepared_with kept foot) m' t' n' ≡ map_of film w h s cs m t n
+          → prepare_leaves (accepted (kept, foot)) m' t' n' ≡ map_of film w h s cs m t n
       unfolding map_done_of
       map_well y done =
           let one : clip_one_of s.clip ≡ false = sym c ∙ y in

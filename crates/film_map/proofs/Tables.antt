@@ -11,7 +11,7 @@ use lib.ListN.{length}
 use borrow.Author.Tests.{lt-ltb, le-ltb, ltb-false, not-false}
 use Rattle.base_lists.specs.Lists.{all}
 use Rattle.base_rows.specs.Refuse.{row, first, numbers_of, Each, Numbered}
-use Rattle.base_rows.proofs.Walk.{first_front, first_none, first_both, only_front, only_behind, first_hit, first_skip, numbers_append, each_append, front, behind}
+use Rattle.base_rows.proofs.Walk.{first_front, first_none, first_both, only_front, only_behind, first_hit, first_skip, numbers_append, each_append, behind}
 use Rattle.film_settings.specs.declared.Settings.{Settings}
 use Rattle.film_settings.specs.Settings.{bins_of, entries_of, clip_bad_of, side_rows, grid_rows, range_rows, clip_rows, grey_rows, room_rows, Tiled}
 use Rattle.film_settings.proofs.Ready.{side_numbers, grid_numbers, room_numbers, side_numbered, grid_numbered, tiled, clip_fair, room_fits}
@@ -49,32 +49,26 @@ lent_numbered s room scratch list size = each_append (ltb 0) (room_rows s room) 
 
 -- ---- 11, 12, 32 and 33, one after the other
 
-module _ (s : Settings) (room scratch list size : ℕ) {r : ℕ} (e : r ≡ first (room_rows s room)) where
-  -- 11 applies
-  pub lent_room : (r ≡ 0 → ⊥) → r ≡ first (lent_rows s room scratch list size)
+module _ (s : Settings) (room scratch list size : ℕ) {r : ℕ} (e : r ≡ first (room_rows s room)) (z : r ≡ 0) {b : ℕ} (n : b ≡ bins_of s) where
+  -- 11 does not apply, and 12 does
+  pub lent_scratch : scratch < b → 12 ≡ first (lent_rows s room scratch list size)
   unfolding lent_rows
-  lent_room z = front (room_rows s room) _ e z
+  lent_scratch l = behind (room_rows s room) _ (room_numbered s room) e z (sym (first_hit _ (lt-ltb scratch (bins_of s) (omega arith))))
 
-  module _ (z : r ≡ 0) {b : ℕ} (n : b ≡ bins_of s) where
-    -- it does not, and 12 does
-    pub lent_scratch : scratch < b → 12 ≡ first (lent_rows s room scratch list size)
+  module _ (l : b ≤ scratch) where
+    -- neither does, and 32 does
+    pub lent_list : list < spent_entries s → 32 ≡ first (lent_rows s room scratch list size)
     unfolding lent_rows
-    lent_scratch l = behind (room_rows s room) _ (room_numbered s room) e z (sym (first_hit _ (lt-ltb scratch (bins_of s) (omega arith))))
+    lent_list g =
+        behind (room_rows s room) _ (room_numbered s room) e z
+        (sym (first_skip 12 _ (le-ltb scratch (bins_of s) (omega arith)) ∙ first_hit _ (lt-ltb list (spent_entries s) g)))
 
-    module _ (l : b ≤ scratch) where
-      -- neither does, and 32 does
-      pub lent_list : list < spent_entries s → 32 ≡ first (lent_rows s room scratch list size)
-      unfolding lent_rows
-      lent_list g =
-          behind (room_rows s room) _ (room_numbered s room) e z
-          (sym (first_skip 12 _ (le-ltb scratch (bins_of s) (omega arith)) ∙ first_hit _ (lt-ltb list (spent_entries s) g)))
-
-      -- none of them does, and 33 decides
-      pub lent_counts : {x : ℕ} → spent_entries s ≤ list → x ≡ first (counts_rows s size) → x ≡ first (lent_rows s room scratch list size)
-      unfolding lent_rows
-      lent_counts g q =
-          behind (room_rows s room) _ (room_numbered s room) e z
-          (q ∙ sym (first_skip 12 _ (le-ltb scratch (bins_of s) (omega arith)) ∙ first_skip 32 (counts_rows s size) (le-ltb list (spent_entries s) g)))
+    -- none of them does, and 33 decides
+    pub lent_counts : {x : ℕ} → spent_entries s ≤ list → x ≡ first (counts_rows s size) → x ≡ first (lent_rows s room scratch list size)
+    unfolding lent_rows
+    lent_counts g q =
+        behind (room_rows s room) _ (room_numbered s room) e z
+        (q ∙ sym (first_skip 12 _ (le-ltb scratch (bins_of s) (omega arith)) ∙ first_skip 32 (counts_rows s size) (le-ltb list (spent_entries s) g)))
 
 -- ---- 34, by what was found
 

@@ -3,13 +3,13 @@
 -- Assumes nothing.
 use Rattle.std.specs.Prelude.{ℕ, ◌+◌, ◌*◌, ◌≤◌, ◌<◌, ◌≡◌, Bool, true, false, not, List, [], ◌∷◌, ◌++◌, eqb, length}
 use Rattle.base_lists.specs.Lists.{joined, every, total}
-use Rattle.base_rows.specs.Refuse.{Row, row, scratch_row, first, unless}
+use Rattle.base_rows.specs.Refuse.{Row, row, scratch_row, first, unless, accepted, refused}
 use Rattle.tile_clip.specs.declared.Spent.{Spent}
 use Rattle.tile_map.specs.Tile.{counts_mapping, spent_by}
 use Rattle.film_settings.specs.declared.Settings.{Settings}
 use Rattle.film_settings.specs.Settings.{bins_of, entries_of, record_of, clip_bad_of, side_rows, grid_rows, grey_rows, room_rows, Tiled}
 use Rattle.film_tiles.specs.Tiles.{pixels_in, foot_of, spent_pair, spent_entries, list_row, Placed, AllPlaced}
-use Rattle.film_prepare.specs.Prepare.{front_left, scratch_left, prepared_with, prepared_not, PrepareOut, prepare_leaves}
+use Rattle.film_prepare.specs.Prepare.{front_left, scratch_left, PrepareOut, prepare_leaves}
 use Rattle.film_count.specs.Counting.{counts_in, counts_rows}
 
 -- ---- mappings from counts
@@ -58,7 +58,7 @@ map_rows_of w h s cs room scratch list = tiling_rows w h s ++ (lent_rows s room 
 unfoldable pub map_done_of : (film w h : ℕ) (s : Settings) (cs m t n : List ℕ) → PrepareOut
 map_done_of film w h s cs m t n =
     record {
-      answer = prepared_with (record_of film w h s) (foot_of w h s);
+      answer = accepted (record_of film w h s, foot_of w h s);
       map = front_left s m (mappings_from w h s cs);
       scratch = scratch_left s t (bins_of s);
       list = front_left s n (spents_from w h s cs);
@@ -67,7 +67,7 @@ map_done_of film w h s cs m t n =
 -- a refusal leaves all memory as it was; where none applies, mapping does its work
 unfoldable pub map_of : (film w h : ℕ) (s : Settings) (cs m t n : List ℕ) → PrepareOut
 map_of film w h s cs m t n =
-    unless (first (map_rows_of w h s cs (length m) (length t) (length n))) (λ k. prepare_leaves (prepared_not k) m t n) (map_done_of film w h s cs m t n)
+    unless (first (map_rows_of w h s cs (length m) (length t) (length n))) (λ k. prepare_leaves (refused k) m t n) (map_done_of film w h s cs m t n)
 
 -- ---- what the functions below ask
 

@@ -4,25 +4,26 @@
 ghost use Rattle.std.specs.Prelude.{◌≡◌, ◌*◌, ◌≤◌, eqb, length, take, drop};
 ghost use Rattle.base_lists.specs.Lists.{total, onto};
 ghost use Rattle.base_rows.specs.Refuse.{first};
+ghost use Rattle.base_rows.specs.Given.{given};
 ghost use Rattle.film_tiles.specs.Tiles.{pixels_in};
-ghost use Rattle.film_prepare.specs.Prepare.{prepare_leaves};
+ghost use Rattle.film_prepare.specs.Prepare.{prepared_says, prepare_leaves};
 ghost use Rattle.film_count.specs.Counting.{counts_in, LentAsks};
 ghost use Rattle.film_map.specs.Counts.{adds_up_of, tiling_rows, lent_rows, map_rows_of, map_of, AllSumsAsks, TileSumAsks, MapAllAsks, MapOneAsks, CopyTileAsks, OneMapped, AllMapped};
 
-use film_prepare::{Made, Prepared};
+use base_rows::Refusal;
+use film_prepare::Prepared;
 use film_settings::Settings;
 use tile_clip::Spent;
 
 // Whether counts add up to these pixels. The sum of 4096 counts of 32 bits does not wrap in 64.
+#[tactic(auto, using(base_lists::proofs::Tallies::total_next), unfolding(base_lists::specs::Lists::total))]
 fn adds_up(counts: &[u32], pixels: u32) -> bool
     requires { length counts.now ≤ 4096 }
     ensures { result ≡ eqb (total counts.now) pixels }
 {
     let mut sum: u64 = 0;
-    let mut i = 0;
-    while i < counts.len() {
-        sum += counts[i] as u64;
-        i += 1;
+    for n in counts {
+        sum += *n as u64;
     }
     sum == pixels as u64
 }
@@ -45,50 +46,45 @@ fn all_add_up(width: u32, height: u32, s: Settings, counts: &[u32]) -> bool
     ensures { result ≡ adds_up_of width height s counts.now }
 {
     let tiles = (s.across * s.down) as usize;
-    let mut k = 0;
-    while k < tiles {
+    for k in 0..tiles {
         if !tile_adds_up(width, height, s, k, counts) {
             return false;
         }
-        k += 1;
     }
     true
 }
 
-// The first of the refusals 1, 3 to 9, 31 and 10 that applies, else 0.
-fn tiling_refusal(width: u32, height: u32, s: Settings) -> u32
-    ensures { result ≡ first (tiling_rows width height s) }
+// The first of the refusals 1, 3 to 9, 31 and 10 that applies.
+fn tiling_refusal(width: u32, height: u32, s: Settings) -> Result<(), Refusal>
+    ensures { given result ≡ first (tiling_rows width height s) }
 {
-    let sides = film_settings::side_refusal(width, height);
-    if sides != 0 {
-        return sides;
-    }
-    let grid = film_settings::grid_refusal(width, height, s);
-    if grid != 0 {
-        return grid;
-    }
+    film_settings::side_refusal(width, height)?;
+    film_settings::grid_refusal(width, height, s)?;
     film_settings::grey_refusal(s)
 }
 
-// The first of the refusals 11, 12, 32 and 33 that applies, else 0.
-fn lent_refusal(s: Settings, room: usize, scratch: usize, list: usize, size: usize) -> u32
+// The first of the refusals 11, 12, 32 and 33 that applies.
+fn lent_refusal(
+    s: Settings,
+    room: usize,
+    scratch: usize,
+    list: usize,
+    size: usize,
+) -> Result<(), Refusal>
     requires { LentAsks s }
-    ensures { result ≡ first (lent_rows s room scratch list size) }
+    ensures { given result ≡ first (lent_rows s room scratch list size) }
 {
-    let full = film_settings::room_refusal(s, room);
-    if full != 0 {
-        return full;
-    }
+    film_settings::room_refusal(s, room)?;
     if scratch < (film_settings::bins(s) as usize) {
-        return 12;
+        return Err(Refusal::ScratchShort);
     }
     if list < (2 * (s.across * s.down) as usize) {
-        return 32;
+        return Err(Refusal::ListShort);
     }
     film_count::counts_refusal(s, size)
 }
 
-// The first of mapping's refusals that applies, else 0.
+// The first of mapping's refusals that applies.
 fn map_refusal(
     width: u32,
     height: u32,
@@ -97,21 +93,15 @@ fn map_refusal(
     room: usize,
     scratch: usize,
     list: usize,
-) -> u32
-    ensures { result ≡ first (map_rows_of width height s counts.now room scratch list) }
+) -> Result<(), Refusal>
+    ensures { given result ≡ first (map_rows_of width height s counts.now room scratch list) }
 {
-    let tiling = tiling_refusal(width, height, s);
-    if tiling != 0 {
-        return tiling;
-    }
-    let lent = lent_refusal(s, room, scratch, list, counts.len());
-    if lent != 0 {
-        return lent;
-    }
+    tiling_refusal(width, height, s)?;
+    lent_refusal(s, room, scratch, list, counts.len())?;
     if !all_add_up(width, height, s, counts) {
-        return 34;
+        return Err(Refusal::CountsSum);
     }
-    0
+    Ok(())
 }
 
 // Copies the counts of tile k into the front of the scratch: clipping works in place, and the counts stay for the next factor.
@@ -121,7 +111,7 @@ fn copy_tile(counts: &[u32], each: usize, k: usize, scratch: &mut [u32])
 {
     let start = k * each;
     let end = start + each;
-    base_lists::copy32(&counts[start..end], scratch);
+    base_lists::copy(&counts[start..end], scratch);
 }
 
 // Makes the mapping of tile k from its counts, in its place in the map buffer. The answer is what clipping took.
@@ -138,20 +128,18 @@ fn map_one(
     ensures { OneMapped width height s counts.now k map.old map.new scratch.old scratch.new result }
 {
     let pixels = film_tiles::tile_pixels(width, height, s, k);
-    let clip = s.clip;
-    let edition = s.edition;
     let each = film_settings::bins(s) as usize;
     let at = k * each;
     let behind = at + each;
     copy_tile(counts, each, k, scratch);
     tile_map::from_counts(
-        clip,
+        s.clip,
         pixels,
         s.min,
         s.max,
         &mut scratch[..each],
         &mut map[at..behind],
-        edition,
+        s.edition,
     )
 }
 
@@ -169,11 +157,9 @@ fn map_all(
     ensures { AllMapped width height s counts.now map.old map.new scratch.old scratch.new list.old list.new }
 {
     let tiles = (s.across * s.down) as usize;
-    let mut k = 0;
-    while k < tiles {
+    for k in 0..tiles {
         let spent = map_one(width, height, s, k, counts, map, scratch);
         film_tiles::put_spent(list, k, spent);
-        k += 1;
     }
     let each = film_settings::bins(s) as usize;
     base_lists::clear(scratch, each);
@@ -189,10 +175,10 @@ pub fn map_counts(
     map: &mut [u16],
     scratch: &mut [u32],
     list: &mut [u64],
-) -> Prepared
-    ensures { prepare_leaves result map.new scratch.new list.new ≡ map_of film width height s counts.now map.old scratch.old list.old }
+) -> Result<Prepared, Refusal>
+    ensures { prepare_leaves (prepared_says result) map.new scratch.new list.new ≡ map_of film width height s counts.now map.old scratch.old list.old }
 {
-    let refused = map_refusal(
+    map_refusal(
         width,
         height,
         s,
@@ -200,23 +186,13 @@ pub fn map_counts(
         map.len(),
         scratch.len(),
         list.len(),
-    );
-    if refused != 0 {
-        return film_prepare::not_prepared(refused);
-    }
-    let clip = s.clip;
-    let foot = film_tiles::foot(width, height, s);
+    )?;
     let kept = film_settings::made_for(film, width, height, s);
-    let one = film_settings::clip_one(clip);
+    let footer = film_tiles::foot(width, height, s);
+    let one = film_settings::clip_one(s.clip);
     if one {
-        return Prepared {
-            answer: Made::Done(foot),
-            kept,
-        };
+        return Ok(Prepared { kept, footer });
     }
     map_all(width, height, s, counts, map, scratch, list);
-    Prepared {
-        answer: Made::Done(foot),
-        kept,
-    }
+    Ok(Prepared { kept, footer })
 }

@@ -8,7 +8,7 @@ use native.Mathlib.Nat.{mul_comm}
 use native.Mathlib.Omega.{arith}
 use lib.ListN.{length, take}
 use lib.Seq.{take_all}
-use Rattle.base_rows.specs.Refuse.{first, unless}
+use Rattle.base_rows.specs.Refuse.{first, unless, accepted, refused}
 use Rattle.base_rows.proofs.Walk.{unless_refused}
 use Rattle.base_lists.specs.Lists.{onto, all}
 use Rattle.base_lists.proofs.Fills.{take_onto, length_onto}
@@ -20,7 +20,6 @@ use Rattle.pixel_render.specs.Render.{render_of, whole, Mapped, Shown}
 use Rattle.pixel_render.proofs.Laws.{render_front, ready_mapped}
 use Rattle.film_tiles.specs.Tiles.{mappings, foot_of, Work, TilesReady, TilesDone}
 use Rattle.film_tiles.proofs.Films.{length_mappings, mappings_within}
-use Rattle.film_prepare.specs.declared.Enhanced.TheVariants as Enhanced
 use Rattle.film_prepare.specs.Prepare.{enhance_rows, enhance_leaves, enhanced_of, enhance_of}
 use Rattle.film_prepare.proofs.Table.{over_work}
 
@@ -62,21 +61,21 @@ asks_render {m = m} asks done = (laid_mapped m asks done.map, whole_shown asks.w
 module _ (w h : ℕ) (pic : List ℕ) (s : Settings) (m t : List ℕ) where
   -- a refusal, as it was worked out
   pub over_refused : {r : ℕ} → r ≡ first (enhance_rows w h pic s (length m) (length t)) → (r ≡ 0 → ⊥)
-      → enhance_leaves (Enhanced.Refused r) pic m t ≡ enhance_of w h pic s m t
+      → enhance_leaves (refused r) pic m t ≡ enhance_of w h pic s m t
   unfolding enhance_of
   over_refused {r} e z =
-      unless_refused r (λ n. enhance_leaves (Enhanced.Refused n) pic m t) (enhanced_of w h pic s m t) z
-      ∙ ap (λ k. unless k (λ n. enhance_leaves (Enhanced.Refused n) pic m t) (enhanced_of w h pic s m t)) e
+      unless_refused r (λ n. enhance_leaves (refused n) pic m t) (enhanced_of w h pic s m t) z
+      ∙ ap (λ k. unless k (λ n. enhance_leaves (refused n) pic m t) (enhanced_of w h pic s m t)) e
 
   -- no refusal
   pub over_done : {r : ℕ} → r ≡ first (enhance_rows w h pic s (length m) (length t)) → r ≡ 0 → enhanced_of w h pic s m t ≡ enhance_of w h pic s m t
   unfolding enhance_of
-  over_done {r} e z = ap (λ k. unless k (λ n. enhance_leaves (Enhanced.Refused n) pic m t) (enhanced_of w h pic s m t)) (sym z ∙ e)
+  over_done {r} e z = ap (λ k. unless k (λ n. enhance_leaves (refused n) pic m t) (enhanced_of w h pic s m t)) (sym z ∙ e)
 
   -- "Factor 1.0: nothing changes."
   pub over_one : {r : ℕ} {foot : Footer} {o : Bool} → r ≡ first (enhance_rows w h pic s (length m) (length t)) → r ≡ 0
       → foot ≡ foot_of w h s → o ≡ clip_one_of s.clip → o ≡ true
-      → enhance_leaves (Enhanced.Done foot) pic m t ≡ enhance_of w h pic s m t
+      → enhance_leaves (accepted foot) pic m t ≡ enhance_of w h pic s m t
   unfolding enhanced_of
   over_one e z f c y =
       let one : clip_one_of s.clip ≡ true = sym c ∙ y in
@@ -86,7 +85,7 @@ module _ (w h : ℕ) (pic : List ℕ) (s : Settings) (m t : List ℕ) where
   pub over_well : {r : ℕ} {foot : Footer} {o : Bool} {ys m' t' n n' : List ℕ} → r ≡ first (enhance_rows w h pic s (length m) (length t)) → r ≡ 0
       → foot ≡ foot_of w h s → o ≡ clip_one_of s.clip → o ≡ false
       → TilesDone w h pic s m m' t t' n n' → ys ≡ render_of w h s m' (whole w h) pic
-      → enhance_leaves (Enhanced.Done foot) ys m' t' ≡ enhance_of w h pic s m t
+      → enhance_leaves (accepted foot) ys m' t' ≡ enhance_of w h pic s m t
   unfolding enhanced_of
   over_well e z f c y done g =
       let one : clip_one_of s.clip ≡ false = sym c ∙ y in

@@ -1,18 +1,18 @@
 -- Document 01, "What each call hands back" for prepare and enhance: what they answer, and what each lent buffer holds at the end.
 -- w and h are the film's width and height, pic its pixels, m the map buffer, t the scratch and n the list as lent.
 -- Assumes nothing.
-use Rattle.std.specs.Prelude.{ℕ, cond, List, [], ◌∷◌, ◌++◌, length}
+use Rattle.std.specs.Prelude.{ℕ, cond, List, [], ◌∷◌, ◌++◌, length, Result, Ok, Err}
 use Rattle.base_lists.specs.Lists.{onto, filled}
+use Rattle.base_rows.specs.declared.Refusal.{Refusal}
+use Rattle.base_rows.specs.Given.{number_of}
 use Rattle.base_rows.specs.Refuse.{Row, scratch_row, first, unless, Says, accepted, refused}
 use Rattle.film_settings.specs.declared.Settings.{Settings}
 use Rattle.film_settings.specs.declared.MapRecord.{MapRecord}
 use Rattle.film_settings.specs.declared.Footer.{Footer}
-use Rattle.film_settings.specs.Settings.{bins_of, record_of, no_record_of, clip_one_of, outside_row, shared_rows}
+use Rattle.film_settings.specs.Settings.{bins_of, record_of, clip_one_of, outside_row, shared_rows}
 use Rattle.pixel_render.specs.Render.{render_of, whole}
 use Rattle.film_tiles.specs.Tiles.{mappings, spents, list_row, foot_of}
 use Rattle.film_prepare.specs.declared.Prepared.{Prepared}
-use Rattle.film_prepare.specs.declared.Made.{Made}
-use Rattle.film_prepare.specs.declared.Enhanced.{Enhanced}
 
 -- 12 and 13: "scratch shorter than B", "a pixel outside Min to Max"
 unfoldable pub work_rows : List ℕ → Settings → ℕ → List Row
@@ -42,39 +42,22 @@ scratch_left s t asked = cond (clip_one_of s.clip) t (filled (λ k. 0) t asked)
 
 -- ---- the answers
 
--- an accepted film's record and footer
-abbrev pub prepared_with : MapRecord → Footer → Prepared
-prepared_with r foot = record { answer = Made.Done foot; kept = r }
-
--- "A refusal returns its number alone": the record is no film's
-abbrev pub prepared_not : ℕ → Prepared
-prepared_not n = record { answer = Made.Refused n; kept = no_record_of }
-
--- the values and number of an answer beside its record
-abbrev pub made_says : Made → MapRecord → Says (MapRecord × Footer)
-made_says (Made.Done foot) r = accepted (r, foot)
-made_says (Made.Refused n) r = refused n
-
--- document 01's values and number of prepare's answers: "the map record and a footer record", or a refusal
-unfoldable pub prepared_says : Prepared → Says (MapRecord × Footer)
-prepared_says p = made_says p.answer p.kept
-
--- and of enhance's: "the same .. footer", or a refusal
-unfoldable pub enhanced_says : Enhanced → Says Footer
-enhanced_says (Enhanced.Done foot) = accepted foot
-enhanced_says (Enhanced.Refused n) = refused n
+-- "It returns the map record and a footer record": what prepare says, or the number of its refusal
+abbrev pub prepared_says : Result Prepared Refusal → Says (MapRecord × Footer)
+prepared_says (Ok p) = accepted (p.kept, p.footer)
+prepared_says (Err r) = refused (number_of r)
 
 -- ---- prepare
 
 -- what prepare leaves: its answer, the map buffer, the scratch and the list
 pub record PrepareOut : Type 0 where
-  pub answer : Prepared
+  pub answer : Says (MapRecord × Footer)
   pub map : List ℕ
   pub scratch : List ℕ
   pub list : List ℕ
 
 -- the answer, the map buffer, the scratch and the list at the end, as prepare leaves them
-abbrev pub prepare_leaves : Prepared → List ℕ → List ℕ → List ℕ → PrepareOut
+abbrev pub prepare_leaves : Says (MapRecord × Footer) → List ℕ → List ℕ → List ℕ → PrepareOut
 prepare_leaves r m t n = record { answer = r; map = m; scratch = t; list = n }
 
 -- "the map buffer's first (grid across) x (grid down) x B entries are the mappings ..; the first B scratch entries are zero;
@@ -83,7 +66,7 @@ prepare_leaves r m t n = record { answer = r; map = m; scratch = t; list = n }
 unfoldable pub prepared_of : (film w h : ℕ) (pic : List ℕ) (s : Settings) (m t n : List ℕ) → PrepareOut
 prepared_of film w h pic s m t n =
     record {
-      answer = prepared_with (record_of film w h s) (foot_of w h s);
+      answer = accepted (record_of film w h s, foot_of w h s);
       map = front_left s m (mappings w h pic s);
       scratch = scratch_left s t (bins_of s);
       list = front_left s n (spents w h pic s);
@@ -92,36 +75,36 @@ prepared_of film w h pic s m t n =
 -- "The first that applies is given", and all memory stays as it was; where none applies, prepare does its work
 unfoldable pub prepare_of : (film w h : ℕ) (pic : List ℕ) (s : Settings) (m t n : List ℕ) → PrepareOut
 prepare_of film w h pic s m t n =
-    unless (first (prepare_rows w h pic s (length m) (length t) (length n))) (λ k. prepare_leaves (prepared_not k) m t n) (prepared_of film w h pic s m t n)
+    unless (first (prepare_rows w h pic s (length m) (length t) (length n))) (λ k. prepare_leaves (refused k) m t n) (prepared_of film w h pic s m t n)
 
 -- ---- enhance
 
 -- what enhance leaves: its answer, the picture, the map buffer and the scratch
 pub record EnhanceOut : Type 0 where
-  pub answer : Enhanced
+  pub answer : Says Footer
   pub picture : List ℕ
   pub map : List ℕ
   pub scratch : List ℕ
 
 -- the answer, the picture, the map buffer and the scratch at the end, as enhance leaves them
-abbrev pub enhance_leaves : Enhanced → List ℕ → List ℕ → List ℕ → EnhanceOut
+abbrev pub enhance_leaves : Says Footer → List ℕ → List ℕ → List ℕ → EnhanceOut
 enhance_leaves r pic m t = record { answer = r; picture = pic; map = m; scratch = t }
 
 -- what a call leaves that writes "to a separate picture": the answer, which is enhance's, the target and the scratch
 pub record PaintOut : Type 0 where
-  pub answer : Enhanced
+  pub answer : Says Footer
   pub target : List ℕ
   pub scratch : List ℕ
 
 -- the answer, the target and the scratch at the end, as such a call leaves them
-abbrev pub paint_leaves : Enhanced → List ℕ → List ℕ → PaintOut
+abbrev pub paint_leaves : Says Footer → List ℕ → List ℕ → PaintOut
 paint_leaves r o t = record { answer = r; target = o; scratch = t }
 
 -- "the same buffers and footer, and the picture rendered. Factor 1.0: nothing changes."
 unfoldable pub enhanced_of : (w h : ℕ) (pic : List ℕ) (s : Settings) (m t : List ℕ) → EnhanceOut
 enhanced_of w h pic s m t =
     record {
-      answer = Enhanced.Done (foot_of w h s);
+      answer = accepted (foot_of w h s);
       picture = cond (clip_one_of s.clip) pic (render_of w h s (mappings w h pic s) (whole w h) pic);
       map = front_left s m (mappings w h pic s);
       scratch = scratch_left s t (bins_of s);
@@ -130,4 +113,4 @@ enhanced_of w h pic s m t =
 -- the refusals are prepare's but for 32, since enhance is lent no list, and leave the picture and all memory as they were; where none applies, enhance does its work
 unfoldable pub enhance_of : (w h : ℕ) (pic : List ℕ) (s : Settings) (m t : List ℕ) → EnhanceOut
 enhance_of w h pic s m t =
-    unless (first (enhance_rows w h pic s (length m) (length t))) (λ n. enhance_leaves (Enhanced.Refused n) pic m t) (enhanced_of w h pic s m t)
+    unless (first (enhance_rows w h pic s (length m) (length t))) (λ n. enhance_leaves (refused n) pic m t) (enhanced_of w h pic s m t)

@@ -3,49 +3,38 @@
 
 ghost use Rattle.std.specs.Prelude.{◌≡◌, ◌≤◌};
 ghost use Rattle.base_rows.specs.Refuse.{first};
-ghost use Rattle.film_prepare.specs.Prepare.{listed_rows, prepare_rows, prepare_of, enhance_of, prepare_leaves, enhance_leaves, prepared_not};
+ghost use Rattle.base_rows.specs.Given.{given, said};
+ghost use Rattle.film_prepare.specs.Prepare.{listed_rows, prepare_rows, prepare_of, enhance_of, prepared_says, prepare_leaves, enhance_leaves};
 
+use base_rows::Refusal;
 use film_settings::{Footer, MapRecord, Settings, Window};
 
-// What became of a film: its footer, or the refusal's number alone.
-#[derive(Clone, Copy)]
-pub enum Made {
-    Done(Footer),
-    Refused(u32),
-}
-
-// What prepare answers: that, beside the record of what the mappings were made for. A refusal's record is no film's.
+// What prepare hands back: the record of what the mappings were made for, and the footer.
 #[derive(Clone, Copy)]
 pub struct Prepared {
-    pub answer: Made,
     pub kept: MapRecord,
+    pub footer: Footer,
 }
 
-// What enhance answers: the footer, or the refusal's number alone.
-#[derive(Clone, Copy)]
-pub enum Enhanced {
-    Done(Footer),
-    Refused(u32),
-}
-
-// The first of the refusals 12, 32 and 13 that applies, else 0.
-fn work_refusal(picture: &[u16], s: Settings, scratch: usize, list: usize) -> u32
+// The first of the refusals 12, 32 and 13 that applies.
+#[tactic(auto, unfolding(base_rows::specs::Refuse::first, crate::specs::Prepare::listed_rows))]
+fn work_refusal(picture: &[u16], s: Settings, scratch: usize, list: usize) -> Result<(), Refusal>
     requires { (s.across ≤ 16) × (s.down ≤ 16) }
-    ensures { result ≡ first (listed_rows picture.now s scratch list) }
+    ensures { given result ≡ first (listed_rows picture.now s scratch list) }
 {
     if scratch < (film_settings::bins(s) as usize) {
-        return 12;
+        return Err(Refusal::ScratchShort);
     }
     if list < (2 * (s.across * s.down) as usize) {
-        return 32;
+        return Err(Refusal::ListShort);
     }
     if !base_range::all_within(picture, s.min, s.max) {
-        return 13;
+        return Err(Refusal::PixelOutside);
     }
-    0
+    Ok(())
 }
 
-// The first of the refusals 1 to 13, 31 and 32 that applies, else 0.
+// The first of the refusals 1 to 13, 31 and 32 that applies.
 fn refusal(
     width: u32,
     height: u32,
@@ -54,25 +43,11 @@ fn refusal(
     room: usize,
     scratch: usize,
     list: usize,
-) -> u32
-    ensures { result ≡ first (prepare_rows width height picture.now s room scratch list) }
+) -> Result<(), Refusal>
+    ensures { given result ≡ first (prepare_rows width height picture.now s room scratch list) }
 {
-    let shared = film_settings::shared(width, height, picture.len(), s, room);
-    if shared != 0 {
-        return shared;
-    }
+    film_settings::shared(width, height, picture.len(), s, room)?;
     work_refusal(picture, s, scratch, list)
-}
-
-// What prepare answers with a refusal.
-pub fn not_prepared(number: u32) -> Prepared
-    ensures { result ≡ prepared_not number }
-{
-    let kept = film_settings::no_record();
-    Prepared {
-        answer: Made::Refused(number),
-        kept,
-    }
 }
 
 // The mappings of a film in the map buffer, and what clipping each tile took in the list, with the record of what they were made for and the footer.
@@ -85,10 +60,10 @@ pub fn prepare(
     map: &mut [u16],
     scratch: &mut [u32],
     list: &mut [u64],
-) -> Prepared
-    ensures { prepare_leaves result map.new scratch.new list.new ≡ prepare_of film width height picture.now s map.old scratch.old list.old }
+) -> Result<Prepared, Refusal>
+    ensures { prepare_leaves (prepared_says result) map.new scratch.new list.new ≡ prepare_of film width height picture.now s map.old scratch.old list.old }
 {
-    let refused = refusal(
+    refusal(
         width,
         height,
         picture,
@@ -96,25 +71,14 @@ pub fn prepare(
         map.len(),
         scratch.len(),
         list.len(),
-    );
-    if refused != 0 {
-        return not_prepared(refused);
-    }
-    let clip = s.clip;
-    let foot = film_tiles::foot(width, height, s);
+    )?;
     let kept = film_settings::made_for(film, width, height, s);
-    let one = film_settings::clip_one(clip);
-    if one {
-        return Prepared {
-            answer: Made::Done(foot),
-            kept,
-        };
+    let footer = film_tiles::foot(width, height, s);
+    if film_settings::clip_one(s.clip) {
+        return Ok(Prepared { kept, footer });
     }
     film_tiles::map_tiles(picture, width, height, s, map, scratch, list);
-    Prepared {
-        answer: Made::Done(foot),
-        kept,
-    }
+    Ok(Prepared { kept, footer })
 }
 
 // The whole film rendered in place, with the mappings in the map buffer.
@@ -125,28 +89,24 @@ pub fn enhance(
     s: Settings,
     map: &mut [u16],
     scratch: &mut [u32],
-) -> Enhanced
-    ensures { enhance_leaves result picture.new map.new scratch.new ≡ enhance_of width height picture.old s map.old scratch.old }
+) -> Result<Footer, Refusal>
+    ensures { enhance_leaves (said result) picture.new map.new scratch.new ≡ enhance_of width height picture.old s map.old scratch.old }
 {
     // no list is lent, and none is too short: this one has two entries for each of 16 x 16 tiles
     let mut list = [0u64; 512];
-    let refused = refusal(
+    refusal(
         width,
         height,
         &picture[..],
         s,
         map.len(),
         scratch.len(),
-        512,
-    );
-    if refused != 0 {
-        return Enhanced::Refused(refused);
-    }
-    let clip = s.clip;
-    let foot = film_tiles::foot(width, height, s);
-    let unchanged = film_settings::clip_one(clip);
+        list.len(),
+    )?;
+    let footer = film_tiles::foot(width, height, s);
+    let unchanged = film_settings::clip_one(s.clip);
     if unchanged {
-        return Enhanced::Done(foot);
+        return Ok(footer);
     }
     film_tiles::map_tiles(&picture[..], width, height, s, map, scratch, &mut list);
     let whole = Window {
@@ -156,5 +116,5 @@ pub fn enhance(
         height,
     };
     pixel_render::render(picture, whole, width, height, s, map);
-    Enhanced::Done(foot)
+    Ok(footer)
 }

@@ -10,14 +10,13 @@ use lib.Dec.{ltb}
 use lib.ListN.{length, take}
 use borrow.Author.Tests.{lt-ltb, le-ltb, ltb-true, not-false}
 use Rattle.base_lists.specs.Lists.{all}
-use Rattle.base_rows.specs.Refuse.{first, unless, numbers_of, Numbered}
+use Rattle.base_rows.specs.Refuse.{first, unless, numbers_of, Numbered, accepted, refused}
 use Rattle.base_rows.proofs.Walk.{front, behind, first_both, first_none, each_append, unless_refused}
 use Rattle.film_sets.specs.declared.Room.{Room}
 use Rattle.film_sets.specs.Sets.{held, span_of, among, before, fit_rows, without_set_of, moved_down}
 use Rattle.film_sets.proofs.Holds.{length_held, among_before}
 use Rattle.film_sets.proofs.Finds.{span_next, span_most, span_whole}
 use Rattle.film_sets.proofs.Tables.{fit_numbered, fit_few, fit_forty}
-use Rattle.film_room.specs.declared.Dropped.TheVariants as Dropped
 use Rattle.film_room.specs.Room.{stored_rows, drop_rows, drop_leaves, dropped_of, drop_of}
 
 -- the number of 38's row, and of both tables, is above 0
@@ -34,10 +33,6 @@ pub there : (room : Room) (film : ℕ) → among film (held room) ≡ ltb (befor
 there room film = among_before film (held room) ∙ ap (ltb (before film (held room))) (length_held room)
 
 module _ (room : Room) (film size : ℕ) {fit : ℕ} (e : fit ≡ first (fit_rows room size)) where
-  pub drop_fit : (fit ≡ 0 → ⊥) → fit ≡ first (drop_rows room film size)
-  unfolding drop_rows
-  drop_fit z = front (fit_rows room size) (stored_rows film room) e z
-
   module _ (z : fit ≡ 0) {i : ℕ} (q : i ≡ before film (held room)) where
     pub drop_here : i < room.count → 0 ≡ first (drop_rows room film size)
     unfolding drop_rows stored_rows first
@@ -91,15 +86,15 @@ drop_moves {room} {film} {size} known {i} q p o n =
 -- ---- the endings
 
 module _ (room : Room) (film : ℕ) (m : List ℕ) {r : ℕ} (e : r ≡ first (drop_rows room film (length m))) where
-  pub drop_refused : (r ≡ 0 → ⊥) → drop_leaves (Dropped.Refused r) room m ≡ drop_of room film m
+  pub drop_refused : (r ≡ 0 → ⊥) → drop_leaves (refused r) room m ≡ drop_of room film m
   unfolding drop_of
   drop_refused z =
-      unless_refused r (λ n. drop_leaves (Dropped.Refused n) room m) (dropped_of room film m) z
-      ∙ ap (λ k. unless k (λ n. drop_leaves (Dropped.Refused n) room m) (dropped_of room film m)) e
+      unless_refused r (λ n. drop_leaves (refused n) room m) (dropped_of room film m) z
+      ∙ ap (λ k. unless k (λ n. drop_leaves (refused n) room m) (dropped_of room film m)) e
 
   pub drop_done : r ≡ 0 → {i a b c : ℕ} {left : Room} {m' : List ℕ} → i ≡ before film (held room) → a ≡ span_of (take i (held room)) → b ≡ span_of (take (i + 1) (held room))
-      → c ≡ span_of (take room.count (held room)) → m' ≡ moved_down m a b c → left ≡ without_set_of room i → drop_leaves Dropped.Done left m' ≡ drop_of room film m
+      → c ≡ span_of (take room.count (held room)) → m' ≡ moved_down m a b c → left ≡ without_set_of room i → drop_leaves (accepted tt) left m' ≡ drop_of room film m
   unfolding drop_of dropped_of
   drop_done z {i} {a} {b} {c} q p o n t s =
       rw (s, t, p, o, n, span_whole room room.count (omega arith), q)
-      (ap (λ k. unless k (λ x. drop_leaves (Dropped.Refused x) room m) (dropped_of room film m)) (sym z ∙ e))
+      (ap (λ k. unless k (λ x. drop_leaves (refused x) room m) (dropped_of room film m)) (sym z ∙ e))

@@ -11,7 +11,7 @@ use lib.ListN.{length, take, drop, get_or, length-drop}
 use lib.Seq.{length-take-le}
 use Rattle.base_lists.specs.Lists.{all}
 use Rattle.base_lists.proofs.Tabs.{get_or_tab}
-use Rattle.base_rows.specs.Refuse.{Row, first, unless, numbers_of, Each}
+use Rattle.base_rows.specs.Refuse.{Row, first, unless, numbers_of, Each, Says, accepted, refused}
 use Rattle.base_rows.proofs.Walk.{front, behind, first_both, each_append, unless_refused}
 use Rattle.film_settings.specs.declared.Settings.{Settings}
 use Rattle.film_settings.specs.declared.MapRecord.{MapRecord}
@@ -22,7 +22,6 @@ use Rattle.film_settings.proofs.Ready.{setting_numbers, setting_numbered, shared
 use Rattle.film_record.specs.Held.{record_rows, window_rows}
 use Rattle.film_record.proofs.Tables.{window_numbers, record_numbered}
 use Rattle.film_record.proofs.Laws.{own_record}
-use Rattle.film_draw.specs.declared.Drawn.{Drawn}
 use Rattle.film_draw.specs.Draw.{pixel_rows, draw_rows, drawn_pixels, DrawOut, draw_leaves, draw_of}
 use Rattle.film_draw.proofs.Tables.{pixel_numbers, draw_rows_lem}
 use Rattle.film_draw.proofs.Like.{pixel_kept, pixels_kept, draw_room}
@@ -76,7 +75,7 @@ module _ (room : Room) (film w h : ℕ) (pic : List ℕ) (s : Settings) (win : W
   pub show_is_draw : show_of room film w h pic s win m out ≡ draw_of film w h pic s (record_of film w h s) win part out
   unfolding show_of draw_of
   show_is_draw =
-      ap (λ n. unless n (λ k. draw_leaves (Drawn.Refused k) out) (draw_leaves Drawn.Done (drawn_pixels w h pic s win part))) (show_rows_lem ∙ sym draw_rows_so)
+      ap (λ n. unless n (λ k. draw_leaves (refused k) out) (draw_leaves (accepted tt) (drawn_pixels w h pic s win part))) (show_rows_lem ∙ sym draw_rows_so)
 
   -- "as if it alone had been prepared": any buffer that begins with the same entries, and at the factor 1.0 any that is long enough
   pub show_as_alone : (m₂ : List ℕ) → entries_of s ≤ length m₂ → (clip_one_of s.clip ≡ false → take (entries_of s) part ≡ take (entries_of s) m₂)
@@ -87,7 +86,7 @@ module _ (room : Room) (film w h : ℕ) (pic : List ℕ) (s : Settings) (win : W
 
 module _ (room : Room) (film w h : ℕ) (pic : List ℕ) (s : Settings) (win : Window) (m out : List ℕ) where
   abbrev shown : ℕ → DrawOut
-  shown n = unless n (λ k. draw_leaves (Drawn.Refused k) out) (draw_leaves Drawn.Done (drawn_pixels w h pic s win (part_of film (held room) m)))
+  shown n = unless n (λ k. draw_leaves (refused k) out) (draw_leaves (accepted tt) (drawn_pixels w h pic s win (part_of film (held room) m)))
 
   abbrev behind_set : List Row
   behind_set = window_rows w h win (length out) ++ pixel_rows w pic s win (part_of film (held room) m)
@@ -96,19 +95,19 @@ module _ (room : Room) (film w h : ℕ) (pic : List ℕ) (s : Settings) (win : W
       ≡ first (drop_rows room film (length m) ++ (setting_rows w h (length pic) s ++ (set_rows w h s (set_of film (held room)) ++ behind_set)))
   show_rows_so = ap first (show_parts room film w h pic s win m (length out))
 
-  ends_no : {x : ℕ} → x ≡ first (show_rows room film w h pic s win m (length out)) → (x ≡ 0 → ⊥) → draw_leaves (Drawn.Refused x) out ≡ show_of room film w h pic s win m out
+  ends_no : {x : ℕ} → x ≡ first (show_rows room film w h pic s win m (length out)) → (x ≡ 0 → ⊥) → draw_leaves (refused x) out ≡ show_of room film w h pic s win m out
   unfolding show_of
-  ends_no {x} e z = unless_refused x (λ k. draw_leaves (Drawn.Refused k) out) (draw_leaves Drawn.Done (drawn_pixels w h pic s win (part_of film (held room) m))) z ∙ ap shown e
+  ends_no {x} e z = unless_refused x (λ k. draw_leaves (refused k) out) (draw_leaves (accepted tt) (drawn_pixels w h pic s win (part_of film (held room) m))) z ∙ ap shown e
 
   module _ {r : ℕ} (e : r ≡ first (drop_rows room film (length m))) where
-    pub show_stored : (r ≡ 0 → ⊥) → draw_leaves (Drawn.Refused r) out ≡ show_of room film w h pic s win m out
+    pub show_stored : (r ≡ 0 → ⊥) → draw_leaves (refused r) out ≡ show_of room film w h pic s win m out
     show_stored z = ends_no (front (drop_rows room film (length m)) _ e z ∙ sym show_rows_so) z
 
     module _ (z : r ≡ 0) {o : ℕ} (q : o ≡ first (setting_rows w h (length pic) s)) where
-      pub show_own : (o ≡ 0 → ⊥) → draw_leaves (Drawn.Refused o) out ≡ show_of room film w h pic s win m out
+      pub show_own : (o ≡ 0 → ⊥) → draw_leaves (refused o) out ≡ show_of room film w h pic s win m out
       show_own y = ends_no (behind (drop_rows room film (length m)) _ (drop_numbered room film (length m)) e z (front (setting_rows w h (length pic) s) _ q y) ∙ sym show_rows_so) y
 
-      pub show_set : o ≡ 0 → {x : ℕ} → x ≡ first (set_rows w h s (set_of film (held room))) → (x ≡ 0 → ⊥) → draw_leaves (Drawn.Refused x) out ≡ show_of room film w h pic s win m out
+      pub show_set : o ≡ 0 → {x : ℕ} → x ≡ first (set_rows w h s (set_of film (held room))) → (x ≡ 0 → ⊥) → draw_leaves (refused x) out ≡ show_of room film w h pic s win m out
       show_set y {x} f u =
           ends_no (behind (drop_rows room film (length m)) _ (drop_numbered room film (length m)) e z (behind (setting_rows w h (length pic) s) _ (setting_numbered w h (length pic) s) q y (front (set_rows w h s (set_of film (held room))) behind_set f u)) ∙ sym show_rows_so) u
 
@@ -148,7 +147,7 @@ module _ (room : Room) (film w h : ℕ) (pic : List ℕ) (s : Settings) (win : W
   judged : x ≡ first (set_rows w h s (set_of film (held room)))
   judged = f ∙ ap (λ k. first (set_rows w h s k)) (set_own known p g)
 
-  pub show_differs : (x ≡ 0 → ⊥) → draw_leaves (Drawn.Refused x) out ≡ show_of room film w h pic s win m out
+  pub show_differs : (x ≡ 0 → ⊥) → draw_leaves (refused x) out ≡ show_of room film w h pic s win m out
   show_differs u = show_set room film w h pic s win m out e z q y judged u
 
   module _ (u : x ≡ 0) {a b : ℕ} (at : a ≡ span_of (take i (held room))) (to : b ≡ span_of (take (i + 1) (held room))) where
@@ -159,7 +158,7 @@ module _ (room : Room) (film w h : ℕ) (pic : List ℕ) (s : Settings) (win : W
         let like = set_same w h s (set_of film (held room)) (sym judged ∙ u) in
         rw (← part_own known p at to m, like, ← size) (omega (arith, length-take-le (b - a) (drop a m) (omega (arith, length-drop a m, lies.0, lies.1))))
 
-    pub show_done : {k : MapRecord} → k ≡ record_of film w h s → {answer : Drawn} {out' : List ℕ}
+    pub show_done : {k : MapRecord} → k ≡ record_of film w h s → {answer : Says (Unit {0})} {out' : List ℕ}
         → draw_leaves answer out' ≡ draw_of film w h pic s k win (take (b - a) (drop a m)) out → draw_leaves answer out' ≡ show_of room film w h pic s win m out
     unfolding drop_rows
     show_done {k} made drew =
@@ -222,4 +221,4 @@ unfolding show_of show_rows
 show_part room film w h pic s win m m' out l e =
     ap₂ (λ n p. unless (first (fit_rows room n
     ++ (stored_rows film room ++ (setting_rows w h (length pic) s ++ (set_rows w h s (set_of film (held room)) ++ (window_rows w h win (length out) ++ pixel_rows w pic s win p))))))
-    (λ k. draw_leaves (Drawn.Refused k) out) (draw_leaves Drawn.Done (drawn_pixels w h pic s win p))) l e
+    (λ k. draw_leaves (refused k) out) (draw_leaves (accepted tt) (drawn_pixels w h pic s win p))) l e

@@ -10,17 +10,15 @@ use lib.Dec.{ltb, eqb}
 use lib.ListN.{length, take, drop, length-drop, take-append-drop}
 use borrow.Author.Tests.{lt-ltb, le-ltb, ltb-false, eq-eqb, ne_eqb, eqb-false}
 use Rattle.base_lists.specs.Lists.{all}
-use Rattle.base_rows.specs.Refuse.{Row, first, unless, numbers_of, Numbered}
+use Rattle.base_rows.specs.Refuse.{Row, first, unless, numbers_of, Numbered, Says, accepted, refused}
 use Rattle.base_rows.proofs.Walk.{front, behind, first_both, first_none, each_append, unless_refused}
 use Rattle.film_settings.specs.declared.Settings.{Settings}
 use Rattle.film_settings.specs.declared.Footer.{Footer}
 use Rattle.film_tiles.specs.Tiles.{foot_of}
-use Rattle.film_prepare.specs.declared.Prepared.{Prepared}
-use Rattle.film_prepare.specs.declared.Made.{Made}
-use Rattle.film_prepare.specs.Prepare.{prepare_rows, PrepareOut, prepare_leaves, prepared_not, prepared_of, prepare_of}
+use Rattle.film_settings.specs.declared.MapRecord.{MapRecord}
+use Rattle.film_prepare.specs.Prepare.{prepare_rows, PrepareOut, prepare_leaves, prepared_of, prepare_of}
 use Rattle.film_sets.specs.declared.Room.{Room}
 use Rattle.film_sets.specs.Sets.{set_for_of, held, span_of, among, before, fit_rows, with_set_of}
-use Rattle.film_room.specs.declared.Stored.{Stored}
 use Rattle.film_room.specs.Room.{place_rows, enter_rows, store_rows, StoreOut, store_leaves, stored_of, store_of, instead}
 use Rattle.film_sets.proofs.Tables.{fit_numbered, fit_few, fit_forty}
 use Rattle.film_room.proofs.Drops.{there}
@@ -33,10 +31,6 @@ unfolding enter_rows place_rows all numbers_of
 enter_numbered room film size = each_append (ltb 0) (fit_rows room size) (place_rows film room) (fit_numbered room size) refl
 
 module _ (room : Room) (film size : ℕ) {fit : ℕ} (e : fit ≡ first (fit_rows room size)) where
-  pub enter_fit : (fit ≡ 0 → ⊥) → fit ≡ first (enter_rows room film size)
-  unfolding enter_rows
-  enter_fit z = front (fit_rows room size) (place_rows film room) e z
-
   module _ (z : fit ≡ 0) {i : ℕ} (q : i ≡ before film (held room)) where
     pub enter_35 : i < room.count → 35 ≡ first (enter_rows room film size)
     unfolding enter_rows place_rows first
@@ -102,13 +96,13 @@ store_free room film w h pic s size scratch list fits new few good =
 
 -- ---- the endings
 
-abbrev foot_in : Made → Footer → Footer
-foot_in (Made.Done foot) d = foot
-foot_in (Made.Refused n) d = d
+abbrev foot_in : Says (MapRecord × Footer) → Footer → Footer
+foot_in (accepted v) d = v.1
+foot_in (refused n) d = d
 
-abbrev done_in : Made → ℕ
-done_in (Made.Done foot) = 1
-done_in (Made.Refused n) = 0
+abbrev done_in : Says (MapRecord × Footer) → ℕ
+done_in (accepted v) = 1
+done_in (refused n) = 0
 
 told_some : (k : ℕ) → cond (eqb (suc k) 11) 37 (suc k) ≡ 0 → ⊥
 told_some k = go (eqb (suc k) 11)
@@ -117,21 +111,21 @@ told_some k = go (eqb (suc k) 11)
     go true q = omega (arith, q)
     go false q = omega (arith, q)
 
-abbrev number_in : Made → ℕ
-number_in (Made.Done foot) = 0
-number_in (Made.Refused n) = n
+abbrev number_in : Says (MapRecord × Footer) → ℕ
+number_in (accepted v) = 0
+number_in (refused n) = n
 
 module _ (room : Room) (film w h : ℕ) (pic : List ℕ) (s : Settings) (m t ls : List ℕ) {r : ℕ} (e : r ≡ first (enter_rows room film (length m))) where
   abbrev outcome : ℕ → StoreOut
-  outcome n = unless n (λ k. store_leaves (Stored.Refused k) room m t ls) (stored_of room film w h pic s m t ls)
+  outcome n = unless n (λ k. store_leaves (refused k) room m t ls) (stored_of room film w h pic s m t ls)
 
-  pub store_no : (r ≡ 0 → ⊥) → store_leaves (Stored.Refused r) room m t ls ≡ store_of room film w h pic s m t ls
+  pub store_no : (r ≡ 0 → ⊥) → store_leaves (refused r) room m t ls ≡ store_of room film w h pic s m t ls
   unfolding store_of store_rows
   store_no z =
-      unless_refused r (λ n. store_leaves (Stored.Refused n) room m t ls) (stored_of room film w h pic s m t ls) z
+      unless_refused r (λ n. store_leaves (refused n) room m t ls) (stored_of room film w h pic s m t ls) z
       ∙ ap outcome (front (enter_rows room film (length m)) _ e z)
 
-  module _ (z : r ≡ 0) {a : ℕ} (at : a ≡ span_of (held room)) {p : Prepared} {mp t' ls' : List ℕ} (made : prepare_leaves p mp t' ls' ≡ prepare_of film w h pic s (drop a m) t ls) where
+  module _ (z : r ≡ 0) {a : ℕ} (at : a ≡ span_of (held room)) {p : Says (MapRecord × Footer)} {mp t' ls' : List ℕ} (made : prepare_leaves p mp t' ls' ≡ prepare_of film w h pic s (drop a m) t ls) where
     abbrev n : ℕ
     n = first (prepare_rows w h pic s (length (drop a m)) (length t) (length ls))
 
@@ -148,31 +142,31 @@ module _ (room : Room) (film w h : ℕ) (pic : List ℕ) (s : Settings) (m t ls 
     unfolding store_of
     stores = ap outcome rows
 
-    ends : (k : ℕ) → n ≡ k → prepare_leaves p mp t' ls' ≡ unless k (λ j. prepare_leaves (prepared_not j) (drop a m) t ls) (prepared_of film w h pic s (drop a m) t ls)
+    ends : (k : ℕ) → n ≡ k → prepare_leaves p mp t' ls' ≡ unless k (λ j. prepare_leaves (refused j) (drop a m) t ls) (prepared_of film w h pic s (drop a m) t ls)
     unfolding prepare_of
-    ends k q = made ∙ ap (λ j. unless j (λ j. prepare_leaves (prepared_not j) (drop a m) t ls) (prepared_of film w h pic s (drop a m) t ls)) q
+    ends k q = made ∙ ap (λ j. unless j (λ j. prepare_leaves (refused j) (drop a m) t ls) (prepared_of film w h pic s (drop a m) t ls)) q
 
-    pub store_done : {foot : Footer} {next : Room} {m' : List ℕ} → p.answer ≡ Made.Done foot → next ≡ with_set_of room (set_for_of film w h s) → m' ≡ take a m ++ mp
-        → store_leaves (Stored.Done foot) next m' t' ls' ≡ store_of room film w h pic s m t ls
+    pub store_done : {k : MapRecord} {foot : Footer} {next : Room} {m' : List ℕ} → p ≡ accepted (k, foot) → next ≡ with_set_of room (set_for_of film w h s) → m' ≡ take a m ++ mp
+        → store_leaves (accepted foot) next m' t' ls' ≡ store_of room film w h pic s m t ls
     unfolding stored_of prepared_of
-    store_done {foot} {next} {m'} done is back = go n refl
+    store_done {k} {foot} {next} {m'} done is back = go n refl
       where
-        go : (k : ℕ) → n ≡ k → store_leaves (Stored.Done foot) next m' t' ls' ≡ store_of room film w h pic s m t ls
+        go : (k : ℕ) → n ≡ k → store_leaves (accepted foot) next m' t' ls' ≡ store_of room film w h pic s m t ls
         go zero q =
             let x = ends 0 q in
-            let f : foot ≡ foot_of w h s = ap (λ z. foot_in z foot) (sym done) ∙ ap (λ (y : PrepareOut). foot_in y.answer.answer foot) x in
+            let f : foot ≡ foot_of w h s = ap (λ z. foot_in z foot) (sym done) ∙ ap (λ (y : PrepareOut). foot_in y.answer foot) x in
             rw (is, back, f, ap (λ (y : PrepareOut). y.map) x, ap (λ (y : PrepareOut). y.scratch) x, ap (λ (y : PrepareOut). y.list) x, at) (sym (stores ∙ ap (λ j. outcome (cond (eqb j 11) 37 j)) q))
-        go (suc k) q = absurd (omega (arith, ap done_in (sym done) ∙ ap (λ (y : PrepareOut). done_in y.answer.answer) (ends (suc k) q)))
+        go (suc k) q = absurd (omega (arith, ap done_in (sym done) ∙ ap (λ (y : PrepareOut). done_in y.answer) (ends (suc k) q)))
 
-    pub store_not : {j told : ℕ} {m' : List ℕ} → p.answer ≡ Made.Refused j → told ≡ cond (eqb j 11) 37 j → m' ≡ take a m ++ mp
-        → store_leaves (Stored.Refused told) room m' t' ls' ≡ store_of room film w h pic s m t ls
+    pub store_not : {j told : ℕ} {m' : List ℕ} → p ≡ refused j → told ≡ cond (eqb j 11) 37 j → m' ≡ take a m ++ mp
+        → store_leaves (refused told) room m' t' ls' ≡ store_of room film w h pic s m t ls
     unfolding prepared_of
-    store_not {j} {told} {m'} refused is back = go n refl
+    store_not {j} {told} {m'} gave is back = go n refl
       where
-        go : (k : ℕ) → n ≡ k → store_leaves (Stored.Refused told) room m' t' ls' ≡ store_of room film w h pic s m t ls
-        go zero q = absurd (omega (arith, ap done_in (sym refused) ∙ ap (λ (y : PrepareOut). done_in y.answer.answer) (ends 0 q)))
+        go : (k : ℕ) → n ≡ k → store_leaves (refused told) room m' t' ls' ≡ store_of room film w h pic s m t ls
+        go zero q = absurd (omega (arith, ap done_in (sym gave) ∙ ap (λ (y : PrepareOut). done_in y.answer) (ends 0 q)))
         go (suc k) q =
             let x = ends (suc k) q in
-            let f : j ≡ suc k = ap number_in (sym refused) ∙ ap (λ (y : PrepareOut). number_in y.answer.answer) x in
+            let f : j ≡ suc k = ap number_in (sym gave) ∙ ap (λ (y : PrepareOut). number_in y.answer) x in
             rw (is, back, ap (λ (y : PrepareOut). y.map) x, ap (λ (y : PrepareOut). y.scratch) x, ap (λ (y : PrepareOut). y.list) x, take-append-drop a m, f)
-            (unless_refused (cond (eqb (suc k) 11) 37 (suc k)) (λ n. store_leaves (Stored.Refused n) room m t ls) (stored_of room film w h pic s m t ls) (told_some k) ∙ sym (stores ∙ ap (λ j. outcome (cond (eqb j 11) 37 j)) q))
+            (unless_refused (cond (eqb (suc k) 11) 37 (suc k)) (λ n. store_leaves (refused n) room m t ls) (stored_of room film w h pic s m t ls) (told_some k) ∙ sym (stores ∙ ap (λ j. outcome (cond (eqb j 11) 37 j)) q))

@@ -10,13 +10,10 @@ use Rattle.film_settings.specs.Settings.{bins_of, same_clip_of, setting_rows}
 use Rattle.film_tiles.specs.Tiles.{foot_of}
 use Rattle.film_prepare.specs.Prepare.{prepare_rows, PrepareOut, prepared_of}
 use Rattle.film_record.specs.Held.{sides_rows, kept_rows, edition_rows, window_rows}
-use Rattle.film_draw.specs.declared.Drawn.TheVariants as Drawn
 use Rattle.film_draw.specs.Draw.{pixel_rows, drawn_pixels, DrawOut, draw_leaves}
 use Rattle.film_sets.specs.declared.Set.{Set}
 use Rattle.film_sets.specs.declared.Room.{Room}
 use Rattle.film_sets.specs.Sets.{set_for_of, held, span_of, among, before, set_of, start_of, part_of, fit_rows, with_set_of, without_set_of, moved_down}
-use Rattle.film_room.specs.declared.Stored.{Stored}
-use Rattle.film_room.specs.declared.Dropped.{Dropped}
 
 -- ---- store
 
@@ -38,20 +35,15 @@ unfoldable pub store_rows : (room : Room) (film w h : ℕ) (pic : List ℕ) (s :
 store_rows room film w h pic s size scratch list =
     enter_rows room film size ++ instead 11 37 (prepare_rows w h pic s (size - span_of (held room)) scratch list)
 
--- document 01's number of store's answers: its footer, or a refusal
-unfoldable pub stored_says : Stored → Says Footer
-stored_says (Stored.Done foot) = accepted foot
-stored_says (Stored.Refused n) = refused n
-
--- what store leaves: its answer, the room record, the buffer, the scratch and the list
+-- what store leaves: its answer, which is its footer or a refusal, the room record, the buffer, the scratch and the list
 pub record StoreOut : Type 0 where
-  pub answer : Stored
+  pub answer : Says Footer
   pub room : Room
   pub map : List ℕ
   pub scratch : List ℕ
   pub list : List ℕ
 
-abbrev pub store_leaves : Stored → Room → List ℕ → List ℕ → List ℕ → StoreOut
+abbrev pub store_leaves : Says Footer → Room → List ℕ → List ℕ → List ℕ → StoreOut
 store_leaves answer room m t n = record { answer = answer; room = room; map = m; scratch = t; list = n }
 
 -- the film's mappings behind the last set, all else as prepare leaves it, and its set behind the last in the record
@@ -59,11 +51,11 @@ unfoldable pub stored_of : (room : Room) (film w h : ℕ) (pic : List ℕ) (s : 
 stored_of room film w h pic s m t n =
     let a = span_of (held room) in
     let e : PrepareOut = prepared_of film w h pic s (drop a m) t n in
-    store_leaves (Stored.Done (foot_of w h s)) (with_set_of room (set_for_of film w h s)) (take a m ++ e.map) e.scratch e.list
+    store_leaves (accepted (foot_of w h s)) (with_set_of room (set_for_of film w h s)) (take a m ++ e.map) e.scratch e.list
 
 unfoldable pub store_of : (room : Room) (film w h : ℕ) (pic : List ℕ) (s : Settings) (m t n : List ℕ) → StoreOut
 store_of room film w h pic s m t n =
-    unless (first (store_rows room film w h pic s (length m) (length t) (length n))) (λ k. store_leaves (Stored.Refused k) room m t n) (stored_of room film w h pic s m t n)
+    unless (first (store_rows room film w h pic s (length m) (length t) (length n))) (λ k. store_leaves (refused k) room m t n) (stored_of room film w h pic s m t n)
 
 -- ---- draw
 
@@ -99,26 +91,21 @@ show_rows room film w h pic s win m size =
 -- "draws as if it alone had been prepared": by draw's own rule from the set's entries
 unfoldable pub show_of : (room : Room) (film w h : ℕ) (pic : List ℕ) (s : Settings) (win : Window) (m out : List ℕ) → DrawOut
 show_of room film w h pic s win m out =
-    unless (first (show_rows room film w h pic s win m (length out))) (λ n. draw_leaves (Drawn.Refused n) out)
-    (draw_leaves Drawn.Done (drawn_pixels w h pic s win (part_of film (held room) m)))
+    unless (first (show_rows room film w h pic s win m (length out))) (λ n. draw_leaves (refused n) out)
+    (draw_leaves (accepted tt) (drawn_pixels w h pic s win (part_of film (held room) m)))
 
 -- ---- drop
 
 unfoldable pub drop_rows : Room → ℕ → ℕ → List Row
 drop_rows room film size = fit_rows room size ++ stored_rows film room
 
--- document 01's number of drop's answers: none where it dropped, or a refusal
-unfoldable pub dropped_says : Dropped → Says (Unit {0})
-dropped_says Dropped.Done = accepted tt
-dropped_says (Dropped.Refused n) = refused n
-
--- what drop leaves: its answer, the room record and the buffer
+-- what drop leaves: its answer, which hands back no value or is a refusal, the room record and the buffer
 pub record DropOut : Type 0 where
-  pub answer : Dropped
+  pub answer : Says (Unit {0})
   pub room : Room
   pub map : List ℕ
 
-abbrev pub drop_leaves : Dropped → Room → List ℕ → DropOut
+abbrev pub drop_leaves : Says (Unit {0}) → Room → List ℕ → DropOut
 drop_leaves answer room m = record { answer = answer; room = room; map = m }
 
 -- "on a drop the later sets move down"
@@ -126,8 +113,8 @@ unfoldable pub dropped_of : Room → ℕ → List ℕ → DropOut
 dropped_of room film m =
     let rs = held room in
     let i = before film rs in
-    drop_leaves Dropped.Done (without_set_of room i) (moved_down m (start_of film rs) (span_of (take (i + 1) rs)) (span_of rs))
+    drop_leaves (accepted tt) (without_set_of room i) (moved_down m (start_of film rs) (span_of (take (i + 1) rs)) (span_of rs))
 
 unfoldable pub drop_of : Room → ℕ → List ℕ → DropOut
 drop_of room film m =
-    unless (first (drop_rows room film (length m))) (λ n. drop_leaves (Dropped.Refused n) room m) (dropped_of room film m)
+    unless (first (drop_rows room film (length m))) (λ n. drop_leaves (refused n) room m) (dropped_of room film m)

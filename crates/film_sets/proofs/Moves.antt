@@ -1,57 +1,24 @@
 -- Entries that move down, the lowest first: what was written is behind no entry that is still to be read.
 -- Assumes nothing.
-use Prim.Native.Nat.{ℕ, suc, ◌+◌, ◌-◌, ◌≤◌, ◌<◌}
-use mathlib.Core.List.{List, [], ◌∷◌, ◌++◌, append-nil}
+use Prim.Native.Nat.{ℕ, ◌+◌, ◌-◌, ◌≤◌}
+use mathlib.Core.List.{List, ◌++◌, append_assoc}
 use mathlib.Core.Path.{◌≡◌, refl, sym, ap, ap₂, ◌∙◌}
 use native.Mathlib.Omega.{arith}
-use lib.ListN.{length, take, drop, get_or, set, length-drop, drop_of_length-le}
-use lib.Seq.{length-take-le, take-suc, take-add, drop-drop, get_or-drop}
-use borrow.Rule.Slice.PartMut.{put_mid}
-use Rattle.base_lists.specs.Lists.{onto, over}
+use lib.ListN.{length, take, drop, length-drop}
+use lib.Seq.{length-take-le, take-add, drop-drop}
+use Rattle.std.specs.List.{copy_within}
+use Rattle.base_lists.specs.Lists.{over}
 use Rattle.base_lists.proofs.Fills.{length_over}
-use Rattle.base_lists.proofs.Overs.{over_nil, over_step, over_over}
-use Rattle.base_lists.proofs.Parts.{over_front, over_here, over_rest, over_later, over_behind_at}
+use Rattle.base_lists.proofs.Overs.{over_nil, over_over}
+use Rattle.base_lists.proofs.Parts.{over_front, over_here, over_rest, over_later}
 use Rattle.film_sets.specs.Sets.{moved_down}
 
--- the entries of m from `from` up to i, at `to`
-unfoldable pub moved_to : List ℕ → ℕ → ℕ → ℕ → List ℕ
-moved_to m to from i = over m to (take (i - from) (drop from m))
-
-pub moved_first : (m : List ℕ) (to from : ℕ) → m ≡ moved_to m to from from
-unfolding moved_to
-moved_first m to from =
-    let n : from - from ≡ 0 = omega arith in
-    sym (ap (λ k. over m to (take k (drop from m))) n ∙ over_nil m to)
-
-pub moved_next : (m : List ℕ) (to from end : ℕ) {s : List ℕ} {i : ℕ} → s ≡ moved_to m to from i → to ≤ from → from ≤ i → i < end → end ≤ length m
-    → set s (to + (i - from)) (get_or s i 0) ≡ moved_to m to from (i + 1)
-unfolding moved_to
-moved_next m to from end {s} {i} e t f l h =
-    over_step m ys to (get_or s i 0) e (ap (λ n. to + n) (sym long)) (omega arith)
-    ∙ ap (λ v. over m to (ys ++ (v ∷ []))) read
-    ∙ ap (over m to) (sym more)
-  where
-    ys : List ℕ
-    ys = take (i - from) (drop from m)
-
-    long : length ys ≡ i - from
-    long = length-take-le (i - from) (drop from m) (omega (arith, length-drop from m))
-
-    read : get_or s i 0 ≡ get_or (drop from m) (i - from) 0
-    read =
-        let n : from + (i - from) ≡ i = omega arith in
-        ap (λ z. get_or z i 0) e ∙ over_behind_at m ys to i (omega (arith, long)) (omega (arith, long)) ∙ ap (λ k. get_or m k 0) (sym n) ∙ sym (get_or-drop from m (i - from) 0)
-
-    more : take (i + 1 - from) (drop from m) ≡ ys ++ (get_or (drop from m) (i - from) 0 ∷ [])
-    more =
-        let n : i + 1 - from ≡ suc (i - from) = omega arith in
-        ap (λ k. take k (drop from m)) n ∙ take-suc (drop from m) (i - from) 0 (omega (arith, length-drop from m))
-
-pub moved_end : (m : List ℕ) (to from end : ℕ) {s : List ℕ} {i : ℕ} → s ≡ moved_to m to from i → i ≤ end → end ≤ i → s ≡ moved_down m to from end
-unfolding moved_to moved_down
-moved_end m to from end {s} {i} e h l =
-    let n : i ≡ end = omega arith in
-    e ∙ ap (λ k. over m to (take (k - from) (drop from m))) n
+-- what `copy_within` moves
+within_moved : (s : List ℕ) (i e to : ℕ) → i ≤ e → e ≤ length s → copy_within s i e to ≡ moved_down s to i e
+unfolding moved_down over
+within_moved s i e to l h =
+    append_assoc (take to s) (take (e - i) (drop i s)) _
+    ∙ ap (λ n. take to s ++ (take (e - i) (drop i s) ++ drop (to + n) s)) (sym (length-take-le (e - i) (drop i s) (omega (arith, length-drop i s))))
 
 -- ---- more of them behind those that were moved
 
@@ -90,32 +57,11 @@ moved_on m to from end {s} {t} {i} e d f l h moved =
         ∙ take-add (i - from) (end - i) (drop from m)
         ∙ ap (λ z. ys ++ take (end - i) z) (drop-drop (i - from) from m ∙ ap (λ j. drop j m) q)
 
--- a block that was copied to a place of its own, b as lent, and from there
-pub moved_block : (m b : List ℕ) (to from : ℕ) {bs p : List ℕ} → bs ≡ onto b (take (from + 64 - from) (drop from m)) → p ≡ onto (take (to + 64 - to) (drop to m)) bs
-    → length b ≡ 64 → to ≤ from → from + 64 ≤ length m → put_mid to (to + 64 - to) m p ≡ moved_down m to from (from + 64)
-unfolding moved_down over onto
-moved_block m b to from {bs} {p} first second l d h =
-    ap₂ (λ x z. take to m ++ (x ++ z)) laid (drop-drop (to + 64 - to) to m ∙ ap (λ k. drop k m) n)
-  where
-    ys : List ℕ
-    ys = take (from + 64 - from) (drop from m)
-
-    long : length ys ≡ 64
-    long = length-take-le (from + 64 - from) (drop from m) (omega (arith, length-drop from m)) ∙ omega arith
-
-    filled : (place : List ℕ) → length place ≡ 64 → ys ++ drop (length ys) place ≡ ys
-    filled place q =
-        let none : length place ≤ length ys = omega (arith, long) in
-        ap (λ z. ys ++ z) (drop_of_length-le place none) ∙ append-nil ys
-
-    room : length (take (to + 64 - to) (drop to m)) ≡ 64
-    room = length-take-le (to + 64 - to) (drop to m) (omega (arith, length-drop to m)) ∙ omega arith
-
-    laid : p ≡ ys
-    laid = second ∙ ap (λ z. onto (take (to + 64 - to) (drop to m)) z) (first ∙ filled b l) ∙ filled (take (to + 64 - to) (drop to m)) room
-
-    n : to + (to + 64 - to) ≡ to + length ys
-    n = omega (arith, long)
+-- a block more, or what is left
+pub moved_more : (m : List ℕ) (to from end : ℕ) {s t : List ℕ} {i : ℕ} → s ≡ moved_down m to from i → to ≤ from → from ≤ i → i ≤ end → end ≤ length m → length s ≡ length m
+    → t ≡ copy_within s i end (to + (i - from)) → t ≡ moved_down m to from end
+moved_more m to from end {s} {t} {i} e d f l h long moved =
+    moved_on m to from end e d f l h (moved ∙ within_moved s i end (to + (i - from)) l (omega (arith, long)))
 
 -- the length stays
 pub length_moved : (m : List ℕ) (to from end : ℕ) {s : List ℕ} → s ≡ moved_down m to from end → to ≤ from → from ≤ end → end ≤ length m → length s ≡ length m

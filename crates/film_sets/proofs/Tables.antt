@@ -1,37 +1,17 @@
--- The rows of 40, and where a set comes from that moves down a place: each way of the code.
+-- The rows of 40, and where a set comes from that moves down a place.
 -- Assumes nothing.
 use Prim.Native.Nat.{ℕ, ◌+◌, ◌≤◌, ◌<◌}
-use mathlib.Core.Bool.{Bool, true, false, cond, ◌&&◌, ◌||◌}
+use mathlib.Core.Bool.{false, ◌||◌}
 use mathlib.Core.List.{[], ◌∷◌}
 use mathlib.Core.Logic.{◌≢◌}
-use mathlib.Core.Path.{◌≡◌, refl, sym, ap, ap₂, ◌∙◌}
-use native.Mathlib.Omega.{arith}
-use lib.Dec.{leb, ltb, eqb}
-use borrow.Author.Tests.{ltb-true, ltb-false, lt-ltb, le-ltb, le-leb, lt-leb, eqb-true, ne_eqb}
+use mathlib.Core.Path.{◌≡◌, refl, sym, ap, ◌∙◌}
+use lib.Dec.{eqb}
+use borrow.Author.Tests.{ltb-false, lt-ltb, le-ltb, le-leb, lt-leb, eqb-true, ne_eqb}
 use Rattle.base_lists.specs.Lists.{all}
 use Rattle.base_rows.specs.Refuse.{first, numbers_of, Numbered}
 use Rattle.base_rows.proofs.Walk.{first_none, each_first}
 use Rattle.film_sets.specs.declared.Room.{Room}
 use Rattle.film_sets.specs.Sets.{held, span_of, twice, fit_rows, moved_from_of}
-
-module _ (room : Room) (size : ℕ) where
-  pub fit_many : 8 < room.count → 40 ≡ first (fit_rows room size)
-  unfolding first fit_rows
-  fit_many l = rw (lt-ltb 8 room.count l) refl
-
-  module _ (few : room.count ≤ 8) {t : Bool} (e : t ≡ twice (held room)) where
-    pub fit_twice : t ≡ true → 40 ≡ first (fit_rows room size)
-    unfolding first fit_rows
-    fit_twice q = rw (le-ltb 8 room.count few, ← e, q) refl
-
-    module _ (q : t ≡ false) {x : Bool} (f : x ≡ ltb size (span_of (held room))) where
-      pub fit_long : x ≡ true → 40 ≡ first (fit_rows room size)
-      unfolding first fit_rows
-      fit_long p = rw (le-ltb 8 room.count few, ← e, q, ← f, p) refl
-
-      pub fit_well : x ≡ false → 0 ≡ first (fit_rows room size)
-      unfolding first fit_rows
-      fit_well p = rw (le-ltb 8 room.count few, ← e, q, ← f, p) refl
 
 -- ---- what the rows of 40 tell
 
@@ -75,12 +55,3 @@ moved_comes i n k l q = rw (le-leb i k l, lt-ltb (k + 1) n q) refl
 
 pub moved_last : (i n k : ℕ) → i ≤ k → n ≤ k + 1 → k ≡ moved_from_of i n k
 moved_last i n k l q = rw (le-leb i k l, le-ltb (k + 1) n q) refl
-
--- the place that a set comes from is one of the eight
-pub moved_below : (i n k : ℕ) {j : ℕ} → k < 8 → n ≤ 8 → j ≡ moved_from_of i n k → j < 8
-moved_below i n k {j} l few e = go (leb i k) (ltb (k + 1) n) refl refl
-  where
-    go : (a c : Bool) → leb i k ≡ a → ltb (k + 1) n ≡ c → j < 8
-    go false c p q = omega (arith, e ∙ ap (λ (z : Bool). cond (z && ltb (k + 1) n) (k + 1) k) p)
-    go true false p q = omega (arith, e ∙ ap₂ (λ (y z : Bool). cond (y && z) (k + 1) k) p q)
-    go true true p q = omega (arith, e ∙ ap₂ (λ (y z : Bool). cond (y && z) (k + 1) k) p q, ltb-true (k + 1) n q)

@@ -1,11 +1,13 @@
 // The sets of a room: which films' mappings lie in one lent buffer, end to end, and moving them down where one is dropped.
 #![tactic(auto)]
 
-ghost use Rattle.std.specs.Prelude.{◌≡◌, ◌+◌, ◌-◌, ◌≤◌, ◌<◌, ltb, length, take, drop, get_or};
+ghost use Rattle.std.specs.Prelude.{◌≡◌, ◌≤◌, ◌<◌, ltb, length, take, get_or};
 ghost use Rattle.base_rows.specs.Refuse.{first};
+ghost use Rattle.base_rows.specs.Given.{given};
 ghost use Rattle.film_settings.specs.Settings.{entries_of};
-ghost use Rattle.film_sets.specs.Sets.{no_set_of, set_for_of, held, span_of, among, twice, before, fit_rows, with_set_of, moved_from_of, without_set_of, moved_down, empty_room};
+ghost use Rattle.film_sets.specs.Sets.{no_set_of, set_for_of, held, span_of, among, twice, before, fit_rows, with_set_of, without_set_of, moved_down, empty_room};
 
+use base_rows::Refusal;
 use film_settings::Settings;
 use tile_limit::{Clip, Edition};
 
@@ -25,53 +27,23 @@ pub struct Room {
     pub sets: [Set; 8],
 }
 
-// Moves 64 entries down by way of a place of their own, so that all are read before any is written.
-fn move_block(map: &mut [u16], to: usize, from: usize)
-    requires { (to ≤ from) × (from + 64 ≤ length map.old) }
-    ensures { map.new ≡ moved_down map.old to from (from + 64) }
-{
-    let mut block = [0; 64];
-    let e = from + 64;
-    base_lists::copy(&map[from..e], &mut block);
-    let f = to + 64;
-    base_lists::copy(&block, &mut map[to..f]);
-}
-
-// Moves whole blocks, the lowest first, and says up to where.
-fn move_blocks(map: &mut [u16], to: usize, from: usize, end: usize) -> usize
-    requires { (to ≤ from) × (from ≤ end) × (end ≤ length map.old) }
-    ensures { (from ≤ result) × (result ≤ end) × (map.new ≡ moved_down map.old to from result) }
-{
-    let mut i = from;
-    while end - i >= 64 {
-        move_block(map, to + (i - from), i);
-        i += 64;
-    }
-    i
-}
-
-// Moves one entry behind the other, the lowest first.
-fn move_each(map: &mut [u16], to: usize, from: usize, end: usize)
-    requires { (to ≤ from) × (from ≤ end) × (end ≤ length map.old) }
-    ensures { map.new ≡ moved_down map.old to from end }
-{
-    let mut i = from;
-    while i < end {
-        map[to + (i - from)] = map[i];
-        i += 1;
-    }
-}
-
-// Moves the entries from `from` up to `end` down to `to`; all others stay.
+// Moves the entries from `from` up to `end` down to `to`; all others stay. They go in blocks of 64, the lowest first: blocks that
+// do not overlap are copied at once.
 pub fn move_down(map: &mut [u16], to: usize, from: usize, end: usize)
     requires { (to ≤ from) × (from ≤ end) × (end ≤ length map.old) }
     ensures { map.new ≡ moved_down map.old to from end }
 {
-    let i = move_blocks(map, to, from, end);
-    move_each(map, to + (i - from), i, end);
+    let blocks = (end - from) / 64;
+    for b in 0..blocks {
+        let i = from + 64 * b;
+        map.copy_within(i..i + 64, to + (i - from));
+    }
+    let i = from + 64 * blocks;
+    map.copy_within(i..end, to + (i - from));
 }
 
 // The set of no film.
+#[tactic(auto, unfolding(crate::specs::Sets::no_set_of, film_settings::specs::Settings::no_settings))]
 fn no_set() -> Set
     ensures { result ≡ no_set_of }
 {
@@ -93,97 +65,82 @@ fn no_set() -> Set
 }
 
 // A room in which no film is stored.
+#[tactic(auto, unfolding(crate::specs::Sets::empty_room, base_lists::specs::Lists::tab))]
 pub fn empty() -> Room
     ensures { result ≡ empty_room }
 {
-    let none = no_set();
     Room {
         count: 0,
-        sets: [none; 8],
+        sets: [no_set(); 8],
     }
 }
 
 // The set at place i.
-pub fn at(room: Room, i: usize) -> Set
+pub fn at(room: &Room, i: usize) -> Set
     requires { i < 8 }
-    ensures { result ≡ get_or room.sets i no_set_of }
+    ensures { result ≡ get_or room.now.sets i no_set_of }
 {
-    let r = room.sets[i];
-    r
+    room.sets[i]
+}
+
+// The sets of the films that are stored.
+#[tactic(auto, using(crate::proofs::Finds::held_is))]
+fn stored(room: &Room) -> &[Set]
+    requires { room.now.count ≤ 8 }
+    ensures { result.now ≡ held room.now }
+{
+    &room.sets[..room.count as usize]
 }
 
 // How many sets stand before the one of this number.
-pub fn place_of(room: Room, number: u32) -> usize
-    requires { room.count ≤ 8 }
-    ensures { result ≡ before number (held room) }
+pub fn place_of(room: &Room, number: u32) -> usize
+    requires { room.now.count ≤ 8 }
+    ensures { result ≡ before number (held room.now) }
 {
-    let n = room.count as usize;
-    let mut i = 0;
-    while i < n {
-        let own = at(room, i);
-        if own.film == number {
-            return i;
-        }
-        i += 1;
-    }
-    i
+    let sets = stored(room);
+    sets.iter()
+        .position(|r| r.film == number)
+        .unwrap_or(sets.len())
 }
 
-// The room with one set more.
-pub fn with_set(room: Room, r: Set) -> Room
-    requires { room.count < 8 }
-    ensures { result ≡ with_set_of room r }
+// One set more.
+#[tactic(auto, unfolding(crate::specs::Sets::with_set_of))]
+pub fn with_set(room: &mut Room, r: Set)
+    requires { room.old.count < 8 }
+    ensures { room.new ≡ with_set_of room.old r }
 {
-    let mut next = room;
-    let i = room.count as usize;
-    next.sets[i] = r;
-    next.count = room.count + 1;
-    next
+    room.sets[room.count as usize] = r;
+    room.count += 1;
 }
 
 // The set of a film.
 pub fn set_for(film: u32, width: u32, height: u32, s: Settings) -> Set
     ensures { result ≡ set_for_of film width height s }
 {
-    let settings = film_settings::kept(s);
     Set {
         film,
         width,
         height,
-        settings,
+        settings: film_settings::kept(s),
     }
 }
 
-// Whether one of the sets from `from` on is of this number.
-fn among(room: Room, from: usize, number: u32) -> bool
-    requires { room.count ≤ 8 }
-    ensures { result ≡ among number (drop from (held room)) }
+// Whether one of the sets is of this number.
+fn among(sets: &[Set], number: u32) -> bool
+    ensures { result ≡ among number sets.now }
 {
-    let n = room.count as usize;
-    let mut i = from;
-    while i < n {
-        let r = at(room, i);
-        if r.film == number {
-            return true;
-        }
-        i += 1;
-    }
-    false
+    sets.iter().any(|r| r.film == number)
 }
 
 // Whether two sets are of one number.
-fn twice(room: Room) -> bool
-    requires { room.count ≤ 8 }
-    ensures { result ≡ twice (held room) }
+#[tactic(auto, using(crate::proofs::Finds::twice_end))]
+fn twice(sets: &[Set]) -> bool
+    ensures { result ≡ twice sets.now }
 {
-    let n = room.count as usize;
-    let mut i = 0;
-    while i < n {
-        let r = at(room, i);
-        if among(room, i + 1, r.film) {
+    for i in 0..sets.len() {
+        if among(&sets[i + 1..], sets[i].film) {
             return true;
         }
-        i += 1;
     }
     false
 }
@@ -193,101 +150,63 @@ fn entries(s: Settings, most: usize) -> usize
     requires { entries_of s ≤ most }
     ensures { result ≡ entries_of s }
 {
-    let tiles = (s.across as usize) * (s.down as usize);
-    tiles * (film_settings::bins(s) as usize)
+    (s.across as usize) * (s.down as usize) * (film_settings::bins(s) as usize)
 }
 
 // Whether a set of these settings takes more than `left` entries. No product of a record that nobody made overflows.
+#[tactic(auto, using(crate::proofs::Sizes::bins_some, crate::proofs::Sizes::larger_is))]
 fn larger(s: Settings, left: usize) -> bool
     ensures { result ≡ ltb left (entries_of s) }
 {
     let tiles = (s.across as usize) * (s.down as usize);
-    let bins = film_settings::bins(s) as usize;
-    left / bins < tiles
+    left / (film_settings::bins(s) as usize) < tiles
 }
 
 // The entries of the first n sets, end to end.
-pub fn span(room: Room, n: usize, size: usize) -> usize
-    requires { (room.count ≤ 8) × (n ≤ room.count) × (span_of (held room) ≤ size) }
-    ensures { result ≡ span_of (take n (held room)) }
+#[tactic(auto, using(crate::proofs::Finds::span_at, crate::proofs::Finds::span_most, crate::proofs::Finds::span_none))]
+pub fn span(room: &Room, n: usize, size: usize) -> usize
+    requires { (room.now.count ≤ 8) × (n ≤ room.now.count) × (span_of (held room.now) ≤ size) }
+    ensures { result ≡ span_of (take n (held room.now)) }
 {
     let mut sum = 0;
-    let mut i = 0;
-    while i < n {
-        let r = at(room, i);
-        let s = r.settings;
-        sum += entries(s, size);
-        i += 1;
+    for r in &stored(room)[..n] {
+        sum += entries(r.settings, size);
     }
     sum
 }
 
 // Whether the sets, end to end, exceed `size` entries.
-fn exceeds(room: Room, size: usize) -> bool
-    requires { room.count ≤ 8 }
-    ensures { result ≡ ltb size (span_of (held room)) }
+#[tactic(auto, using(crate::proofs::Finds::span_at, crate::proofs::Finds::span_most, crate::proofs::Finds::span_none))]
+fn exceeds(sets: &[Set], size: usize) -> bool
+    ensures { result ≡ ltb size (span_of sets.now) }
 {
-    let n = room.count as usize;
     let mut left = size;
-    let mut i = 0;
-    while i < n {
-        let r = at(room, i);
-        let s = r.settings;
-        if larger(s, left) {
+    for r in sets {
+        if larger(r.settings, left) {
             return true;
         }
-        left -= entries(s, left);
-        i += 1;
+        left -= entries(r.settings, left);
     }
     false
 }
 
-// Refusal 40, where it applies, else 0.
-pub fn room_refusal(room: Room, size: usize) -> u32
-    ensures { result ≡ first (fit_rows room size) }
+// Refusal 40, where it applies.
+#[tactic(auto, unfolding(base_rows::specs::Refuse::first, crate::specs::Sets::fit_rows))]
+pub fn room_refusal(room: &Room, size: usize) -> Result<(), Refusal>
+    ensures { given result ≡ first (fit_rows room.now size) }
 {
-    if 8 < room.count {
-        return 40;
+    if 8 < room.count || twice(stored(room)) || exceeds(stored(room), size) {
+        return Err(Refusal::RoomRecord);
     }
-    if twice(room) {
-        return 40;
-    }
-    if exceeds(room, size) {
-        return 40;
-    }
-    0
+    Ok(())
 }
 
 // The room without the set at place i: the later ones move down a place, and the places behind the last keep what they held.
-pub fn without_set(room: Room, i: usize) -> Room
-    requires { (i < room.count) × (room.count ≤ 8) }
-    ensures { result ≡ without_set_of room i }
+pub fn without_set(room: &mut Room, i: usize)
+    requires { (i < room.old.count) × (room.old.count ≤ 8) }
+    ensures { room.new ≡ without_set_of room.old i }
 {
     let n = room.count as usize;
-    let none = no_set();
-    let mut sets = [none; 8];
-    let mut k = 0;
-    while k < 8 {
-        let r = at(room, moved_from(i, n, k));
-        sets[k] = r;
-        k += 1;
-    }
-    Room {
-        count: room.count - 1,
-        sets,
-    }
-}
-
-// Where the set at place k of a room without the one at place i comes from.
-fn moved_from(i: usize, n: usize, k: usize) -> usize
-    requires { k < 8 }
-    ensures { result ≡ moved_from_of i n k }
-{
-    if k < i {
-        return k;
-    }
-    if k + 1 < n {
-        return k + 1;
-    }
-    k
+    room.sets.copy_within(i + 1..n, i);
+    room.count -= 1;
 }

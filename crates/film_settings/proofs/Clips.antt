@@ -34,6 +34,16 @@ module _ (clip : Clip) where
   pub bad_above : {f : Float} → judge_of clip ≡ Judged.Above f → false ≡ clip_bad_of clip
   bad_above {f} j = let (e, a, k) = (judged_exactly clip (Judged.Above f)).0 j in rw (e, a) refl
 
+  -- what is judged to be anything but refused
+  pub bad_other : (judge_of clip ≡ Judged.Refused → ⊥) → false ≡ clip_bad_of clip
+  bad_other h = go (judge_of clip) refl
+    where
+      go : (j : Judged.the_data) → judge_of clip ≡ j → false ≡ clip_bad_of clip
+      go Judged.Off q = bad_off q
+      go Judged.Refused q = absurd (h q)
+      go Judged.One q = bad_one q
+      go (Judged.Above f) q = bad_above q
+
   pub one_off : judge_of clip ≡ Judged.Off → false ≡ clip_one_of clip
   one_off j = rw ((judged_exactly clip Judged.Off).0 j) refl
 
@@ -45,6 +55,16 @@ module _ (clip : Clip) where
 
   pub one_above : {f : Float} → judge_of clip ≡ Judged.Above f → false ≡ clip_one_of clip
   one_above {f} j = let (e, a, k) = (judged_exactly clip (Judged.Above f)).0 j in rw (e, above_not_one f k) refl
+
+  -- what is judged to be anything but 1.0
+  pub one_other : (judge_of clip ≡ Judged.One → ⊥) → false ≡ clip_one_of clip
+  one_other h = go (judge_of clip) refl
+    where
+      go : (j : Judged.the_data) → judge_of clip ≡ j → false ≡ clip_one_of clip
+      go Judged.Off q = one_off q
+      go Judged.Refused q = one_refused q
+      go Judged.One q = absurd (h q)
+      go (Judged.Above f) q = one_above q
 
 -- two clip settings that are the same are both 1.0, or neither
 pub same_clip_one : (c c' : Clip) → clip_bad_of c ≡ false → clip_bad_of c' ≡ false → same_clip_of c c' ≡ true → clip_one_of c ≡ clip_one_of c'

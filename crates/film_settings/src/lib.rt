@@ -3,8 +3,10 @@
 
 ghost use Rattle.std.specs.Prelude.{◌≡◌, ◌≤◌};
 ghost use Rattle.base_rows.specs.Refuse.{first};
+ghost use Rattle.base_rows.specs.Given.{given};
 ghost use Rattle.film_settings.specs.Settings.{bins_of, kept_of, record_of, no_record_of, Tiled, clip_bad_of, clip_one_of, same_clip_of, same_edition_of, side_rows, length_rows, size_rows, grid_rows, range_rows, clip_rows, grey_rows, room_rows, setting_rows, shared_rows};
 
+use base_rows::Refusal;
 use pixel_grid::Axis;
 use tile_limit::{Clip, Edition, Judged};
 
@@ -49,30 +51,18 @@ pub struct Window {
 }
 
 // The bins, with 0 read as 128.
+#[tactic(auto, unfolding(crate::specs::Settings::bins_of))]
 pub fn bins(s: Settings) -> u32
     ensures { result ≡ bins_of s }
 {
-    if s.bins == 0 {
-        return 128;
-    }
-    s.bins
+    if s.bins == 0 { 128 } else { s.bins }
 }
 
 // The settings with bins 0 as 128.
 pub fn kept(s: Settings) -> Settings
     ensures { result ≡ kept_of s }
 {
-    let clip = s.clip;
-    let edition = s.edition;
-    Settings {
-        across: s.across,
-        down: s.down,
-        bins: bins(s),
-        min: s.min,
-        max: s.max,
-        clip,
-        edition,
-    }
+    Settings { bins: bins(s), ..s }
 }
 
 // The record of a film that is not refused.
@@ -121,208 +111,146 @@ pub fn no_record() -> MapRecord
 pub fn clip_bad(clip: Clip) -> bool
     ensures { result ≡ clip_bad_of clip }
 {
-    let judged = tile_limit::judge(clip);
-    match judged {
-        Judged::Off => false,
-        Judged::Refused => true,
-        Judged::One => false,
-        Judged::Above(_) => false,
-    }
+    matches!(tile_limit::judge(clip), Judged::Refused)
 }
 
 // Whether the factor is exactly 1.0.
 pub fn clip_one(clip: Clip) -> bool
     ensures { result ≡ clip_one_of clip }
 {
-    let judged = tile_limit::judge(clip);
-    match judged {
-        Judged::Off => false,
-        Judged::Refused => false,
-        Judged::One => true,
-        Judged::Above(_) => false,
-    }
+    matches!(tile_limit::judge(clip), Judged::One)
 }
 
 // Whether two clip settings are the same.
 pub fn same_clip(a: Clip, b: Clip) -> bool
     ensures { result ≡ same_clip_of a b }
 {
-    match a {
-        Clip::Off => match b {
-            Clip::Off => true,
-            Clip::Factor(_) => false,
-        },
-        Clip::Factor(f) => match b {
-            Clip::Off => false,
-            Clip::Factor(g) => f == g,
-        },
-    }
+    a == b
 }
 
 // Whether two editions are the same.
-pub fn same_edition(a: Edition, b: Edition) -> bool
-    ensures { result ≡ same_edition_of a b }
+pub fn same_edition(one: Edition, other: Edition) -> bool
+    ensures { result ≡ same_edition_of one other }
 {
-    match a {
-        Edition::Ours => match b {
-            Edition::Ours => true,
-            Edition::Of1986 => false,
-        },
-        Edition::Of1986 => match b {
-            Edition::Ours => false,
-            Edition::Of1986 => true,
-        },
-    }
+    one == other
 }
 
-// Refusal 1, where it applies, else 0.
-pub fn side_refusal(width: u32, height: u32) -> u32
-    ensures { result ≡ first (side_rows width height) }
+// Refusal 1, where it applies.
+#[tactic(auto, unfolding(base_rows::specs::Refuse::first, crate::specs::Settings::side_rows))]
+pub fn side_refusal(width: u32, height: u32) -> Result<(), Refusal>
+    ensures { given result ≡ first (side_rows width height) }
 {
-    if width == 0 {
-        return 1;
+    if width == 0 || 4096 < width || height == 0 || 4096 < height {
+        return Err(Refusal::Sides);
     }
-    if 4096 < width {
-        return 1;
-    }
-    if height == 0 {
-        return 1;
-    }
-    if 4096 < height {
-        return 1;
-    }
-    0
+    Ok(())
 }
 
-// Refusal 2, where it applies, else 0.
-pub fn length_refusal(width: u32, height: u32, size: usize) -> u32
+// Refusal 2, where it applies.
+#[tactic(auto, unfolding(base_rows::specs::Refuse::first, crate::specs::Settings::length_rows))]
+pub fn length_refusal(width: u32, height: u32, size: usize) -> Result<(), Refusal>
     requires { (width ≤ 4096) × (height ≤ 4096) }
-    ensures { result ≡ first (length_rows width height size) }
+    ensures { given result ≡ first (length_rows width height size) }
 {
     if size != (width as usize) * (height as usize) {
-        return 2;
+        return Err(Refusal::PictureLength);
     }
-    0
+    Ok(())
 }
 
-// The first of the refusals 1 and 2 that applies, else 0.
-pub fn size_refusal(width: u32, height: u32, size: usize) -> u32
-    ensures { result ≡ first (size_rows width height size) }
+// The first of the refusals 1 and 2 that applies.
+pub fn size_refusal(width: u32, height: u32, size: usize) -> Result<(), Refusal>
+    ensures { given result ≡ first (size_rows width height size) }
 {
-    let sides = side_refusal(width, height);
-    if sides != 0 {
-        return sides;
-    }
+    side_refusal(width, height)?;
     length_refusal(width, height, size)
 }
 
-// The first of the refusals 3 to 6 that applies, else 0.
-pub fn grid_refusal(width: u32, height: u32, s: Settings) -> u32
-    ensures { result ≡ first (grid_rows width height s) }
+// The first of the refusals 3 to 6 that applies.
+#[tactic(auto, unfolding(base_rows::specs::Refuse::first, crate::specs::Settings::grid_rows))]
+pub fn grid_refusal(width: u32, height: u32, s: Settings) -> Result<(), Refusal>
+    ensures { given result ≡ first (grid_rows width height s) }
 {
-    if s.across < 2 {
-        return 3;
+    if s.across < 2 || 16 < s.across {
+        return Err(Refusal::GridAcross);
     }
-    if 16 < s.across {
-        return 3;
-    }
-    if s.down < 2 {
-        return 4;
-    }
-    if 16 < s.down {
-        return 4;
+    if s.down < 2 || 16 < s.down {
+        return Err(Refusal::GridDown);
     }
     if width < s.across {
-        return 5;
+        return Err(Refusal::NarrowerThanGrid);
     }
     if height < s.down {
-        return 6;
+        return Err(Refusal::LowerThanGrid);
     }
-    0
+    Ok(())
 }
 
-// The first of the refusals 7 to 9 and 31 that applies, else 0. 31 stands behind 8, so Max is above Min there.
-pub fn range_refusal(s: Settings) -> u32
-    ensures { result ≡ first (range_rows s) }
+// The first of the refusals 7 to 9 and 31 that applies. 31 stands behind 8, so Max is above Min there.
+#[tactic(auto, unfolding(base_rows::specs::Refuse::first, crate::specs::Settings::range_rows))]
+pub fn range_refusal(s: Settings) -> Result<(), Refusal>
+    ensures { given result ≡ first (range_rows s) }
 {
     if 4095 < s.max {
-        return 7;
+        return Err(Refusal::MaxAbove4095);
     }
     if s.max <= s.min {
-        return 8;
+        return Err(Refusal::MinNotBelowMax);
     }
-    if s.bins == 1 {
-        return 9;
-    }
-    if 4096 < s.bins {
-        return 9;
+    if s.bins == 1 || 4096 < s.bins {
+        return Err(Refusal::Bins);
     }
     let greys = s.max - s.min + 1;
-    let each = bins(s);
-    if greys < each {
-        return 31;
+    if greys < bins(s) {
+        return Err(Refusal::BinsAboveGreys);
     }
-    0
+    Ok(())
 }
 
-// Refusal 10, where it applies, else 0.
-pub fn clip_refusal(s: Settings) -> u32
-    ensures { result ≡ first (clip_rows s) }
+// Refusal 10, where it applies.
+#[tactic(auto, unfolding(base_rows::specs::Refuse::first, crate::specs::Settings::clip_rows))]
+pub fn clip_refusal(s: Settings) -> Result<(), Refusal>
+    ensures { given result ≡ first (clip_rows s) }
 {
-    let clip = s.clip;
-    if clip_bad(clip) {
-        return 10;
+    if clip_bad(s.clip) {
+        return Err(Refusal::Factor);
     }
-    0
+    Ok(())
 }
 
-// The first of the refusals 7 to 9, 31 and 10 that applies, else 0.
-pub fn grey_refusal(s: Settings) -> u32
-    ensures { result ≡ first (grey_rows s) }
+// The first of the refusals 7 to 9, 31 and 10 that applies.
+pub fn grey_refusal(s: Settings) -> Result<(), Refusal>
+    ensures { given result ≡ first (grey_rows s) }
 {
-    let range = range_refusal(s);
-    if range != 0 {
-        return range;
-    }
+    range_refusal(s)?;
     clip_refusal(s)
 }
 
-// The first of the refusals 1 to 9, 31 and 10 that applies, else 0.
-pub fn setting_refusal(width: u32, height: u32, size: usize, s: Settings) -> u32
-    ensures { result ≡ first (setting_rows width height size s) }
+// The first of the refusals 1 to 9, 31 and 10 that applies.
+pub fn setting_refusal(width: u32, height: u32, size: usize, s: Settings) -> Result<(), Refusal>
+    ensures { given result ≡ first (setting_rows width height size s) }
 {
-    let sizes = size_refusal(width, height, size);
-    if sizes != 0 {
-        return sizes;
-    }
-    let grid = grid_refusal(width, height, s);
-    if grid != 0 {
-        return grid;
-    }
+    size_refusal(width, height, size)?;
+    grid_refusal(width, height, s)?;
     grey_refusal(s)
 }
 
-// Refusal 11, where it applies, else 0.
-pub fn room_refusal(s: Settings, room: usize) -> u32
+// Refusal 11, where it applies.
+#[tactic(auto, unfolding(base_rows::specs::Refuse::first, crate::specs::Settings::room_rows))]
+pub fn room_refusal(s: Settings, room: usize) -> Result<(), Refusal>
     requires { (s.across ≤ 16) × (s.down ≤ 16) × (bins_of s ≤ 4096) }
-    ensures { result ≡ first (room_rows s room) }
+    ensures { given result ≡ first (room_rows s room) }
 {
-    let across = s.across as usize;
-    let down = s.down as usize;
-    let each = bins(s) as usize;
-    if room < across * down * each {
-        return 11;
+    if room < (s.across as usize) * (s.down as usize) * (bins(s) as usize) {
+        return Err(Refusal::MapShort);
     }
-    0
+    Ok(())
 }
 
-// The first of the refusals 1 to 9, 31, 10 and 11 that applies, else 0.
-pub fn shared(width: u32, height: u32, size: usize, s: Settings, room: usize) -> u32
-    ensures { result ≡ first (shared_rows width height size s room) }
+// The first of the refusals 1 to 9, 31, 10 and 11 that applies.
+pub fn shared(width: u32, height: u32, size: usize, s: Settings, room: usize) -> Result<(), Refusal>
+    ensures { given result ≡ first (shared_rows width height size s room) }
 {
-    let settings = setting_refusal(width, height, size, s);
-    if settings != 0 {
-        return settings;
-    }
+    setting_refusal(width, height, size, s)?;
     room_refusal(s, room)
 }

@@ -75,9 +75,8 @@ pub fn foot(width: u32, height: u32, s: Settings) -> Footer
     requires { FilmFooterAsks width height s }
     ensures { result ≡ foot_of width height s }
 {
-    let clip = s.clip;
     let pixels = tile_pixels(width, height, s, 0);
-    footer(clip, pixels, film_settings::bins(s))
+    footer(s.clip, pixels, film_settings::bins(s))
 }
 
 // Lays the two entries of tile k down in the list: its excess, and the looks of its leftover walk.
@@ -104,8 +103,6 @@ fn map_tile(
     ensures { TileDone width height picture.now s k map.old map.new scratch.old scratch.new result }
 {
     let rect = tile_rect(width, height, s.across, s.down, k);
-    let clip = s.clip;
-    let edition = s.edition;
     let bins = film_settings::bins(s);
     let each = bins as usize;
     let a = k * each;
@@ -117,10 +114,10 @@ fn map_tile(
         s.min,
         s.max,
         bins,
-        clip,
+        s.clip,
         scratch,
         &mut map[a..e],
-        edition,
+        s.edition,
     )
 }
 
@@ -138,11 +135,9 @@ pub fn map_tiles(
     ensures { TilesDone width height picture.now s map.old map.new scratch.old scratch.new list.old list.new }
 {
     let tiles = (s.across * s.down) as usize;
-    let mut k = 0;
-    while k < tiles {
+    for k in 0..tiles {
         let spent = map_tile(picture, width, height, s, k, map, scratch);
         put_spent(list, k, spent);
-        k += 1;
     }
     let each = film_settings::bins(s) as usize;
     base_lists::clear(scratch, each);

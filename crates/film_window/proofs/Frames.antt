@@ -42,6 +42,13 @@ pub line_part : (pic : List ℕ) (stride : ℕ) (win : Window) → Framed (lengt
     → take ((win.top + y) * stride + win.left + win.width - ((win.top + y) * stride + win.left)) (drop ((win.top + y) * stride + win.left) pic) ≡ line pic stride win y
 line_part pic stride win f y h = part_row pic stride (rect_of win) f.across f.down y h
 
+-- and cut out of it
+pub line_cut : (pic : List ℕ) (stride : ℕ) (win : Window) → Framed (length pic) stride win → (y : ℕ) → y < win.height
+    → take win.width (drop ((win.top + y) * stride + win.left) pic) ≡ line pic stride win y
+line_cut pic stride win f y h =
+    let w : win.width ≡ (win.top + y) * stride + win.left + win.width - ((win.top + y) * stride + win.left) = omega arith in
+    ap (λ n. take n (drop ((win.top + y) * stride + win.left) pic)) w ∙ line_part pic stride win f y h
+
 -- ---- a row, looked at where the range begins at 0
 
 -- no grey as yet
@@ -50,10 +57,10 @@ unfolding all
 above_first hi xs = record { told = sym (le-leb 0 hi (omega arith)) }
 
 -- one grey more: the least stays 0
-pub above_next : (hi : ℕ) (xs : List ℕ) {i b : ℕ} → Spans 0 hi (take i xs) 0 b → i < length xs → Spans 0 hi (take (i + 1) xs) 0 (max b (get_or xs i 0))
-above_next hi xs {i} {b} h l =
+pub above_next : (hi : ℕ) (xs : List ℕ) {i b q : ℕ} → Spans 0 hi (take i xs) 0 b → i < length xs → q ≡ max b (get_or xs i 0) → Spans 0 hi (take (i + 1) xs) 0 q
+above_next hi xs {i} {b} h l high =
     let none : min 0 (get_or xs i 0) ≡ 0 = omega arith in
-    record { told = (spans_next 0 hi xs h l).told ∙ ap (λ a. leb 0 a && leb (max b (get_or xs i 0)) hi) none }
+    rw high record { told = (spans_next 0 hi xs h l).told ∙ ap (λ a. leb 0 a && leb (max b (get_or xs i 0)) hi) none }
 
 -- ---- the rows, looked at one by one
 

@@ -1,7 +1,7 @@
 // The rows of a window in a picture: looked at for greys outside a range, and copied.
 #![tactic(auto)]
 
-ghost use Rattle.std.specs.Prelude.{◌≡◌, length};
+ghost use Rattle.std.specs.Prelude.{◌≡◌, ◌+◌, ◌*◌, ◌<◌, length, take, drop};
 ghost use Rattle.base_lists.specs.Lists.{all};
 ghost use Rattle.base_range.specs.Scan.{within};
 ghost use Rattle.tile_count.specs.Tally.{greys_of};
@@ -15,10 +15,8 @@ fn none_above(greys: &[u16], max: u32) -> bool
     ensures { result ≡ all (within 0 max) greys.now }
 {
     let mut high = 0u16;
-    let mut k = 0;
-    while k < greys.len() {
-        high = base_range::greatest(high, greys[k]);
-        k += 1;
+    for grey in greys {
+        high = high.max(*grey);
     }
     high as u32 <= max
 }
@@ -28,9 +26,19 @@ pub fn greys_within(greys: &[u16], min: u32, max: u32) -> bool
     ensures { result ≡ all (within min max) greys.now }
 {
     if min == 0 {
-        return none_above(greys, max);
+        none_above(greys, max)
+    } else {
+        base_range::all_within(greys, min, max)
     }
-    base_range::all_within(greys, min, max)
+}
+
+// Row y of the window.
+fn row(picture: &[u16], stride: usize, win: Window, y: u32) -> &[u16]
+    requires { Framed (length picture.now) stride win × (y < win.height) }
+    ensures { result.now ≡ take win.width (drop ((win.top + y) * stride + win.left) picture.now) }
+{
+    let from = ((win.top as usize) + (y as usize)) * stride + (win.left as usize);
+    &picture[from..from + win.width as usize]
 }
 
 // Whether all pixels of the window lie in Min to Max.
@@ -38,14 +46,10 @@ pub fn window_within(picture: &[u16], stride: usize, win: Window, min: u32, max:
     requires { Framed (length picture.now) stride win }
     ensures { result ≡ all (within min max) (greys_of picture.now stride (rect_of win)) }
 {
-    let mut y = 0;
-    while y < win.height {
-        let a = ((win.top as usize) + (y as usize)) * stride + (win.left as usize);
-        let e = a + (win.width as usize);
-        if !greys_within(&picture[a..e], min, max) {
+    for y in 0..win.height {
+        if !greys_within(row(picture, stride, win, y), min, max) {
             return false;
         }
-        y += 1;
     }
     true
 }
@@ -56,13 +60,8 @@ pub fn copy_window(picture: &[u16], stride: usize, win: Window, out: &mut [u16])
     ensures { out.new ≡ greys_of picture.now stride (rect_of win) }
 {
     let wide = win.width as usize;
-    let mut y = 0;
-    while y < win.height {
-        let from = ((win.top as usize) + (y as usize)) * stride + (win.left as usize);
-        let to = from + wide;
+    for y in 0..win.height {
         let at = (y as usize) * wide;
-        let end = at + wide;
-        base_lists::copy(&picture[from..to], &mut out[at..end]);
-        y += 1;
+        base_lists::copy(row(picture, stride, win, y), &mut out[at..at + wide]);
     }
 }

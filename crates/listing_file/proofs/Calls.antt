@@ -12,19 +12,11 @@ use native.Mathlib.Omega.{arith}
 use borrow.Author.Tests.{ltb-true, ltb-false, lt-ltb, le-ltb}
 use Rattle.base_lists.specs.Lists.{onto}
 use Rattle.base_lists.proofs.Fills.{take_onto}
-use Rattle.base_rows.specs.Refuse.{first, unless}
+use Rattle.base_rows.specs.Refuse.{first, unless, Says, accepted, refused}
 use Rattle.base_rows.proofs.Walk.{first_behind}
-use Rattle.pgm_header.specs.declared.Head.{Head}
-use Rattle.pgm_header.specs.declared.Head.TheVariants as Head
-use Rattle.pgm_header.specs.Header.{header_of}
+use Rattle.pgm_header.specs.Header.{Head, header_of}
 use Rattle.pgm_samples.specs.Samples.{is_wide, unpacked, none_above_of}
 use Rattle.pgm_samples.proofs.Bounds.{length_unpacked}
-use Rattle.pgm_read.specs.declared.Sizes.{Sizes}
-use Rattle.pgm_read.specs.declared.Sizes.TheVariants as Sizes
-use Rattle.pgm_greys.specs.declared.Turned.{Turned}
-use Rattle.pgm_greys.specs.declared.Turned.TheVariants as Turned
-use Rattle.pgm_write.specs.declared.Written.{Written}
-use Rattle.pgm_write.specs.declared.Written.TheVariants as Written
 use Rattle.pgm_write.specs.Write.{WriteOut, write_leaves}
 use Rattle.pgm_raster.specs.Raster.{head_rows, raster_rows, RasterAsks}
 use Rattle.pgm_greys.specs.Greys.{target_rows, turn_rows, GreysOut, greys_leave, turned_of}
@@ -72,16 +64,16 @@ module _ (raster : List ℕ) (w h m room : ℕ) (asks : ListRasterAsks raster w 
       ∙ first_behind (raster_rows w h m (length raster - 0)) _ (exact_none w h m (length raster - 0) (omega (arith, asks.asks.exact))))
 
   -- the answer is done: the greys are none above maxval, and stand at the front of the film
-  pub greys_told : (target : List ℕ) {left : List ℕ} {answer : Turned} → length target ≡ 8192 → answer ≡ Turned.Done → greys_leave answer left ≡ turned_of raster 0 w h m target
+  pub greys_told : (target : List ℕ) {left : List ℕ} {answer : Says (Unit {0})} → length target ≡ 8192 → answer ≡ accepted tt → greys_leave answer left ≡ turned_of raster 0 w h m target
       → (none_above_of m greys ≡ true) × (left ≡ onto target greys)
   unfolding turned_of
   greys_told target {left} {answer} n a e = go (first (turn_rows raster 0 w h m (length target))) refl (rw a at e)
     where
-      go : (i : ℕ) → first (turn_rows raster 0 w h m (length target)) ≡ i → greys_leave Turned.Done left ≡ unless i (λ n. greys_leave (Turned.Refused n) target) (greys_leave Turned.Done (onto target greys))
+      go : (i : ℕ) → first (turn_rows raster 0 w h m (length target)) ≡ i → greys_leave (accepted tt) left ≡ unless i (λ n. greys_leave (refused n) target) (greys_leave (accepted tt) (onto target greys))
           → (none_above_of m greys ≡ true) × (left ≡ onto target greys)
       go zero z f = ((grey_asks raster 0 w h m (length target) z).bounded, ap (λ (x : GreysOut). x.target) f)
       go (suc i) z f =
-          let a : Turned.Done ≡ Turned.Refused (suc i) = ap (λ (x : GreysOut). x.answer) f in
+          let a : ◌≡◌ {A = Says (Unit {0})} (accepted tt) (refused (suc i)) = ap (λ (x : GreysOut). x.answer) f in
           absurd (let o : ◌≡◌ {A = ℕ} 0 1 = cc in omega arith)
 
   -- of the last two rows, 27 does not apply
@@ -93,18 +85,18 @@ module _ (raster : List ℕ) (w h m room : ℕ) (asks : ListRasterAsks raster w 
       go false q y = (sym y, q)
 
   -- the answer is a refusal: it is 26
-  pub greys_refused : (target : List ℕ) {left : List ℕ} {answer : Turned} {r : ℕ} → length target ≡ 8192 → answer ≡ Turned.Refused r → greys_leave answer left ≡ turned_of raster 0 w h m target
+  pub greys_refused : (target : List ℕ) {left : List ℕ} {answer : Says (Unit {0})} {r : ℕ} → length target ≡ 8192 → answer ≡ refused r → greys_leave answer left ≡ turned_of raster 0 w h m target
       → (r ≡ 26) × (none_above_of m greys ≡ false)
   unfolding turned_of
   greys_refused target {left} {answer} {r} n a e = go (first (turn_rows raster 0 w h m (length target))) refl (rw a at e)
     where
-      go : (i : ℕ) → first (turn_rows raster 0 w h m (length target)) ≡ i → greys_leave (Turned.Refused r) left ≡ unless i (λ n. greys_leave (Turned.Refused n) target) (greys_leave Turned.Done (onto target greys))
+      go : (i : ℕ) → first (turn_rows raster 0 w h m (length target)) ≡ i → greys_leave (refused r) left ≡ unless i (λ n. greys_leave (refused n) target) (greys_leave (accepted tt) (onto target greys))
           → (r ≡ 26) × (none_above_of m greys ≡ false)
       go zero z f =
-          let a : Turned.Refused r ≡ Turned.Done = ap (λ (x : GreysOut). x.answer) f in
+          let a : ◌≡◌ {A = Says (Unit {0})} (refused r) (accepted tt) = ap (λ (x : GreysOut). x.answer) f in
           absurd (let o : ◌≡◌ {A = ℕ} 0 1 = cc in omega arith)
       go (suc i) z f =
-          let a : Turned.Refused r ≡ Turned.Refused (suc i) = ap (λ (x : GreysOut). x.answer) f in
+          let a : ◌≡◌ {A = Says (Unit {0})} (refused r) (refused (suc i)) = ap (λ (x : GreysOut). x.answer) f in
           let b : r ≡ suc i = cc in
           let t = target_last i (sym (rows_target target n) ∙ z) in
           (b ∙ t.0, t.1)
@@ -134,22 +126,23 @@ pub record Start (s : List ℕ) (w h m : ℕ) : Type 0 where
   pub found : read_of s ≡ Head.Found w h m at
 
 -- the answer is sizes
-pub sizes_found : (s : List ℕ) {w h m : ℕ} → Sizes.Found w h m ≡ sizes_of (read_of s) → Start s w h m
+pub sizes_found : (s : List ℕ) {w h m : ℕ} → ◌≡◌ {A = Says (ℕ × ℕ × ℕ)} (accepted (w, h, m)) (sizes_of (read_of s)) → Start s w h m
 sizes_found s {w} {h} {m} e = go (read_of s) refl e
   where
-    go : (x : Head) → read_of s ≡ x → Sizes.Found w h m ≡ sizes_of x → Start s w h m
+    go : (x : Head) → read_of s ≡ x → ◌≡◌ {A = Says (ℕ × ℕ × ℕ)} (accepted (w, h, m)) (sizes_of x) → Start s w h m
     go (Head.Found w' h' m' at) p f =
-        let a : w' ≡ w = cc in
-        let b : h' ≡ h = cc in
-        let d : m' ≡ m = cc in
+        let v : ◌≡◌ {A = ℕ × ℕ × ℕ} (w', h', m') (w, h, m) = cc in
+        let a : w' ≡ w = ap (λ (y : ℕ × ℕ × ℕ). y.0) v in
+        let b : h' ≡ h = ap (λ (y : ℕ × ℕ × ℕ). y.1) v in
+        let d : m' ≡ m = ap (λ (y : ℕ × ℕ × ℕ). y.2) v in
         record { at = at; found = p ∙ cc }
     go (Head.Refused n) p f = absurd (let o : ◌≡◌ {A = ℕ} 0 1 = cc in omega arith)
 
 -- the answer is a refusal
-pub sizes_refused : (s : List ℕ) {n : ℕ} → Sizes.Refused n ≡ sizes_of (read_of s) → read_of s ≡ Head.Refused n
+pub sizes_refused : (s : List ℕ) {n : ℕ} → ◌≡◌ {A = Says (ℕ × ℕ × ℕ)} (refused n) (sizes_of (read_of s)) → read_of s ≡ Head.Refused n
 sizes_refused s {n} e = go (read_of s) refl e
   where
-    go : (x : Head) → read_of s ≡ x → Sizes.Refused n ≡ sizes_of x → read_of s ≡ Head.Refused n
+    go : (x : Head) → read_of s ≡ x → ◌≡◌ {A = Says (ℕ × ℕ × ℕ)} (refused n) (sizes_of x) → read_of s ≡ Head.Refused n
     go (Head.Found w h m at) p f = absurd (let o : ◌≡◌ {A = ℕ} 0 1 = cc in omega arith)
     go (Head.Refused k) p f = let a : k ≡ n = cc in p ∙ cc
 
@@ -174,10 +167,10 @@ module _ (s : List ℕ) where
       listing_read = rw (le-ltb 32768 (length s) l, ← e, q) refl
 
       -- read's refusal
-      pub listing_refused : {n : ℕ} → Sizes.Refused n ≡ sizes_of (read_of s) → refused_text n ≡ listing_of s
+      pub listing_refused : {n : ℕ} → ◌≡◌ {A = Says (ℕ × ℕ × ℕ)} (refused n) (sizes_of (read_of s)) → refused_text n ≡ listing_of s
       listing_refused f = ap (λ x. read_text x s) (sym (sizes_refused s f)) ∙ listing_read
 
-      module _ {w h m : ℕ} (f : Sizes.Found w h m ≡ sizes_of (read_of s)) {raster : List ℕ} (r : raster ≡ raster_of (read_of s) s) where
+      module _ {w h m : ℕ} (f : ◌≡◌ {A = Says (ℕ × ℕ × ℕ)} (accepted (w, h, m)) (sizes_of (read_of s))) {raster : List ℕ} (r : raster ≡ raster_of (read_of s) s) where
         start : Start s w h m
         start = sizes_found s f
 
@@ -227,16 +220,16 @@ length_listing s =
 
 -- ---- the output's room
 
-pub list_short : (s out : List ℕ) → length out < 512 → write_leaves (Written.Refused 27) out ≡ list_of s out
+pub list_short : (s out : List ℕ) → length out < 512 → write_leaves (refused 27) out ≡ list_of s out
 unfolding first text_rows list_of
 list_short s out h = rw (lt-ltb (length out) 512 h) refl
 
-pub list_laid : (s out : List ℕ) {out' : List ℕ} {n : ℕ} → 512 ≤ length out → out' ≡ onto out (listing_of s) → n ≡ length (listing_of s) → write_leaves (Written.Bytes n) out' ≡ list_of s out
+pub list_laid : (s out : List ℕ) {out' : List ℕ} {n : ℕ} → 512 ≤ length out → out' ≡ onto out (listing_of s) → n ≡ length (listing_of s) → write_leaves (accepted n) out' ≡ list_of s out
 unfolding first text_rows list_of
 list_laid s out h e q = rw (le-ltb (length out) 512 h, e, q) refl
 
 -- what was laid down lies in the output
-pub list_fits : (s out : List ℕ) {r : Written} {out' : List ℕ} → write_leaves r out' ≡ list_of s out → laid_of r ≤ length out
+pub list_fits : (s out : List ℕ) {r : Says ℕ} {out' : List ℕ} → write_leaves r out' ≡ list_of s out → laid_of r ≤ length out
 list_fits s out {r} e = go (ltb (length out) 512) refl
   where
     laid : laid_of r ≡ laid_of (list_of s out).answer

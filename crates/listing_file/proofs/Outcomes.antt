@@ -5,7 +5,8 @@ use Prim.Native.Nat.{ℕ}
 use mathlib.Core.List.{List}
 use mathlib.Core.Path.{◌≡◌, sym, ap, ◌∙◌}
 use Rattle.base_rows.specs.Run.{Run, Ran}
-use Rattle.pgm_write.specs.declared.Written.{Written}
+use Rattle.base_rows.specs.Given.{said}
+use Rattle.base_rows.specs.Refuse.{Says}
 use Rattle.pgm_write.specs.Write.{WriteOut, write_leaves}
 use Rattle.listing_file.specs.Listing.{list_of}
 use Rattle.listing_file.proofs.list.Kinds as list
@@ -14,14 +15,14 @@ use Rattle.listing_file.proofs.list.Reads as list-reads
 pub record ListCall : Type 0 where
   pub bytes : List ℕ
   pub out : List ℕ
-  pub answer : Written
+  pub answer : Says ℕ
   pub out' : List ℕ
 
 abbrev pub list_values : Run list.ps list.r list-reads.Post → ListCall
 list_values run =
     let (bytes, (out, end)) = run.handed in
     let (_, (out', end')) = run.left in
-    record { bytes = bytes.now; out = out.now; answer = run.answer; out' = out'.now }
+    record { bytes = bytes.now; out = out.now; answer = said run.answer; out' = out'.now }
 
 -- what it is handed
 abbrev pub list_arguments : ListCall → List ℕ × List ℕ

@@ -11,8 +11,7 @@ use borrow.Author.Tests.{ltb-true}
 use Rattle.base_lists.specs.Lists.{all}
 use Rattle.base_rows.specs.Refuse.{first, unless}
 use Rattle.base_rows.proofs.Walk.{each_first}
-use Rattle.pgm_header.specs.declared.Head.{Head}
-use Rattle.pgm_header.specs.declared.Head.TheVariants as Head
+use Rattle.pgm_header.specs.Header.{Head}
 use Rattle.pgm_header.specs.Header.{header_of}
 use Rattle.pgm_header.proofs.Laws.{refused_number}
 use Rattle.pgm_raster.specs.Raster.{head_rows, raster_rows}

@@ -1,13 +1,9 @@
 -- Document 01, "Numbers to check by hand": the text that the listing program prints for a PGM file's bytes, refusals included.
 -- Assumes nothing.
 use Rattle.std.specs.Prelude.{ℕ, ◌*◌, Bool, false, cond, List, [], ◌∷◌, ltb, length, drop}
-use Rattle.base_rows.specs.Refuse.{Row, short_row, first, unless}
-use Rattle.pgm_header.specs.declared.Head.{Head}
-use Rattle.pgm_header.specs.declared.Head.TheVariants.{Found, Refused}
-use Rattle.pgm_header.specs.Header.{header_of}
+use Rattle.base_rows.specs.Refuse.{Row, short_row, first, unless, Says, accepted, refused}
+use Rattle.pgm_header.specs.Header.{Head, Found, Refused, header_of}
 use Rattle.pgm_samples.specs.Samples.{is_wide, unpacked, none_above_of}
-use Rattle.pgm_write.specs.declared.Written.{Written}
-use Rattle.pgm_write.specs.declared.Written.TheVariants as Written
 use Rattle.pgm_read.specs.Pgm.{read_of}
 use Rattle.pgm_write.specs.Write.{WriteOut, wrote}
 use Rattle.film_prepare.specs.Prepare.{prepare_rows}
@@ -47,6 +43,6 @@ unfoldable pub list_of : List ℕ → List ℕ → WriteOut
 list_of s out = wrote (text_rows (length out)) out (listing_of s)
 
 -- how many bytes an answer says were laid down: none where it is a refusal
-abbrev pub laid_of : Written → ℕ
-laid_of (Written.Bytes n) = n
-laid_of (Written.Refused n) = 0
+abbrev pub laid_of : Says ℕ → ℕ
+laid_of (accepted n) = n
+laid_of (refused n) = 0

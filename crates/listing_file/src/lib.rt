@@ -3,6 +3,7 @@
 
 ghost use Rattle.std.specs.Prelude.{◌≡◌, ◌*◌, ◌≤◌, length};
 ghost use Rattle.base_lists.specs.Lists.{onto};
+ghost use Rattle.base_rows.specs.Given.{said};
 ghost use Rattle.pgm_header.specs.Header.{header_of};
 ghost use Rattle.pgm_samples.specs.Samples.{is_wide, unpacked};
 ghost use Rattle.pgm_write.specs.Write.{write_leaves};
@@ -10,18 +11,15 @@ ghost use Rattle.listing_line.specs.Asks.{Told};
 ghost use Rattle.listing_file.specs.Listing.{is_larger_of, picture_text, listing_of, list_of, laid_of};
 ghost use Rattle.listing_file.specs.Asks.{ListRasterAsks};
 
-use pgm_greys::Turned;
-use pgm_header::Head;
-use pgm_read::Sizes;
-use pgm_write::Written;
+use base_rows::Refusal;
 
 // Whether the film that a header speaks of has more than 8,192 pixels.
 fn is_larger(bytes: &[u8]) -> bool
     ensures { result ≡ is_larger_of (header_of bytes.now) }
 {
     match pgm_header::header(bytes) {
-        Head::Found(width, height, _, _) => 8192 < (width as u64) * (height as u64),
-        Head::Refused(_) => false,
+        Ok(head) => 8192 < (head.width as u64) * (head.height as u64),
+        Err(_) => false,
     }
 }
 
@@ -32,11 +30,11 @@ fn list_raster(raster: &[u8], width: u32, height: u32, maxval: u32, out: &mut [u
 {
     let mut film = [0u16; 8192];
     match pgm_greys::read_greys(raster, 0, width, height, maxval, &mut film) {
-        Turned::Done => {
+        Ok(()) => {
             let count = (width * height) as usize;
             listing_film::list_film(&film[..count], width, height, maxval, out)
         }
-        Turned::Refused(n) => listing_line::refused_line(out, n),
+        Err(r) => listing_line::refused_line(out, r.number()),
     }
 }
 
@@ -52,29 +50,30 @@ fn lay_text(bytes: &[u8], out: &mut [u8]) -> usize
         return listing_line::refused_line(out, 22);
     }
     match pgm_read::read_sizes(bytes) {
-        Sizes::Found(width, height, maxval) => {
-            list_raster(pgm_read::read_raster(bytes), width, height, maxval, out)
-        }
-        Sizes::Refused(n) => listing_line::refused_line(out, n),
+        Ok(sizes) => list_raster(
+            pgm_read::read_raster(bytes),
+            sizes.width,
+            sizes.height,
+            sizes.maxval,
+            out,
+        ),
+        Err(r) => listing_line::refused_line(out, r.number()),
     }
 }
 
 // The text that the listing program prints for a file's bytes, at the front of out: its length, or 27 where fewer than 512 bytes are lent.
-pub fn list(bytes: &[u8], out: &mut [u8]) -> Written
-    ensures { write_leaves result out.new ≡ list_of bytes.now out.old }
+pub fn list(bytes: &[u8], out: &mut [u8]) -> Result<usize, Refusal>
+    ensures { write_leaves (said result) out.new ≡ list_of bytes.now out.old }
 {
     if out.len() < 512 {
-        return Written::Refused(27);
+        return Err(Refusal::TargetShort);
     }
-    Written::Bytes(lay_text(bytes, out))
+    Ok(lay_text(bytes, out))
 }
 
 // How many bytes `list` laid down, by its answer.
-pub fn laid(answer: Written) -> usize
-    ensures { result ≡ laid_of answer }
+pub fn laid(answer: Result<usize, Refusal>) -> usize
+    ensures { result ≡ laid_of (said answer) }
 {
-    match answer {
-        Written::Bytes(n) => n,
-        Written::Refused(_) => 0,
-    }
+    answer.unwrap_or(0)
 }

@@ -9,14 +9,13 @@ use lib.ListN.{length}
 use native.Mathlib.Omega.{arith}
 use Rattle.base_lists.specs.Lists.{onto}
 use Rattle.base_lists.proofs.Maps.{onto_whole}
-use Rattle.base_rows.specs.Refuse.{first, unless}
+use Rattle.base_rows.specs.Refuse.{first, unless, Says, accepted, refused}
 use Rattle.tile_limit.proofs.Laws.{above_not_one}
 use Rattle.film_settings.specs.declared.Settings.{Settings}
 use Rattle.film_settings.specs.declared.Footer.{Footer}
-use Rattle.film_settings.specs.Settings.{bins_of}
-use Rattle.film_prepare.specs.declared.Prepared.{Prepared}
-use Rattle.film_prepare.specs.declared.Made.TheVariants as Made
-use Rattle.film_prepare.specs.Prepare.{prepare_rows, prepared_not, PrepareOut, prepare_leaves, prepared_of, prepare_of}
+use Rattle.film_settings.specs.Settings.{bins_of, record_of}
+use Rattle.film_settings.specs.declared.MapRecord.{MapRecord}
+use Rattle.film_prepare.specs.Prepare.{prepare_rows, PrepareOut, prepare_leaves, prepared_of, prepare_of}
 use Rattle.film_prepare.proofs.Table.{work}
 use Rattle.film_tiles.specs.Tiles.{mappings, spents, foot_of, TilesReady}
 use Rattle.film_tiles.proofs.Footers.{foot_limit}
@@ -80,52 +79,52 @@ module _ (w h m : ℕ) (pic : List ℕ) where
   tiles_asks z = record { work = work w h pic (listing_settings m) 16 4 8 z; changes = above_not_one two (refl, lit< tt) }
 
   module _ (map₀ scratch₀ list₀ : List ℕ) {map scratch list : List ℕ} (n : length map₀ ≡ 16) (k : length scratch₀ ≡ 4) (j : length list₀ ≡ 8) where
-    accepted : {p : Prepared} {foot : Footer} → p.answer ≡ Made.Done foot → number ≡ 0
-        → prepare_leaves p map scratch list ≡ prepared_of 0 w h pic (listing_settings m) map₀ scratch₀ list₀ → Accepted foot.limit map list
+    made_film : {p : Says (MapRecord × Footer)} {v : MapRecord × Footer} → p ≡ accepted v → number ≡ 0
+        → prepare_leaves p map scratch list ≡ prepared_of 0 w h pic (listing_settings m) map₀ scratch₀ list₀ → Accepted v.1.limit map list
     unfolding prepared_of bins_of
-    accepted {p} {foot} a z e =
+    made_film {p} {v} a z e =
         record {
           none = z;
           film = tiles_asks z;
-          bound = ap (λ (f : Footer). f.limit) (same (sym a ∙ ap (λ (x : PrepareOut). x.answer.answer) e)) ∙ foot_limit w h (listing_settings m) refl (tiles_asks z).changes;
+          bound = ap (λ (f : MapRecord × Footer). f.1.limit) (same (sym a ∙ ap (λ (x : PrepareOut). x.answer) e)) ∙ foot_limit w h (listing_settings m) refl (tiles_asks z).changes;
           mapped = ap (λ (x : PrepareOut). x.map) e ∙ ap (λ b. cond b map₀ (onto map₀ (mappings w h pic (listing_settings m)))) (tiles_asks z).changes ∙ onto_whole map₀ (mappings w h pic (listing_settings m)) (omega (arith, length_mappings w h pic (listing_settings m)));
           listed = ap (λ (x : PrepareOut). x.list) e ∙ ap (λ b. cond b list₀ (onto list₀ (spents w h pic (listing_settings m)))) (tiles_asks z).changes ∙ onto_whole list₀ (spents w h pic (listing_settings m)) (omega (arith, length_spents w h pic (listing_settings m)));
         }
       where
-        same : {f g : Footer} → Made.Done f ≡ Made.Done g → f ≡ g
+        same : {f g : MapRecord × Footer} → ◌≡◌ {A = Says (MapRecord × Footer)} (accepted f) (accepted g) → f ≡ g
         same q = cc
 
-    module _ {s : Settings} {p : Prepared} (q : s ≡ listing_settings m) (e : prepare_leaves p map scratch list ≡ prepare_of 0 w h pic s map₀ scratch₀ list₀) where
+    module _ {s : Settings} {p : Says (MapRecord × Footer)} (q : s ≡ listing_settings m) (e : prepare_leaves p map scratch list ≡ prepare_of 0 w h pic s map₀ scratch₀ list₀) where
       -- what is left, by the rows' number
       abbrev Left : ℕ → Type 0
       Left i =
           prepare_leaves p map scratch list
-          ≡ unless i (λ r. prepare_leaves (prepared_not r) map₀ scratch₀ list₀) (prepared_of 0 w h pic (listing_settings m) map₀ scratch₀ list₀)
+          ≡ unless i (λ r. prepare_leaves (refused r) map₀ scratch₀ list₀) (prepared_of 0 w h pic (listing_settings m) map₀ scratch₀ list₀)
 
       left : Left number
       unfolding prepare_of
       left = rw (q, n, k, j) at e
 
       -- the answer is a footer: no row applied
-      pub prepared_done : {foot : Footer} → p.answer ≡ Made.Done foot → Accepted foot.limit map list
-      prepared_done {foot} a = go number refl left
+      pub prepared_done : {v : MapRecord × Footer} → p ≡ accepted v → Accepted v.1.limit map list
+      prepared_done {v} a = go number refl left
         where
-          go : (i : ℕ) → number ≡ i → Left i → Accepted foot.limit map list
-          go zero z f = accepted a z f
+          go : (i : ℕ) → number ≡ i → Left i → Accepted v.1.limit map list
+          go zero z f = made_film a z f
           go (suc i) z f =
-              let b : p.answer ≡ Made.Refused (suc i) = ap (λ (x : PrepareOut). x.answer.answer) f in
+              let b : p ≡ refused (suc i) = ap (λ (x : PrepareOut). x.answer) f in
               absurd (let o : ◌≡◌ {A = ℕ} 0 1 = cc in omega arith)
 
       -- the answer is a refusal: it is the rows' number
-      pub prepared_refused : {r : ℕ} → p.answer ≡ Made.Refused r → (r < 100000) × ((text : List ℕ) → refused_text r ≡ unless number refused_text text)
+      pub prepared_refused : {r : ℕ} → p ≡ refused r → (r < 100000) × ((text : List ℕ) → refused_text r ≡ unless number refused_text text)
       unfolding prepared_of
       prepared_refused {r} a = go number refl left
         where
           go : (i : ℕ) → number ≡ i → Left i → (r < 100000) × ((text : List ℕ) → refused_text r ≡ unless number refused_text text)
           go zero z f =
-              let b : p.answer ≡ Made.Done (foot_of w h (listing_settings m)) = ap (λ (x : PrepareOut). x.answer.answer) f in
+              let b : p ≡ accepted (record_of 0 w h (listing_settings m), foot_of w h (listing_settings m)) = ap (λ (x : PrepareOut). x.answer) f in
               absurd (let o : ◌≡◌ {A = ℕ} 0 1 = cc in omega arith)
           go (suc i) z f =
-              let b : p.answer ≡ Made.Refused (suc i) = ap (λ (x : PrepareOut). x.answer.answer) f in
+              let b : p ≡ refused (suc i) = ap (λ (x : PrepareOut). x.answer) f in
               let d : r ≡ suc i = cc in
               (omega (arith, prepare_below w h pic (listing_settings m) 16 4 8), λ text. rw (z, d) refl)

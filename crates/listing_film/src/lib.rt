@@ -9,7 +9,6 @@ ghost use Rattle.listing_line.specs.Asks.{Told};
 ghost use Rattle.listing_film.specs.FilmText.{listing_settings, film_text};
 ghost use Rattle.listing_film.specs.Asks.{kept_text, LinesAsk};
 
-use film_prepare::Made;
 use film_settings::Settings;
 use tile_limit::{Clip, Edition};
 
@@ -42,13 +41,11 @@ fn film_lines(
     ensures { Told out.old (kept_text width height maxval limit map.now list.now) out.new result }
 {
     let mut at = listing_line::first_line(out, width, height, maxval, limit);
-    let mut k = 0;
-    while k < 4 {
+    for k in 0..4 {
         let a = k * 2;
         let excess = list[a] as u32;
         let looks = list[a + 1] as u32;
         at = listing_line::tile_line(out, at, k, excess, looks, map);
-        k += 1;
     }
     at
 }
@@ -62,7 +59,7 @@ pub fn list_film(film: &[u16], width: u32, height: u32, maxval: u32, out: &mut [
     let mut scratch = [0u32; 4];
     let mut list = [0u64; 8];
     let settings = settings_for(maxval);
-    let made = film_prepare::prepare(
+    match film_prepare::prepare(
         0,
         width,
         height,
@@ -71,13 +68,8 @@ pub fn list_film(film: &[u16], width: u32, height: u32, maxval: u32, out: &mut [
         &mut map,
         &mut scratch,
         &mut list,
-    );
-    let answer = made.answer;
-    match answer {
-        Made::Done(foot) => {
-            let limit = foot.limit;
-            film_lines(width, height, maxval, limit, &map, &list, out)
-        }
-        Made::Refused(n) => listing_line::refused_line(out, n),
+    ) {
+        Ok(made) => film_lines(width, height, maxval, made.footer.limit, &map, &list, out),
+        Err(r) => listing_line::refused_line(out, r.number()),
     }
 }

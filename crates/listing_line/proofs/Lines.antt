@@ -109,25 +109,6 @@ module _ {out₀ : List ℕ} {at : ℕ} {ns out : List ℕ} {i p : ℕ} (w : Wri
 
 -- ---- a refusal's line
 
--- the word and the tab
-pub word_laid : (d : List ℕ) → 8 ≤ length d
-    → set (set (set (set (set (set (set (set d 0 114) 1 101) 2 102) 3 117) 4 115) 5 101) 6 100) 7 9
-    ≡ onto d (114 ∷ 101 ∷ 102 ∷ 117 ∷ 115 ∷ 101 ∷ 100 ∷ 9 ∷ [])
-word_laid d l =
-    onto_set d (114 ∷ 101 ∷ 102 ∷ 117 ∷ 115 ∷ 101 ∷ 100 ∷ []) 7 9
-    (onto_set d (114 ∷ 101 ∷ 102 ∷ 117 ∷ 115 ∷ 101 ∷ []) 6 100
-    (onto_set d (114 ∷ 101 ∷ 102 ∷ 117 ∷ 115 ∷ []) 5 101
-    (onto_set d (114 ∷ 101 ∷ 102 ∷ 117 ∷ []) 4 115
-    (onto_set d (114 ∷ 101 ∷ 102 ∷ []) 3 117
-    (onto_set d (114 ∷ 101 ∷ []) 2 102
-    (onto_set d (114 ∷ []) 1 101 (onto_set d [] 0 114 (onto_nil d) refl (omega arith)) refl (omega arith))
-    refl (omega arith))
-    refl (omega arith))
-    refl (omega arith))
-    refl (omega arith))
-    refl (omega arith))
-    refl (omega arith)
-
 -- a refusal's line is at most 14 bytes long
 pub length_refused : (n : ℕ) → length (refused_text n) ≤ 14
 unfolding refused_text line

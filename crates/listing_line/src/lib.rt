@@ -11,13 +11,11 @@ fn write_line(out: &mut [u8], at: usize, numbers: &[u32]) -> usize
     ensures { Laid out.old at (line numbers.now) out.new result }
 {
     let last = numbers.len() - 1;
-    let mut i = 0;
     let mut p = at;
-    while i < last {
-        p = pgm_header::field(out, p, numbers[i], 9);
-        i += 1;
+    for i in 0..last {
+        p = pgm_header::field(out, p, numbers[i], b'\t');
     }
-    pgm_header::field(out, p, numbers[last], 10)
+    pgm_header::field(out, p, numbers[last], b'\n')
 }
 
 // The first line: width, height, grid across, grid down, bins, Min, Max, L.
@@ -53,13 +51,6 @@ pub fn refused_line(out: &mut [u8], number: u32) -> usize
     requires { (number < 100000) × (512 ≤ length out.old) }
     ensures { Told out.old (refused_text number) out.new result }
 {
-    out[0] = b'r';
-    out[1] = b'e';
-    out[2] = b'f';
-    out[3] = b'u';
-    out[4] = b's';
-    out[5] = b'e';
-    out[6] = b'd';
-    out[7] = b'\t';
+    base_lists::copy(b"refused\t", out);
     pgm_header::field(out, 8, number, b'\n')
 }

@@ -8,11 +8,10 @@ use native.Mathlib.Omega.{arith}
 use lib.ListN.{length, take, drop, length-drop}
 use lib.Seq.{take_all}
 use Rattle.base_lists.specs.Lists.{onto}
-use Rattle.base_rows.specs.Refuse.{first, unless}
+use Rattle.base_rows.specs.Refuse.{first, unless, accepted, refused}
 use Rattle.base_rows.proofs.Walk.{unless_refused}
 use Rattle.pgm_samples.specs.Samples.{is_wide, sample_bytes, unpacked}
 use Rattle.pgm_raster.specs.Raster.{raster_size_of, RasterAsks}
-use Rattle.pgm_greys.specs.declared.Turned.TheVariants as Turned
 use Rattle.pgm_greys.specs.Greys.{target_rows, turn_rows, GreysOut, greys_leave, turned_of}
 
 -- ---- the raster as a part of the bytes
@@ -36,16 +35,16 @@ part_greys s start w h m t q e = rw (q, part_raster s start w h m t e) refl
 
 module _ (s : List ℕ) (start w h m : ℕ) (target : List ℕ) where
   -- a refusal leaves the target as it was
-  pub greys_refused : {n : ℕ} → n ≡ first (turn_rows s start w h m (length target)) → (n ≡ 0 → ⊥) → greys_leave (Turned.Refused n) target ≡ turned_of s start w h m target
+  pub greys_refused : {n : ℕ} → n ≡ first (turn_rows s start w h m (length target)) → (n ≡ 0 → ⊥) → greys_leave (refused n) target ≡ turned_of s start w h m target
   unfolding turned_of
-  greys_refused {n} e z = unless_refused n (λ k. greys_leave (Turned.Refused k) target) done z ∙ ap (λ j. unless j (λ k. greys_leave (Turned.Refused k) target) done) e
+  greys_refused {n} e z = unless_refused n (λ k. greys_leave (refused k) target) done z ∙ ap (λ j. unless j (λ k. greys_leave (refused k) target) done) e
     where
       done : GreysOut
-      done = greys_leave Turned.Done (onto target (unpacked (is_wide m) (drop start s) (w * h)))
+      done = greys_leave (accepted tt) (onto target (unpacked (is_wide m) (drop start s) (w * h)))
 
   -- else the greys stand at its front
   pub greys_done : {n : ℕ} {left : List ℕ} → n ≡ first (turn_rows s start w h m (length target)) → n ≡ 0
-      → left ≡ onto target (unpacked (is_wide m) (drop start s) (w * h)) → greys_leave Turned.Done left ≡ turned_of s start w h m target
+      → left ≡ onto target (unpacked (is_wide m) (drop start s) (w * h)) → greys_leave (accepted tt) left ≡ turned_of s start w h m target
   unfolding turned_of
   greys_done e z q = rw (← e, z, q) refl
 

@@ -6,7 +6,6 @@ use Rattle.base_lists.specs.Lists.{onto}
 use Rattle.base_rows.specs.Refuse.{Row, short_row, first, unless, Says, accepted, refused}
 use Rattle.pgm_samples.specs.Samples.{is_wide, unpacked, none_above_of}
 use Rattle.pgm_raster.specs.Raster.{head_rows, above_row, raster_rows, RasterAsks}
-use Rattle.pgm_greys.specs.declared.Turned.{Turned}
 
 -- 27 and 26: "the caller's target too short", "a sample above maxval"
 unfoldable pub target_rows : (bytes : List ℕ) (start w h m room : ℕ) → List Row
@@ -24,22 +23,17 @@ pub record GreyAsks (bytes : List ℕ) (start w h m room : ℕ) : Type 0 where
   pub fitting : w * h ≤ room
   pub bounded : none_above_of m (unpacked (is_wide m) (drop start bytes) (w * h)) ≡ true
 
--- document 01's number of the answers: none where the greys were laid down, which hands back no value, or a refusal
-unfoldable pub turned_says : Turned → Says (Unit {0})
-turned_says Turned.Done = accepted tt
-turned_says (Turned.Refused n) = refused n
-
--- what the call leaves: its answer and the target
+-- what the call leaves: its answer, which is no value where the greys were laid down, or a refusal, and the target
 pub record GreysOut : Type 0 where
-  pub answer : Turned
+  pub answer : Says (Unit {0})
   pub target : List ℕ
 
 -- an answer and a target as one
-abbrev pub greys_leave : Turned → List ℕ → GreysOut
+abbrev pub greys_leave : Says (Unit {0}) → List ℕ → GreysOut
 greys_leave answer target = record { answer = answer; target = target }
 
 -- greys of a raster: the first row that applies, and the target stays as it was, else the greys at its front: "entries behind the last grey keep their contents"
 unfoldable pub turned_of : (bytes : List ℕ) (start w h m : ℕ) (target : List ℕ) → GreysOut
 turned_of bytes start w h m target =
-    unless (first (turn_rows bytes start w h m (length target))) (λ n. greys_leave (Turned.Refused n) target)
-    (greys_leave Turned.Done (onto target (unpacked (is_wide m) (drop start bytes) (w * h))))
+    unless (first (turn_rows bytes start w h m (length target))) (λ n. greys_leave (refused n) target)
+    (greys_leave (accepted tt) (onto target (unpacked (is_wide m) (drop start bytes) (w * h))))

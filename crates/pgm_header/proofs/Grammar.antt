@@ -14,8 +14,8 @@ use native.Mathlib.Numerals.{add-one}
 use borrow.Author.Tests.{eqb-true}
 use Rattle.base_lists.specs.Lists.{all}
 use Rattle.base_lists.proofs.Tabs.{and_left, and_right, and_both}
-use Rattle.pgm_header.specs.declared.Number.TheVariants.{Read, Misfit}
-use Rattle.pgm_header.specs.declared.Head.TheVariants.{Found, Refused}
+use Rattle.pgm_header.specs.Header.{Read, Misfit}
+use Rattle.pgm_header.specs.Header.{Found, Refused}
 use Rattle.pgm_header.specs.Header.{is_white_of, is_digit_of, misfit_of, white_of, digits_of, first_digit_of, number_of, then_head, head_end, head_fields, header_of}
 use Rattle.pgm_header.specs.Grammar.{value_of, Numeral, Header}
 use Rattle.pgm_header.proofs.Reading.{white_within, digit_within, digit_not_white, white_head, white_cons, white_step, digit_nil, digit_cons, digit_other, digit_step, first_digits, number_behind, end_found, behind_read, behind_found, header_magic, magic_within}

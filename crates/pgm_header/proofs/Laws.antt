@@ -14,8 +14,8 @@ use Rattle.base_lists.specs.Lists.{all}
 use Rattle.base_lists.proofs.Orders.{lt_or_ge}
 use Rattle.base_lists.proofs.Tabs.{and_both}
 use Rattle.base_lists.proofs.Alls.{all_one, all_both}
-use Rattle.pgm_header.specs.declared.Number.TheVariants.{Misfit}
-use Rattle.pgm_header.specs.declared.Head.TheVariants.{Found, Refused}
+use Rattle.pgm_header.specs.Header.{Misfit}
+use Rattle.pgm_header.specs.Header.{Found, Refused}
 use Rattle.pgm_header.specs.Header.{is_white_of, is_digit_of, misfit_of, white_of, digits_of, first_digit_of, number_of, then_head, head_end, head_fields, header_of, decimal_of, header_bytes}
 use Rattle.pgm_header.specs.Grammar.{value_of, Numeral, Header}
 use Rattle.pgm_header.proofs.Reading.{digits_never, behind_refused, tens}

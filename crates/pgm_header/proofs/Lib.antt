@@ -1,3 +1,4 @@
+pub mod Told
 pub mod Reading
 pub mod Writing
 pub mod Grammar

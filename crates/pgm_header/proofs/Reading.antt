@@ -14,10 +14,10 @@ use native.Mathlib.Numerals.{add-one}
 use borrow.Author.Tests.{leb-true, eq-eqb, ne_eqb}
 use Rattle.base_lists.proofs.Orders.{lt_or_ge}
 use Rattle.base_lists.proofs.Tabs.{and_left, and_right}
-use Rattle.pgm_header.specs.declared.Number.{Number}
-use Rattle.pgm_header.specs.declared.Number.TheVariants.{Read, Misfit}
-use Rattle.pgm_header.specs.declared.Head.{Head}
-use Rattle.pgm_header.specs.declared.Head.TheVariants.{Found, Refused}
+use Rattle.pgm_header.specs.Header.{Number}
+use Rattle.pgm_header.specs.Header.{Read, Misfit}
+use Rattle.pgm_header.specs.Header.{Head}
+use Rattle.pgm_header.specs.Header.{Found, Refused}
 use Rattle.pgm_header.specs.Header.{is_white_of, is_digit_of, misfit_of, white_of, digits_of, first_digit_of, number_of, then_head, head_end, head_fields, header_of}
 
 -- ---- a byte that is something lies within the bytes
@@ -306,6 +306,10 @@ fields_read s q = behind_read _ q
 pub fields_misfit : (s : List ℕ) {n : ℕ} → number_of s 2 ≡ Misfit n → head_fields s ≡ Refused n
 unfolding head_fields
 fields_misfit s q = behind_misfit _ q
+
+-- three numbers that were read, and the end behind them
+pub fields_ended : (s : List ℕ) {w h m i j k : ℕ} → number_of s 2 ≡ Read w i → number_of s i ≡ Read h j → number_of s j ≡ Read m k → head_fields s ≡ head_end s w h m k
+fields_ended s p q r = fields_read s p ∙ (behind_read _ q ∙ behind_read _ r)
 
 -- ---- what stands behind the first two bytes decides alone
 

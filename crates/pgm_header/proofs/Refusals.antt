@@ -12,9 +12,9 @@ use borrow.Author.Tests.{eq-eqb, eqb-true}
 use Rattle.base_lists.specs.Lists.{all}
 use Rattle.base_lists.proofs.Tabs.{and_left}
 use Rattle.base_lists.proofs.Alls.{all_append}
-use Rattle.pgm_header.specs.declared.Number.TheVariants.{Read, Misfit}
-use Rattle.pgm_header.specs.declared.Head.{Head}
-use Rattle.pgm_header.specs.declared.Head.TheVariants.{Found, Refused}
+use Rattle.pgm_header.specs.Header.{Read, Misfit}
+use Rattle.pgm_header.specs.Header.{Head}
+use Rattle.pgm_header.specs.Header.{Found, Refused}
 use Rattle.pgm_header.specs.Header.{is_white_of, is_digit_of, misfit_of, white_of, digits_of, first_digit_of, number_of, then_head, head_end, head_fields, header_of}
 use Rattle.pgm_header.specs.Grammar.{value_of, Numeral, Header, Hash}
 use Rattle.pgm_header.proofs.Reading.{test_within, first_misfit, number_behind, number_misfit, end_misfit, digits_never, behind_read, behind_misfit, behind_refused, header_magic}

@@ -3,10 +3,16 @@
 -- A file is a list of bytes; the end of input reads as 0, which is no white space, no digit and no `#`.
 -- Assumes nothing.
 use Rattle.std.specs.Prelude.{ℕ, zero, suc, ◌+◌, ◌-◌, ◌*◌, ◌/◌, ◌%◌, Bool, true, false, ◌&&◌, ◌||◌, cond, List, [], ◌∷◌, ◌++◌, leb, ltb, eqb, drop, get_or}
-use Rattle.pgm_header.specs.declared.Number.{Number}
-use Rattle.pgm_header.specs.declared.Number.TheVariants.{Read, Misfit}
-use Rattle.pgm_header.specs.declared.Head.{Head}
-use Rattle.pgm_header.specs.declared.Head.TheVariants.{Found, Refused}
+
+-- a number with the place behind it, or the refusal of what stands in its place
+pub data Number : Type 0 where
+  Read : (value end : ℕ) → Number
+  Misfit : ℕ → Number
+
+-- a header: width, height, maxval and the place where the raster starts; or its refusal
+pub data Head : Type 0 where
+  Found : (w h m at : ℕ) → Head
+  Refused : ℕ → Head
 
 -- "White space is space, tab, CR, LF."
 unfoldable pub is_white_of : ℕ → Bool

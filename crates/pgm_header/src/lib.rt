@@ -3,65 +3,60 @@
 
 ghost use Rattle.std.specs.Prelude.{◌≡◌, ◌+◌, ◌≤◌, ◌<◌, [], ◌∷◌, ◌++◌, length, get_or, drop};
 ghost use Rattle.base_lists.specs.Lists.{onto, over};
-ghost use Rattle.pgm_header.specs.Header.{is_white_of, is_digit_of, misfit_of, white_of, digits_of, first_digit_of, number_of, then_head, head_end, head_fields, header_of, decimal_of, header_bytes};
+ghost use Rattle.base_rows.specs.Given.{number_of as refusal_of};
+ghost use Rattle.pgm_header.specs.Header.{Read, is_white_of, is_digit_of, misfit_of, white_of, digits_of, first_digit_of, number_of, head_fields, header_of, decimal_of, header_bytes};
+ghost use Rattle.pgm_header.specs.Told.{number_told, head_told};
 
-// A number of the header with the place behind it, or the refusal of what stands in its place.
+use base_rows::Refusal;
+
+// A number of the header with the place behind it.
 #[derive(Clone, Copy)]
-pub enum Number {
-    Read(u32, usize),
-    Misfit(u32),
+pub struct Number {
+    pub value: u32,
+    pub end: usize,
 }
 
-// A header: width, height, maxval and the place where the raster starts; or its refusal.
+// A header: width, height, maxval and the place where the raster starts.
 #[derive(Clone, Copy)]
-pub enum Head {
-    Found(u32, u32, u32, usize),
-    Refused(u32),
+pub struct Head {
+    pub width: u32,
+    pub height: u32,
+    pub maxval: u32,
+    pub start: usize,
 }
 
 // The byte at a place; 0 past the end, which is no white space, no digit and no `#`.
 fn byte(s: &[u8], at: usize) -> u8
     ensures { result ≡ get_or s.now at 0 }
 {
-    if at < s.len() {
-        return s[at];
-    }
-    0
+    if at < s.len() { s[at] } else { 0 }
 }
 
 // Space, tab, CR or LF.
+#[tactic(auto, unfolding(crate::specs::Header::is_white_of))]
 pub fn is_white(b: u8) -> bool
     ensures { result ≡ is_white_of b }
 {
-    if b == 32 {
-        return true;
-    }
-    if b == 9 {
-        return true;
-    }
-    if b == 13 {
-        return true;
-    }
-    b == 10
+    b == b' ' || b == b'\t' || b == b'\r' || b == b'\n'
 }
 
+#[tactic(auto, unfolding(crate::specs::Header::is_digit_of))]
 fn is_digit(b: u8) -> bool
     ensures { result ≡ is_digit_of b }
 {
-    if b < 48 {
-        return false;
-    }
-    b <= 57
+    b.is_ascii_digit()
 }
 
 // The refusal of a byte that stands in the place of white space or of a digit.
-fn misfit(b: u8) -> u32
-    ensures { result ≡ misfit_of b }
+#[tactic(auto, unfolding(crate::specs::Header::misfit_of))]
+fn misfit(b: u8) -> Refusal
+    ensures { refusal_of result ≡ misfit_of b }
 {
-    if b == 35 {
-        return 21;
+    if b == b'#' {
+        Refusal::Comment
+    } else {
+        Refusal::Header
     }
-    20
 }
 
 // The place behind the white space bytes that start at `at`.
@@ -69,115 +64,81 @@ pub fn white_end(s: &[u8], at: usize) -> usize
     requires { at ≤ length s.now }
     ensures { result ≡ white_of (drop at s.now) at }
 {
-    let mut i = at;
-    while i < s.len() {
-        let b = s[i];
-        if !is_white(b) {
+    for i in at..s.len() {
+        if !is_white(s[i]) {
             return i;
         }
-        i += 1;
     }
-    i
+    s.len()
 }
 
 // At most five digits from `at` on; a sixth is left to what reads on.
 pub fn digits(s: &[u8], at: usize) -> Number
     requires { at ≤ length s.now }
-    ensures { result ≡ digits_of 5 (drop at s.now) 0 at }
+    ensures { Read result.value result.end ≡ digits_of 5 (drop at s.now) 0 at }
 {
-    let mut v: u32 = 0;
-    let mut i = at;
-    let mut left: usize = 5;
-    while 0 < left {
+    let mut value = 0;
+    for i in at..at + 5 {
         let b = byte(s, i);
         if !is_digit(b) {
-            return Number::Read(v, i);
+            return Number { value, end: i };
         }
-        v = v * 10 + (b as u32 - 48);
-        i += 1;
-        left -= 1;
+        value = value * 10 + (b - b'0') as u32;
     }
-    Number::Read(v, i)
+    Number { value, end: at + 5 }
 }
 
 // A number of one to five digits that starts at `at`.
-fn first_digit(s: &[u8], at: usize) -> Number
+fn first_digit(s: &[u8], at: usize) -> Result<Number, Refusal>
     requires { at ≤ length s.now }
-    ensures { result ≡ first_digit_of s.now at }
+    ensures { number_told result ≡ first_digit_of s.now at }
 {
     let b = byte(s, at);
-    if is_digit(b) {
-        return digits(s, at);
+    if !is_digit(b) {
+        return Err(misfit(b));
     }
-    Number::Misfit(misfit(b))
+    Ok(digits(s, at))
 }
 
 // A number behind one or more white space bytes that start at `at`.
-fn read_number(s: &[u8], at: usize) -> Number
+fn read_number(s: &[u8], at: usize) -> Result<Number, Refusal>
     requires { at ≤ length s.now }
-    ensures { result ≡ number_of s.now at }
+    ensures { number_told result ≡ number_of s.now at }
 {
     let b = byte(s, at);
-    if is_white(b) {
-        let e = white_end(s, at);
-        return first_digit(s, e);
+    if !is_white(b) {
+        return Err(misfit(b));
     }
-    Number::Misfit(misfit(b))
+    let start = white_end(s, at);
+    first_digit(s, start)
 }
 
-// Exactly one white space byte ends the header; the raster starts behind it.
-fn ending(s: &[u8], width: u32, height: u32, maxval: u32, at: usize) -> Head
-    ensures { result ≡ head_end s.now width height maxval at }
-{
-    let b = byte(s, at);
-    if is_white(b) {
-        return Head::Found(width, height, maxval, at + 1);
-    }
-    Head::Refused(misfit(b))
-}
-
-// The header from behind the height on.
-fn from_maxval(s: &[u8], width: u32, height: u32, at: usize) -> Head
-    requires { at ≤ length s.now }
-    ensures { result ≡ then_head (number_of s.now at) (λ m e. head_end s.now width height m e) }
-{
-    match read_number(s, at) {
-        Number::Read(maxval, e) => ending(s, width, height, maxval, e),
-        Number::Misfit(n) => Head::Refused(n),
-    }
-}
-
-// The header from behind the width on.
-fn from_height(s: &[u8], width: u32, at: usize) -> Head
-    requires { at ≤ length s.now }
-    ensures { result ≡ then_head (number_of s.now at) (λ h e. then_head (number_of s.now e) (λ m e. head_end s.now width h m e)) }
-{
-    match read_number(s, at) {
-        Number::Read(height, e) => from_maxval(s, width, height, e),
-        Number::Misfit(n) => Head::Refused(n),
-    }
-}
-
-// The header from behind its first two bytes on: width, height and maxval. A plain file's is read by it too.
-pub fn fields(s: &[u8]) -> Head
+// The header from behind its first two bytes on: width, height and maxval, and exactly one white space byte behind them. A plain file's is read by it too.
+pub fn fields(s: &[u8]) -> Result<Head, Refusal>
     requires { 2 ≤ length s.now }
-    ensures { result ≡ head_fields s.now }
+    ensures { head_told result ≡ head_fields s.now }
 {
-    match read_number(s, 2) {
-        Number::Read(width, e) => from_height(s, width, e),
-        Number::Misfit(n) => Head::Refused(n),
+    let width = read_number(s, 2)?;
+    let height = read_number(s, width.end)?;
+    let maxval = read_number(s, height.end)?;
+    let b = byte(s, maxval.end);
+    if !is_white(b) {
+        return Err(misfit(b));
     }
+    Ok(Head {
+        width: width.value,
+        height: height.value,
+        maxval: maxval.value,
+        start: maxval.end + 1,
+    })
 }
 
 // The header of a raw PGM file: "P5", then width, height and maxval.
-pub fn header(s: &[u8]) -> Head
-    ensures { result ≡ header_of s.now }
+pub fn header(s: &[u8]) -> Result<Head, Refusal>
+    ensures { head_told result ≡ header_of s.now }
 {
-    if byte(s, 0) != 80 {
-        return Head::Refused(20);
-    }
-    if byte(s, 1) != 53 {
-        return Head::Refused(20);
+    if byte(s, 0) != b'P' || byte(s, 1) != b'5' {
+        return Err(Refusal::Header);
     }
     fields(s)
 }
@@ -187,19 +148,13 @@ pub fn decimal_length(n: u32) -> usize
     requires { n < 100000 }
     ensures { result ≡ length (decimal_of 5 n) }
 {
-    if n < 10 {
-        return 1;
+    match n {
+        0..10 => 1,
+        10..100 => 2,
+        100..1000 => 3,
+        1000..10000 => 4,
+        _ => 5,
     }
-    if n < 100 {
-        return 2;
-    }
-    if n < 1000 {
-        return 3;
-    }
-    if n < 10000 {
-        return 4;
-    }
-    5
 }
 
 // Writes the digits of n from `at` on, the last one first; hands back the place behind them.
@@ -209,11 +164,9 @@ fn decimal(out: &mut [u8], at: usize, n: u32) -> usize
 {
     let count = decimal_length(n);
     let mut v = n;
-    let mut k = count;
-    while 0 < k {
-        k -= 1;
-        out[at + k] = (48 + v % 10) as u8;
-        v = v / 10;
+    for k in (0..count).rev() {
+        out[at + k] = b'0' + (v % 10) as u8;
+        v /= 10;
     }
     at + count
 }
@@ -229,6 +182,7 @@ pub fn field(out: &mut [u8], at: usize, n: u32, end: u8) -> usize
 }
 
 // How many bytes a header takes.
+#[tactic(auto, using(crate::proofs::Writing::count_most, crate::proofs::Writing::length_header))]
 pub fn header_length(width: u32, height: u32, maxval: u32) -> usize
     requires { (width < 100000) × (height < 100000) × (maxval < 100000) }
     ensures { result ≡ length (header_bytes width height maxval) }
@@ -241,10 +195,10 @@ pub fn write_header(out: &mut [u8], width: u32, height: u32, maxval: u32) -> usi
     requires { (width < 100000) × (height < 100000) × (maxval < 100000) × (length (header_bytes width height maxval) ≤ length out.old) }
     ensures { (out.new ≡ onto out.old (header_bytes width height maxval)) × (result ≡ length (header_bytes width height maxval)) }
 {
-    out[0] = 80;
-    out[1] = 53;
-    out[2] = 10;
-    let a = field(out, 3, width, 32);
-    let b = field(out, a, height, 10);
-    field(out, b, maxval, 10)
+    out[0] = b'P';
+    out[1] = b'5';
+    out[2] = b'\n';
+    let a = field(out, 3, width, b' ');
+    let b = field(out, a, height, b'\n');
+    field(out, b, maxval, b'\n')
 }

@@ -10,14 +10,13 @@ use lib.ListN.{length, drop, get_or, length-drop, length-append, drop_of_length-
 use native.Mathlib.Omega.{arith}
 use borrow.Author.Tests.{leb-true, le-leb, ltb-true}
 use Rattle.base_lists.specs.Lists.{all}
-use Rattle.pgm_header.specs.declared.Number.{Number}
-use Rattle.pgm_header.specs.declared.Number.TheVariants.{Read, Misfit}
+use Rattle.pgm_header.specs.Header.{Number}
+use Rattle.pgm_header.specs.Header.{Read, Misfit}
 use Rattle.pgm_header.specs.Header.{is_white_of, is_digit_of, white_of, digits_of}
 use Rattle.pgm_header.proofs.Reading.{digits_upto, digit_not_white}
 use Rattle.pgm_header.proofs.Grammar.{byte_at, drop_behind, all_first, white_run, white_not_digit, digits_run, white_taken, digits_taken}
-use Rattle.pgm_plain.specs.declared.Sample.{Sample}
-use Rattle.pgm_plain.specs.declared.Sample.TheVariants as Sample
-use Rattle.pgm_plain.specs.declared.Scan.TheVariants as Scan
+use Rattle.pgm_plain.specs.Sample.{Sample}
+use Rattle.pgm_plain.specs.Scan.{Scan}
 use Rattle.pgm_plain.specs.Plain.{ends_at, judged_sample, token_of, sample_of, then_scan, scan_of, then_greys, greys_from}
 use Rattle.pgm_plain.specs.Grammar.{SampleIn, Samples}
 use Rattle.pgm_plain.proofs.Samples.{judged_grey, token_read, sample_token}

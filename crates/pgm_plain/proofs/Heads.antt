@@ -12,8 +12,7 @@ use native.Mathlib.Omega.{arith}
 use borrow.Author.Tests.{eq-eqb, ne_eqb, eqb-true}
 use Rattle.base_lists.specs.Lists.{onto}
 use Rattle.base_lists.proofs.Tabs.{and_left, and_right}
-use Rattle.pgm_header.specs.declared.Head.{Head}
-use Rattle.pgm_header.specs.declared.Head.TheVariants as Head
+use Rattle.pgm_header.specs.Header.{Head}
 use Rattle.pgm_header.specs.Header.{head_fields, header_of, header_bytes}
 use Rattle.pgm_header.proofs.Reading.{test_within, header_fields, fields_same}
 use Rattle.pgm_header.proofs.Grammar.{header_complete, header_longer, header_rest, header_sound}

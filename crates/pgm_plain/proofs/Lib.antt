@@ -1,3 +1,4 @@
+pub mod Told
 pub mod Samples
 pub mod Heads
 pub mod Grammar

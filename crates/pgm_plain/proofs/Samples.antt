@@ -11,25 +11,13 @@ use native.Mathlib.Omega.{arith}
 use borrow.Author.Tests.{le-leb, lt-leb, lt-ltb, le-ltb, leb-true}
 use Rattle.base_lists.specs.Lists.{onto, filled}
 use Rattle.base_lists.proofs.Fills.{filled_none, filled_step, filled_copy, filled_end}
-use Rattle.pgm_header.specs.declared.Number.{Number}
-use Rattle.pgm_header.specs.declared.Number.TheVariants.{Read, Misfit}
+use Rattle.pgm_header.specs.Header.{Number}
+use Rattle.pgm_header.specs.Header.{Read, Misfit}
 use Rattle.pgm_header.specs.Header.{is_white_of, white_of, digits_of}
 use Rattle.pgm_header.proofs.Reading.{digits_upto, digits_never, white_le}
-use Rattle.pgm_plain.specs.declared.Sample.{Sample}
-use Rattle.pgm_plain.specs.declared.Sample.TheVariants as Sample
-use Rattle.pgm_plain.specs.declared.Scan.{Scan}
-use Rattle.pgm_plain.specs.declared.Scan.TheVariants as Scan
+use Rattle.pgm_plain.specs.Sample.{Sample}
+use Rattle.pgm_plain.specs.Scan.{Scan}
 use Rattle.pgm_plain.specs.Plain.{ends_at, judged_sample, token_of, sample_of, then_scan, scan_of, then_greys, greys_from, LayAsks}
-
--- ---- where a sample may end
-
-pub ends_past : (s : List ℕ) (e : ℕ) → length s ≤ e → true ≡ ends_at s e
-unfolding ends_at
-ends_past s e l = rw (le-leb (length s) e l) refl
-
-pub ends_byte : (s : List ℕ) (e : ℕ) {b : Bool} → e < length s → b ≡ is_white_of (get_or s e 0) → b ≡ ends_at s e
-unfolding ends_at
-ends_byte s e l h = h ∙ rw (lt-leb (length s) e l) refl
 
 -- ---- one sample
 
@@ -52,9 +40,6 @@ judged_grey m s from v e l h a = rw (lt-ltb from e l, h, le-leb v m a) refl
 pub token_read : (m : ℕ) (s : List ℕ) (from : ℕ) {v e : ℕ} {r : Sample} → Read v e ≡ digits_of 5 (drop from s) 0 from → r ≡ judged_sample m s from (Read v e) → r ≡ token_of m s from
 unfolding token_of
 token_read m s from q h = h ∙ ap (judged_sample m s from) q
-
-pub token_misfit : (m : ℕ) (s : List ℕ) (from : ℕ) {n : ℕ} → Misfit n ≡ digits_of 5 (drop from s) 0 from → Sample.Refused 24 ≡ token_of m s from
-token_misfit m s from {n} q = absurd (digits_never 5 (drop from s) 0 from n (sym q))
 
 pub sample_token : (m : ℕ) (s : List ℕ) (at : ℕ) {from : ℕ} {r : Sample} → from ≡ white_of (drop at s) at → r ≡ token_of m s from → r ≡ sample_of m s at
 unfolding sample_of

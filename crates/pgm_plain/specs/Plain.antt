@@ -3,15 +3,12 @@
 -- Assumes nothing.
 use Rattle.std.specs.Prelude.{ℕ, zero, suc, ◌≤◌, Bool, ◌&&◌, ◌||◌, cond, List, [], ◌∷◌, ◌++◌, ◌≡◌, leb, ltb, eqb, length, drop, get_or}
 use Rattle.base_lists.specs.Lists.{joined}
-use Rattle.pgm_header.specs.declared.Head.{Head}
-use Rattle.pgm_header.specs.declared.Head.TheVariants as Head
-use Rattle.pgm_header.specs.declared.Number.{Number}
-use Rattle.pgm_header.specs.declared.Number.TheVariants.{Read, Misfit}
+use Rattle.pgm_header.specs.Header.{Head}
+use Rattle.pgm_header.specs.Header.{Number}
+use Rattle.pgm_header.specs.Header.{Read, Misfit}
 use Rattle.pgm_header.specs.Header.{is_white_of, white_of, digits_of, header_of, decimal_of, header_bytes}
-use Rattle.pgm_plain.specs.declared.Sample.{Sample}
-use Rattle.pgm_plain.specs.declared.Sample.TheVariants as Sample
-use Rattle.pgm_plain.specs.declared.Scan.{Scan}
-use Rattle.pgm_plain.specs.declared.Scan.TheVariants as Scan
+use Rattle.pgm_plain.specs.Sample.{Sample}
+use Rattle.pgm_plain.specs.Scan.{Scan}
 
 -- ---- the header
 

@@ -12,11 +12,9 @@ pub fn lines_length(picture: &[u16]) -> usize
     requires { length picture.now ≤ 16777216 }
     ensures { result ≡ length (lines_of picture.now) }
 {
-    let mut sum: usize = 0;
-    let mut i = 0;
-    while i < picture.len() {
-        sum += pgm_header::decimal_length(picture[i] as u32) + 1;
-        i += 1;
+    let mut sum = 0;
+    for &grey in picture {
+        sum += pgm_header::decimal_length(grey as u32) + 1;
     }
     sum
 }
@@ -26,10 +24,8 @@ fn fill_pairs(pairs: &mut [u16])
     requires { length pairs.old ≡ 100 }
     ensures { pairs.new ≡ pairs100 }
 {
-    let mut i = 0;
-    while i < pairs.len() {
+    for i in 0..pairs.len() {
         pairs[i] = (48 + i / 10 + (48 + i % 10) * 256) as u16;
-        i += 1;
     }
 }
 
@@ -50,7 +46,7 @@ fn lay_three(out: &mut [u8], at: usize, v: u32, pairs: &[u16]) -> usize
 {
     out[at] = (48 + v / 100) as u8;
     lay_two(out, at + 1, v % 100, pairs);
-    out[at + 3] = 10;
+    out[at + 3] = b'\n';
     at + 4
 }
 
@@ -61,7 +57,7 @@ fn lay_four(out: &mut [u8], at: usize, v: u32, pairs: &[u16]) -> usize
 {
     lay_two(out, at, v / 100, pairs);
     lay_two(out, at + 2, v % 100, pairs);
-    out[at + 4] = 10;
+    out[at + 4] = b'\n';
     at + 5
 }
 
@@ -70,16 +66,11 @@ fn lay_line(out: &mut [u8], at: usize, v: u32, pairs: &[u16]) -> usize
     requires { (v < 100000) × (at + length (decimal_of 5 v) < length out.old) × (pairs.now ≡ pairs100) }
     ensures { (out.new ≡ over out.old at (sample_line v)) × (result ≡ at + length (decimal_of 5 v) + 1) }
 {
-    if v < 100 {
-        return pgm_header::field(out, at, v, 10);
+    match v {
+        100..1000 => lay_three(out, at, v, pairs),
+        1000..10000 => lay_four(out, at, v, pairs),
+        _ => pgm_header::field(out, at, v, b'\n'),
     }
-    if v < 1000 {
-        return lay_three(out, at, v, pairs);
-    }
-    if v < 10000 {
-        return lay_four(out, at, v, pairs);
-    }
-    pgm_header::field(out, at, v, 10)
 }
 
 // Lays the samples of a picture down, a line each; hands back how many bytes they take.
@@ -88,10 +79,8 @@ fn lay_each(picture: &[u16], out: &mut [u8], pairs: &[u16]) -> usize
     ensures { (out.new ≡ onto out.old (lines_of picture.now)) × (result ≡ length (lines_of picture.now)) }
 {
     let mut p = 0;
-    let mut i = 0;
-    while i < picture.len() {
-        p = lay_line(out, p, picture[i] as u32, pairs);
-        i += 1;
+    for &grey in picture {
+        p = lay_line(out, p, grey as u32, pairs);
     }
     p
 }

@@ -9,16 +9,13 @@ use lib.ListN.{length, drop}
 use native.Mathlib.Omega.{arith}
 use borrow.Author.Tests.{eq-eqb, ne_eqb, eqb-true, le-ltb, lt-ltb, ltb-false}
 use Rattle.base_lists.specs.Lists.{onto}
-use Rattle.base_rows.specs.Refuse.{row, first, unless}
+use Rattle.base_rows.specs.Refuse.{row, first, unless, accepted, refused}
 use Rattle.base_rows.proofs.Walk.{first_skip, first_hit, first_both, unless_refused, front, behind}
-use Rattle.pgm_header.specs.declared.Head.{Head}
-use Rattle.pgm_header.specs.declared.Head.TheVariants as Head
+use Rattle.pgm_header.specs.Header.{Head}
 use Rattle.pgm_header.specs.Header.{white_of}
 use Rattle.pgm_raster.specs.Raster.{head_rows}
 use Rattle.pgm_raster.proofs.Tables.{limit_numbered, head_within}
-use Rattle.pgm_read.specs.declared.Sizes.TheVariants as Sizes
-use Rattle.pgm_plain.specs.declared.Scan.{Scan}
-use Rattle.pgm_plain.specs.declared.Scan.TheVariants as Scan
+use Rattle.pgm_plain.specs.Scan.{Scan}
 use Rattle.pgm_plain.specs.Plain.{plain_head_of, scan_of, greys_from, LayAsks}
 use Rattle.pgm_plain.proofs.Samples.{scan_number}
 use Rattle.pgm_plain_read.specs.PlainRead.{sample_rows, plain_rows, PlainAsks, PlainRead, plain_read_as, samples_of, by_head, plain_of, limited_of}
@@ -84,15 +81,15 @@ module _ (s : List ℕ) (w h m at room : ℕ) where
 -- ---- what the call leaves
 
 module _ (s : List ℕ) (w h m at : ℕ) (target : List ℕ) where
-  pub samples_kept : {n : ℕ} → n ≡ first (plain_rows s w h m at (length target)) → (n ≡ 0 → ⊥) → plain_read_as (Sizes.Refused n) target ≡ samples_of s w h m at target
+  pub samples_kept : {n : ℕ} → n ≡ first (plain_rows s w h m at (length target)) → (n ≡ 0 → ⊥) → plain_read_as (refused n) target ≡ samples_of s w h m at target
   unfolding samples_of
-  samples_kept {n} e z = unless_refused n (λ k. plain_read_as (Sizes.Refused k) target) done z ∙ ap (λ j. unless j (λ k. plain_read_as (Sizes.Refused k) target) done) e
+  samples_kept {n} e z = unless_refused n (λ k. plain_read_as (refused k) target) done z ∙ ap (λ j. unless j (λ k. plain_read_as (refused k) target) done) e
     where
       done : PlainRead
-      done = plain_read_as (Sizes.Found w h m) (onto target (greys_from (w * h) m s at))
+      done = plain_read_as (accepted (w, h, m)) (onto target (greys_from (w * h) m s at))
 
   pub samples_laid : {n : ℕ} {left : List ℕ} → n ≡ first (plain_rows s w h m at (length target)) → n ≡ 0 → left ≡ onto target (greys_from (w * h) m s at)
-      → plain_read_as (Sizes.Found w h m) left ≡ samples_of s w h m at target
+      → plain_read_as (accepted (w, h, m)) left ≡ samples_of s w h m at target
   unfolding samples_of
   samples_laid e z q = rw (← e, z, q) refl
 
@@ -108,19 +105,19 @@ pub read_found : (s target : List ℕ) {w h m at : ℕ} {r : PlainRead} → Head
 unfolding plain_of
 read_found s target q e = e ∙ ap (λ x. by_head x s target) q
 
-pub read_refused : (s target : List ℕ) {n : ℕ} → Head.Refused n ≡ plain_head_of s → plain_read_as (Sizes.Refused n) target ≡ plain_of s target
+pub read_refused : (s target : List ℕ) {n : ℕ} → Head.Refused n ≡ plain_head_of s → plain_read_as (refused n) target ≡ plain_of s target
 unfolding plain_of
 read_refused s target q = ap (λ x. by_head x s target) q
 
-pub sizes_limit : {x : Head} {w h m at n : ℕ} → Head.Found w h m at ≡ x → n ≡ first (head_rows w h m) → (n ≡ 0 → ⊥) → Sizes.Refused n ≡ limited_of x
+pub sizes_limit : {x : Head} {w h m at n : ℕ} → Head.Found w h m at ≡ x → n ≡ first (head_rows w h m) → (n ≡ 0 → ⊥) → refused n ≡ limited_of x
 unfolding limited_of
 sizes_limit {x} {w} {h} {m} {at} {n} q e z =
-    unless_refused n Sizes.Refused (Sizes.Found w h m) z ∙ (ap (λ j. unless j Sizes.Refused (Sizes.Found w h m)) e ∙ ap limited_of q)
+    unless_refused n refused (accepted (w, h, m)) z ∙ (ap (λ j. unless j refused (accepted (w, h, m))) e ∙ ap limited_of q)
 
-pub sizes_found : {x : Head} {w h m at n : ℕ} → Head.Found w h m at ≡ x → n ≡ first (head_rows w h m) → n ≡ 0 → Sizes.Found w h m ≡ limited_of x
+pub sizes_found : {x : Head} {w h m at n : ℕ} → Head.Found w h m at ≡ x → n ≡ first (head_rows w h m) → n ≡ 0 → accepted (w, h, m) ≡ limited_of x
 unfolding limited_of
-sizes_found {x} {w} {h} {m} q e z = ap (λ j. unless j Sizes.Refused (Sizes.Found w h m)) (sym z ∙ e) ∙ ap limited_of q
+sizes_found {x} {w} {h} {m} q e z = ap (λ j. unless j refused (accepted (w, h, m))) (sym z ∙ e) ∙ ap limited_of q
 
-pub sizes_refused : {x : Head} {n : ℕ} → Head.Refused n ≡ x → Sizes.Refused n ≡ limited_of x
+pub sizes_refused : {x : Head} {n : ℕ} → Head.Refused n ≡ x → refused n ≡ limited_of x
 unfolding limited_of
 sizes_refused q = ap limited_of q

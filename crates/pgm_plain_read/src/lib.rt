@@ -1,52 +1,55 @@
 // Plain PGM: read, asked for the sizes alone or for the film.
 #![tactic(auto)]
 
-ghost use Rattle.std.specs.Prelude.{◌≡◌, ◌*◌, ◌≤◌, length};
+ghost use Rattle.std.specs.Prelude.{◌≡◌, ◌≤◌, length};
 ghost use Rattle.base_rows.specs.Refuse.{first};
-ghost use Rattle.pgm_plain.specs.declared.Scan.TheVariants as Scans;
+ghost use Rattle.base_rows.specs.Given.{given};
+ghost use Rattle.pgm_read.specs.Pgm.{sizes_says};
+ghost use Rattle.pgm_plain.specs.Scan.{Done};
 ghost use Rattle.pgm_plain.specs.Plain.{plain_head_of, scan_of};
 ghost use Rattle.pgm_plain_read.specs.PlainRead.{sample_rows, plain_rows, plain_read_as, samples_of, plain_of, limited_of};
 
-use pgm_header::Head;
-use pgm_plain::Scan;
+use base_rows::Refusal;
 use pgm_read::Sizes;
 
-// Refusal 25, where a byte behind the last sample is no white space, else 0.
+// Refusal 25, where a byte behind the last sample is no white space.
 #[tactic(auto, using(crate::proofs::Tables::tail_other, crate::proofs::Tables::tail_white))]
-fn tail_refusal(bytes: &[u8], end: usize) -> u32
+fn tail_refusal(bytes: &[u8], end: usize) -> Result<(), Refusal>
     requires { end ≤ length bytes.now }
-    ensures { result ≡ first (sample_rows (Scans.Done end) bytes.now) }
+    ensures { given result ≡ first (sample_rows (Done end) bytes.now) }
 {
     let behind = pgm_header::white_end(bytes, end);
     if behind != bytes.len() {
-        return 25;
+        return Err(Refusal::RasterLong);
     }
-    0
+    Ok(())
 }
 
-// The first of the refusals 24 and 26 that a sample meets, then 25, else 0.
-fn sample_refusal(bytes: &[u8], maxval: u32, at: usize, count: usize) -> u32
+// The first of the refusals 24 and 26 that a sample meets, then 25.
+fn sample_refusal(bytes: &[u8], maxval: u32, at: usize, count: usize) -> Result<(), Refusal>
     requires { at ≤ length bytes.now }
-    ensures { result ≡ first (sample_rows (scan_of count maxval bytes.now at) bytes.now) }
+    ensures { given result ≡ first (sample_rows (scan_of count maxval bytes.now at) bytes.now) }
 {
-    match pgm_plain::scan_samples(bytes, maxval, at, count) {
-        Scan::Done(end) => tail_refusal(bytes, end),
-        Scan::Refused(n) => n,
-    }
+    let end = pgm_plain::scan_samples(bytes, maxval, at, count)?;
+    tail_refusal(bytes, end)
 }
 
-// The first refusal behind the header, else 0.
-fn plain_refusal(bytes: &[u8], width: u32, height: u32, maxval: u32, at: usize, room: usize) -> u32
+// The first refusal behind the header.
+fn plain_refusal(
+    bytes: &[u8],
+    width: u32,
+    height: u32,
+    maxval: u32,
+    at: usize,
+    room: usize,
+) -> Result<(), Refusal>
     requires { at ≤ length bytes.now }
-    ensures { result ≡ first (plain_rows bytes.now width height maxval at room) }
+    ensures { given result ≡ first (plain_rows bytes.now width height maxval at room) }
 {
-    let limit = pgm_raster::limit_refusal(width, height, maxval);
-    if limit != 0 {
-        return limit;
-    }
+    pgm_raster::limit_refusal(width, height, maxval)?;
     let count = (width as usize) * (height as usize);
     if room < count {
-        return 27;
+        return Err(Refusal::TargetShort);
     }
     sample_refusal(bytes, maxval, at, count)
 }
@@ -59,43 +62,44 @@ fn lay_film(
     maxval: u32,
     at: usize,
     target: &mut [u16],
-) -> Sizes
+) -> Result<Sizes, Refusal>
     requires { at ≤ length bytes.now }
-    ensures { plain_read_as result target.new ≡ samples_of bytes.now width height maxval at target.old }
+    ensures { plain_read_as (sizes_says result) target.new ≡ samples_of bytes.now width height maxval at target.old }
 {
-    let refusal = plain_refusal(bytes, width, height, maxval, at, target.len());
-    if refusal != 0 {
-        return Sizes::Refused(refusal);
-    }
+    plain_refusal(bytes, width, height, maxval, at, target.len())?;
     let count = (width as usize) * (height as usize);
     pgm_plain::lay_greys(bytes, maxval, at, count, target);
-    Sizes::Found(width, height, maxval)
+    Ok(Sizes {
+        width,
+        height,
+        maxval,
+    })
 }
 
 // Reads a plain PGM file into target; entries behind the last grey keep their contents.
-pub fn read_plain(bytes: &[u8], target: &mut [u16]) -> Sizes
-    ensures { plain_read_as result target.new ≡ plain_of bytes.now target.old }
+pub fn read_plain(bytes: &[u8], target: &mut [u16]) -> Result<Sizes, Refusal>
+    ensures { plain_read_as (sizes_says result) target.new ≡ plain_of bytes.now target.old }
 {
-    match pgm_plain::plain_head(bytes) {
-        Head::Found(width, height, maxval, at) => lay_film(
-            bytes, width, height, maxval, at, target,
-        ),
-        Head::Refused(n) => Sizes::Refused(n),
-    }
+    let head = pgm_plain::plain_head(bytes)?;
+    lay_film(
+        bytes,
+        head.width,
+        head.height,
+        head.maxval,
+        head.start,
+        target,
+    )
 }
 
 // Its sizes and maxval alone: how much to lend.
-pub fn plain_sizes(bytes: &[u8]) -> Sizes
-    ensures { result ≡ limited_of (plain_head_of bytes.now) }
+pub fn plain_sizes(bytes: &[u8]) -> Result<Sizes, Refusal>
+    ensures { sizes_says result ≡ limited_of (plain_head_of bytes.now) }
 {
-    match pgm_plain::plain_head(bytes) {
-        Head::Found(width, height, maxval, _) => {
-            let limit = pgm_raster::limit_refusal(width, height, maxval);
-            if limit != 0 {
-                return Sizes::Refused(limit);
-            }
-            Sizes::Found(width, height, maxval)
-        }
-        Head::Refused(n) => Sizes::Refused(n),
-    }
+    let head = pgm_plain::plain_head(bytes)?;
+    pgm_raster::limit_refusal(head.width, head.height, head.maxval)?;
+    Ok(Sizes {
+        width: head.width,
+        height: head.height,
+        maxval: head.maxval,
+    })
 }

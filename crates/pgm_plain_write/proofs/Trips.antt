@@ -6,11 +6,11 @@ use mathlib.Core.Path.{◌≡◌, refl, sym}
 use native.Mathlib.Omega.{arith}
 use lib.ListN.{length}
 use Rattle.base_lists.specs.Lists.{onto, all}
+use Rattle.base_rows.specs.Refuse.{accepted}
 use Rattle.base_rows.proofs.Walk.{none_first}
 use Rattle.pgm_samples.specs.Samples.{none_above_of}
 use Rattle.pgm_raster.specs.Raster.{head_rows}
 use Rattle.pgm_raster.proofs.Tables.{within_none}
-use Rattle.pgm_read.specs.declared.Sizes.TheVariants as Sizes
 use Rattle.pgm_write.specs.Write.{WriteReady}
 use Rattle.pgm_plain.specs.Plain.{plain_head_of, lines_of}
 use Rattle.pgm_plain.specs.Grammar.{PlainFile}
@@ -35,11 +35,11 @@ module _ (pic : List ℕ) (w h m : ℕ) (film : WriteReady pic w h m) where
       }
 
   -- its sizes are read back
-  pub plain_sizes_back : limited_of (plain_head_of (plain_file_of pic w h m)) ≡ Sizes.Found w h m
+  pub plain_sizes_back : limited_of (plain_head_of (plain_file_of pic w h m)) ≡ accepted (w, h, m)
   plain_sizes_back = sym (sizes_found (sym (head_complete file_written.header)) refl (none_first (head_rows w h m) (within_none w h m film.within)))
 
   -- "a film written and read back is the same film": its width, height and maxval are answered, and its greys stand at the front of a target with room
-  pub plain_read_back : (target : List ℕ) → w * h ≤ length target → plain_read_as (Sizes.Found w h m) (onto target pic) ≡ plain_of (plain_file_of pic w h m) target
+  pub plain_read_back : (target : List ℕ) → w * h ≤ length target → plain_read_as (accepted (w, h, m)) (onto target pic) ≡ plain_of (plain_file_of pic w h m) target
   plain_read_back target l =
       read_complete (plain_file_of pic w h m) target w h m
       (record { pic = pic; file = file_written; within = film.within; fitting = l; laid = refl })

@@ -4,28 +4,32 @@
 ghost use Rattle.std.specs.Prelude.{◌≡◌, length};
 ghost use Rattle.base_lists.specs.Lists.{onto};
 ghost use Rattle.base_rows.specs.Refuse.{first};
+ghost use Rattle.base_rows.specs.Given.{given, said};
 ghost use Rattle.pgm_write.specs.Write.{WriteAsks, write_leaves};
 ghost use Rattle.pgm_plain_write.specs.PlainWrite.{plain_file_of, plain_write_rows, plain_write_of};
 
-use pgm_write::Written;
+use base_rows::Refusal;
 
-// The first refusal of write, else 0. No line of a film takes more than five bytes, so that they are counted only where there is
+// The first refusal of write. No line of a film takes more than five bytes, so that they are counted only where there is
 // less room.
-fn write_refusal(picture: &[u16], width: u32, height: u32, maxval: u32, room: usize) -> u32
-    ensures { result ≡ first (plain_write_rows picture.now width height maxval room) }
+fn write_refusal(
+    picture: &[u16],
+    width: u32,
+    height: u32,
+    maxval: u32,
+    room: usize,
+) -> Result<(), Refusal>
+    ensures { given result ≡ first (plain_write_rows picture.now width height maxval room) }
 {
-    let refusal = pgm_write::picture_refusal(picture, width, height, maxval);
-    if refusal != 0 {
-        return refusal;
-    }
+    pgm_write::picture_refusal(picture, width, height, maxval)?;
     let header = pgm_header::header_length(width, height, maxval);
     if header + 5 * picture.len() <= room {
-        return 0;
+        return Ok(());
     }
     if room < header + pgm_plain_lines::lines_length(picture) {
-        return 27;
+        return Err(Refusal::TargetShort);
     }
-    0
+    Ok(())
 }
 
 // Lays the header down, and the samples straight behind it; hands back how many bytes they take.
@@ -38,13 +42,16 @@ fn lay_file(picture: &[u16], width: u32, height: u32, maxval: u32, out: &mut [u8
     header + lines
 }
 
-// Writes a picture as a plain PGM file at the front of out; bytes behind it keep their contents.
-pub fn write_plain(picture: &[u16], width: u32, height: u32, maxval: u32, out: &mut [u8]) -> Written
-    ensures { write_leaves result out.new ≡ plain_write_of picture.now width height maxval out.old }
+// Writes a picture as a plain PGM file at the front of out, and hands back how many bytes it takes; bytes behind it keep their contents.
+pub fn write_plain(
+    picture: &[u16],
+    width: u32,
+    height: u32,
+    maxval: u32,
+    out: &mut [u8],
+) -> Result<usize, Refusal>
+    ensures { write_leaves (said result) out.new ≡ plain_write_of picture.now width height maxval out.old }
 {
-    let refusal = write_refusal(picture, width, height, maxval, out.len());
-    if refusal != 0 {
-        return Written::Refused(refusal);
-    }
-    Written::Bytes(lay_file(picture, width, height, maxval, out))
+    write_refusal(picture, width, height, maxval, out.len())?;
+    Ok(lay_file(picture, width, height, maxval, out))
 }

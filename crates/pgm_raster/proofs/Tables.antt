@@ -8,7 +8,7 @@ use native.Mathlib.Omega.{arith}
 use native.Mathlib.Nat.{mul-le-mul, mul-pos}
 use lib.ListN.{length, take, drop, length-drop}
 use lib.Seq.{take_all}
-use borrow.Author.Tests.{ltb-false, ne_eqb, le-ltb, lt-ltb}
+use borrow.Author.Tests.{ltb-false, ne_eqb, le-ltb}
 use Rattle.base_lists.specs.Lists.{all}
 use Rattle.base_lists.proofs.Orders.{pos}
 use Rattle.base_rows.specs.Refuse.{first, None, numbers_of, Numbered}
@@ -71,23 +71,6 @@ exact w h m size e =
 pub exact_none : (w h m size : ℕ) → raster_size_of w h m ≡ size → None (raster_rows w h m size)
 unfolding raster_rows
 exact_none w h m size e = (le-ltb size (raster_size_of w h m) (omega arith), (le-ltb (raster_size_of w h m) size (omega arith), tt))
-
--- the rows against the bytes that were counted
-module _ (w h m size : ℕ) where
-  -- 24 applies
-  pub raster_short : {whole : ℕ} → whole ≡ raster_size_of w h m → size < whole → 24 ≡ first (raster_rows w h m size)
-  unfolding first raster_rows
-  raster_short e l = rw (lt-ltb size (raster_size_of w h m) (omega arith)) refl
-
-  -- 25 applies
-  pub raster_long : {whole : ℕ} → whole ≡ raster_size_of w h m → whole ≤ size → whole < size → 25 ≡ first (raster_rows w h m size)
-  unfolding first raster_rows
-  raster_long e k l = rw (le-ltb size (raster_size_of w h m) (omega arith), lt-ltb (raster_size_of w h m) size (omega arith)) refl
-
-  -- neither applies
-  pub raster_whole : {whole : ℕ} → whole ≡ raster_size_of w h m → whole ≤ size → size ≤ whole → 0 ≡ first (raster_rows w h m size)
-  unfolding first raster_rows
-  raster_whole e k l = rw (le-ltb size (raster_size_of w h m) (omega arith), le-ltb (raster_size_of w h m) size (omega arith)) refl
 
 -- ---- how large a raster is
 

@@ -7,7 +7,7 @@ use native.Mathlib.Omega.{arith}
 use lib.ListN.{length}
 use Rattle.base_rows.specs.Refuse.{first}
 use Rattle.base_rows.proofs.Walk.{first_both}
-use Rattle.pgm_header.specs.declared.Head.{Head}
+use Rattle.pgm_header.specs.Header.{Head}
 use Rattle.pgm_header.specs.Header.{header_of}
 use Rattle.pgm_raster.specs.Raster.{head_rows, raster_rows, RasterAsks}
 use Rattle.pgm_raster.proofs.Tables.{limit_numbered, raster_asks}

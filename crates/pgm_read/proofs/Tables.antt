@@ -5,14 +5,19 @@ use mathlib.Core.List.{List, ◌++◌}
 use mathlib.Core.Path.{◌≡◌, refl, sym, ap, ◌∙◌}
 use native.Mathlib.Omega.{arith}
 use lib.ListN.{length}
-use Rattle.base_rows.specs.Refuse.{first, unless}
+use Rattle.std.specs.Prelude.{Result, Ok, Err}
+use Rattle.std.specs.Result.{IsErrAnd}
+use Rattle.base_rows.specs.Refuse.{first, unless, refused}
+use Rattle.base_rows.specs.Given.{number_of}
+use Rattle.base_rows.specs.declared.Refusal.{Refusal}
 use Rattle.base_rows.proofs.Walk.{front, behind, unless_refused}
-use Rattle.pgm_header.specs.declared.Head.{Head}
+use Rattle.pgm_header.specs.Header.{Head}
 use Rattle.pgm_header.specs.Header.{header_of}
 use Rattle.pgm_header.proofs.Laws.{found_within}
 use Rattle.pgm_raster.specs.Raster.{head_rows, raster_rows}
 use Rattle.pgm_raster.proofs.Tables.{limit_numbered}
-use Rattle.pgm_read.specs.Pgm.{judged_head, read_of}
+use Rattle.pgm_read.specs.declared.Sizes.{Sizes}
+use Rattle.pgm_read.specs.Pgm.{judged_head, read_of, sizes_says}
 
 module _ (w h m at size : ℕ) where
   -- 22 or 23 applies
@@ -62,3 +67,9 @@ read_header s {w} {h} {m} {at} q = go (header_of s) refl q
 -- the raster that read finds starts within the bytes
 pub read_within : (s : List ℕ) {w h m at : ℕ} → read_of s ≡ Head.Found w h m at → at ≤ length s
 read_within s e = found_within s (read_header s e)
+
+-- a refusal that is handed on is told by its number
+pub sizes_err : (q : Result Sizes Refusal) (e : Refusal) → IsErrAnd q (λ f. f ≡ e) → sizes_says q ≡ refused (number_of e)
+unfolding sizes_says
+sizes_err (Ok s) e h = absurd h
+sizes_err (Err f) e h = ap (λ r. refused (number_of r)) h

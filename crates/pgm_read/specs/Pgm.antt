@@ -1,10 +1,11 @@
 -- Document 01, "What each call hands back" for read, and the refusals 20 to 25.
 -- A file is a list of bytes. w, h and m are width, height and maxval.
 -- Assumes nothing.
-use Rattle.std.specs.Prelude.{ℕ, ◌-◌, List, [], ◌++◌, length, drop}
+use Rattle.std.specs.Prelude.{ℕ, ◌-◌, List, [], ◌++◌, length, drop, Result, Ok, Err}
 use Rattle.base_rows.specs.Refuse.{first, unless, Says, accepted, refused}
-use Rattle.pgm_header.specs.declared.Head.{Head}
-use Rattle.pgm_header.specs.Header.{header_of}
+use Rattle.base_rows.specs.Given.{number_of}
+use Rattle.base_rows.specs.declared.Refusal.{Refusal}
+use Rattle.pgm_header.specs.Header.{Head, header_of}
 use Rattle.pgm_raster.specs.Raster.{head_rows, raster_rows}
 use Rattle.pgm_read.specs.declared.Sizes.{Sizes}
 
@@ -21,10 +22,10 @@ judged_found w h m at size = judged_head (Head.Found w h m at) size
 unfoldable pub read_of : List ℕ → Head
 read_of s = judged_head (header_of s) (length s)
 
--- "for the sizes and maxval"
-abbrev pub sizes_of : Head → Sizes
-sizes_of (Head.Found w h m at) = Sizes.Found w h m
-sizes_of (Head.Refused n) = Sizes.Refused n
+-- "for the sizes and maxval": width, height and maxval, or a refusal
+abbrev pub sizes_of : Head → Says (ℕ × ℕ × ℕ)
+sizes_of (Head.Found w h m at) = accepted (w, h, m)
+sizes_of (Head.Refused n) = refused n
 
 -- "and for the raster handed back as that part of the caller's bytes"; "A refusal hands back an empty part."
 abbrev pub raster_of : Head → List ℕ → List ℕ
@@ -37,6 +38,6 @@ raster_start (Head.Found w h m at) = at
 raster_start (Head.Refused n) = 0
 
 -- document 01's values and number of read's answers: width, height and maxval, or a refusal
-unfoldable pub sizes_says : Sizes → Says (ℕ × ℕ × ℕ)
-sizes_says (Sizes.Found w h m) = accepted (w, h, m)
-sizes_says (Sizes.Refused n) = refused n
+unfoldable pub sizes_says : Result Sizes Refusal → Says (ℕ × ℕ × ℕ)
+sizes_says (Ok s) = accepted (s.width, s.height, s.maxval)
+sizes_says (Err r) = refused (number_of r)

@@ -1,14 +1,14 @@
 -- A raster that is laid down sample by sample.
 -- Assumes nothing.
 use Prim.Native.Nat.{ℕ, ◌+◌, ◌*◌, ◌≤◌}
-use mathlib.Core.Bool.{Bool, true}
+use mathlib.Core.Bool.{Bool}
 use mathlib.Core.List.{List}
 use mathlib.Core.Path.{◌≡◌, ◌∙◌}
 use lib.ListN.{length, get_or}
 use Rattle.base_lists.specs.Lists.{blocks, onto, over}
 use Rattle.base_lists.proofs.Fills.{blocks_none, length_joined}
 use Rattle.base_lists.proofs.Blocks.{blocks_over, blocks_end, blocks_onto}
-use Rattle.pgm_samples.specs.Samples.{is_wide, sample_bytes, bytes_of, packed, PackAsks}
+use Rattle.pgm_samples.specs.Samples.{sample_bytes, bytes_of, packed}
 use Rattle.pgm_samples.proofs.Widths.{length_bytes}
 
 -- d with the first n greys laid down at its front
@@ -31,10 +31,6 @@ unfolding laid packed
 laid_end two vs d e h l =
     let f : ℕ → List ℕ = λ k. bytes_of two (get_or vs k 0) in
     blocks_end (sample_bytes two) f d e h l ∙ blocks_onto (sample_bytes two) f d (length vs) (λ j l. length_bytes two (get_or vs j 0))
-
--- room for greys that take two bytes each
-pub wide_room : {maxval : ℕ} {vs : List ℕ} {len : ℕ} → is_wide maxval ≡ true → PackAsks maxval vs len → length vs * sample_bytes true ≤ len
-wide_room n h = rw n at h.room
 
 -- greys laid down take as many bytes as samples times the bytes of one
 pub length_packed : (two : Bool) (vs : List ℕ) → length (packed two vs) ≡ length vs * sample_bytes two

@@ -1,11 +1,12 @@
-// Greys to bytes and back, one or two bytes a sample. Each width has loops of its own, and no loop leaves early, so that the compiler has several samples go at once.
+// Greys to bytes and back, one or two bytes a sample: two where WIDE. Each width has loops of its own, and no loop leaves early, so that the compiler has several samples go at once.
 #![tactic(auto)]
 
 ghost use Rattle.std.specs.Prelude.{true, false, ◌≡◌, ◌+◌, ◌*◌, ◌≤◌, length, get_or};
-ghost use Rattle.base_lists.specs.Lists.{onto};
-ghost use Rattle.pgm_samples.specs.Samples.{is_wide, sample_bytes, sample_at, packed, unpacked, none_above_of, UnpackAsks, PackAsks};
+ghost use Rattle.base_lists.specs.Lists.{onto, over};
+ghost use Rattle.pgm_samples.specs.Samples.{is_wide, sample_bytes, bytes_of, sample_at, packed, unpacked, none_above_of, UnpackAsks, PackAsks};
 
 // Whether a sample takes two bytes: one if maxval is below 256, else two.
+#[tactic(auto, unfolding(crate::specs::Samples::is_wide))]
 pub fn is_wide(maxval: u32) -> bool
     ensures { result ≡ is_wide maxval }
 {
@@ -31,27 +32,25 @@ fn pair(bytes: &[u8], i: usize) -> u16
     both % 256 * 256 + both / 256
 }
 
-// Turns a raster of one byte a sample into greys at the front of target.
-fn unpack_bytes(bytes: &[u8], count: usize, target: &mut [u16])
-    requires { UnpackAsks false count (length bytes.now) (length target.old) }
-    ensures { target.new ≡ onto target.old (unpacked false bytes.now count) }
+// The i-th sample.
+fn sample<const WIDE: bool>(bytes: &[u8], i: usize) -> u16
+    requires { (i + 1) * sample_bytes WIDE ≤ length bytes.now }
+    ensures { result ≡ sample_at WIDE bytes.now i }
 {
-    let mut i = 0;
-    while i < count {
-        target[i] = bytes[i] as u16;
-        i += 1;
+    if WIDE {
+        pair(bytes, i)
+    } else {
+        bytes[i] as u16
     }
 }
 
-// The same for two bytes a sample.
-fn unpack_pairs(bytes: &[u8], count: usize, target: &mut [u16])
-    requires { UnpackAsks true count (length bytes.now) (length target.old) }
-    ensures { target.new ≡ onto target.old (unpacked true bytes.now count) }
+// Turns a raster of `count` samples into greys at the front of target.
+fn unpack_samples<const WIDE: bool>(bytes: &[u8], count: usize, target: &mut [u16])
+    requires { UnpackAsks WIDE count (length bytes.now) (length target.old) }
+    ensures { target.new ≡ onto target.old (unpacked WIDE bytes.now count) }
 {
-    let mut k = 0;
-    while k < count {
-        target[k] = pair(bytes, k);
-        k += 1;
+    for i in 0..count {
+        target[i] = sample::<WIDE>(bytes, i);
     }
 }
 
@@ -61,52 +60,36 @@ pub fn unpack(bytes: &[u8], wide: bool, count: usize, target: &mut [u16])
     ensures { target.new ≡ onto target.old (unpacked wide bytes.now count) }
 {
     if wide {
-        unpack_pairs(bytes, count, target);
-        return;
+        unpack_samples::<true>(bytes, count, target);
+    } else {
+        unpack_samples::<false>(bytes, count, target);
     }
-    unpack_bytes(bytes, count, target);
 }
 
-// Whether none of a raster's samples of one byte is above maxval: the greatest of them is not. No sample is asked by itself, and none at all where no byte can be above.
-fn bytes_none_above(bytes: &[u8], count: usize, maxval: u32) -> bool
-    requires { count * sample_bytes false ≡ length bytes.now }
-    ensures { result ≡ none_above_of maxval (unpacked false bytes.now count) }
+// Whether none of a raster's samples is above maxval: the greatest of them is not. No sample is asked by itself.
+fn samples_none_above<const WIDE: bool>(bytes: &[u8], count: usize, maxval: u32) -> bool
+    requires { count * sample_bytes WIDE ≡ length bytes.now }
+    ensures { result ≡ none_above_of maxval (unpacked WIDE bytes.now count) }
 {
-    if 255 <= maxval {
-        return true;
-    }
-    let mut most: u16 = 0;
-    let mut seen = 0;
-    while seen < count {
-        most = base_range::greatest(most, bytes[seen] as u16);
-        seen += 1;
-    }
-    most as u32 <= maxval
-}
-
-// The same for samples of two bytes.
-fn pairs_none_above(bytes: &[u8], count: usize, maxval: u32) -> bool
-    requires { count * sample_bytes true ≡ length bytes.now }
-    ensures { result ≡ none_above_of maxval (unpacked true bytes.now count) }
-{
-    let mut high: u16 = 0;
-    let mut seen = 0;
-    while seen < count {
-        high = base_range::greatest(high, pair(bytes, seen));
-        seen += 1;
+    let mut high = 0;
+    for seen in 0..count {
+        high = base_range::greatest(high, sample::<WIDE>(bytes, seen));
     }
     high as u32 <= maxval
 }
 
-// Whether none of the raster's samples is above maxval.
+// Whether none of the raster's samples is above maxval. None is looked at where no byte can be above.
 pub fn none_above(bytes: &[u8], wide: bool, count: usize, maxval: u32) -> bool
     requires { count * sample_bytes wide ≡ length bytes.now }
     ensures { result ≡ none_above_of maxval (unpacked wide bytes.now count) }
 {
-    if !wide {
-        return bytes_none_above(bytes, count, maxval);
+    if wide {
+        return samples_none_above::<true>(bytes, count, maxval);
     }
-    pairs_none_above(bytes, count, maxval)
+    if 255 <= maxval {
+        return true;
+    }
+    samples_none_above::<false>(bytes, count, maxval)
 }
 
 // Whether none of the greys is above maxval.
@@ -116,29 +99,26 @@ pub fn greys_none_above(greys: &[u16], maxval: u32) -> bool
     base_range::all_within(greys, 0, maxval)
 }
 
-// Lays greys down at the front of out, one byte each.
-fn pack_bytes(greys: &[u16], out: &mut [u8])
-    requires { PackAsks 255 greys.now (length out.old) }
-    ensures { out.new ≡ onto out.old (packed false greys.now) }
+// Lays a grey down as the i-th sample, of two bytes with the high byte first.
+fn lay<const WIDE: bool>(grey: u16, i: usize, out: &mut [u8])
+    requires { (WIDE ≡ false → grey ≤ 255) × ((i + 1) * sample_bytes WIDE ≤ length out.old) }
+    ensures { out.new ≡ over out.old (i * sample_bytes WIDE) (bytes_of WIDE grey) }
 {
-    let mut i = 0;
-    while i < greys.len() {
-        out[i] = greys[i] as u8;
-        i += 1;
+    if WIDE {
+        out[i * 2] = (grey / 256) as u8;
+        out[i * 2 + 1] = (grey % 256) as u8;
+    } else {
+        out[i] = grey as u8;
     }
 }
 
-// The same with two bytes each, high byte first.
-fn pack_pairs(greys: &[u16], out: &mut [u8])
-    requires { length greys.now * sample_bytes true ≤ length out.old }
-    ensures { out.new ≡ onto out.old (packed true greys.now) }
+// Lays greys down at the front of out.
+fn pack_samples<const WIDE: bool>(greys: &[u16], out: &mut [u8])
+    requires { (WIDE ≡ false → none_above_of 255 greys.now ≡ true) × (length greys.now * sample_bytes WIDE ≤ length out.old) }
+    ensures { out.new ≡ onto out.old (packed WIDE greys.now) }
 {
-    let mut k = 0;
-    while k < greys.len() {
-        let grey = greys[k];
-        out[k * 2] = (grey / 256) as u8;
-        out[k * 2 + 1] = (grey % 256) as u8;
-        k += 1;
+    for i in 0..greys.len() {
+        lay::<WIDE>(greys[i], i, out);
     }
 }
 
@@ -148,8 +128,8 @@ pub fn pack(greys: &[u16], maxval: u32, out: &mut [u8])
     ensures { out.new ≡ onto out.old (packed (is_wide maxval) greys.now) }
 {
     if is_wide(maxval) {
-        pack_pairs(greys, out);
-        return;
+        pack_samples::<true>(greys, out);
+    } else {
+        pack_samples::<false>(greys, out);
     }
-    pack_bytes(greys, out);
 }

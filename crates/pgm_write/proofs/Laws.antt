@@ -7,19 +7,16 @@ use native.Mathlib.Omega.{arith}
 use lib.ListN.{length, drop}
 use lib.Seq.{drop-append_seam}
 use Rattle.base_lists.specs.Lists.{onto}
-use Rattle.base_rows.specs.Refuse.{first}
+use Rattle.base_rows.specs.Refuse.{first, accepted}
 use Rattle.base_rows.proofs.Walk.{none_first}
-use Rattle.pgm_header.specs.declared.Head.TheVariants as Head
-use Rattle.pgm_header.specs.Header.{header_of, header_bytes}
+use Rattle.pgm_header.specs.Header.{Head, header_of, header_bytes}
 use Rattle.pgm_header.proofs.Laws.{round_trip}
 use Rattle.pgm_samples.specs.Samples.{is_wide, packed, unpacked, none_above_of}
 use Rattle.pgm_samples.proofs.Trips.{unpacked_packed}
 use Rattle.pgm_raster.specs.Raster.{raster_size_of, head_rows, raster_rows, RasterLimits}
 use Rattle.pgm_raster.proofs.Tables.{within_none, exact_none}
-use Rattle.pgm_read.specs.declared.Sizes.TheVariants as Sizes
 use Rattle.pgm_read.specs.Pgm.{read_of, sizes_of}
 use Rattle.pgm_read.proofs.Tables.{judged_found_lem, read_judged}
-use Rattle.pgm_greys.specs.declared.Turned.TheVariants as Turned
 use Rattle.pgm_greys.specs.Greys.{turn_rows, greys_leave, turned_of}
 use Rattle.pgm_greys.proofs.Tables.{grey_none}
 use Rattle.pgm_greys.proofs.Parts.{greys_done}
@@ -57,7 +54,7 @@ module _ (pic : List ℕ) (w h m room : ℕ) (ok : first (write_rows pic w h m r
       (none_first (raster_rows w h m (length (file_of pic w h m) - length (header_bytes w h m))) (exact_none w h m (length (file_of pic w h m) - length (header_bytes w h m)) (omega (arith, written_exact))))))
 
   -- the sizes that read gives are those written
-  pub written_sizes : sizes_of (read_of (file_of pic w h m)) ≡ Sizes.Found w h m
+  pub written_sizes : sizes_of (read_of (file_of pic w h m)) ≡ accepted (w, h, m)
   written_sizes = rw written_read refl
 
   -- the greys of its raster are the picture
@@ -66,7 +63,7 @@ module _ (pic : List ℕ) (w h m room : ℕ) (ok : first (write_rows pic w h m r
 
   -- a target with room takes them: no row of greys applies, and the picture stands at its front
   pub written_greys : (target : List ℕ) → w * h ≤ length target
-      → turned_of (file_of pic w h m) (length (header_bytes w h m)) w h m target ≡ greys_leave Turned.Done (onto target pic)
+      → turned_of (file_of pic w h m) (length (header_bytes w h m)) w h m target ≡ greys_leave (accepted tt) (onto target pic)
   written_greys target l =
       sym (greys_done (file_of pic w h m) (length (header_bytes w h m)) w h m target refl none (ap (onto target) (sym written_picture)))
     where

@@ -7,13 +7,12 @@ use native.Mathlib.Omega.{arith}
 use lib.ListN.{length, take, drop, length-drop}
 use Rattle.base_lists.specs.Lists.{onto}
 use Rattle.base_lists.proofs.Overs.{onto_tail}
-use Rattle.base_rows.specs.Refuse.{first, unless}
+use Rattle.base_rows.specs.Refuse.{first, unless, accepted, refused}
 use Rattle.base_rows.proofs.Walk.{unless_refused}
 use Rattle.pgm_header.specs.Header.{header_bytes}
 use Rattle.pgm_samples.specs.Samples.{is_wide, sample_bytes, packed, PackAsks}
 use Rattle.pgm_raster.specs.Raster.{raster_size_of}
 use Rattle.pgm_raster.proofs.Tables.{part_tail}
-use Rattle.pgm_write.specs.declared.Written.TheVariants as Written
 use Rattle.pgm_write.specs.Write.{written_rows, WriteAsks, file_of, WriteOut, write_leaves, written_of}
 use Rattle.pgm_write.proofs.Tables.{length_file}
 
@@ -41,15 +40,15 @@ file_room e pic w h m {at} {room} t q n =
 
 module _ (pic : List ℕ) (w h m : ℕ) (file out : List ℕ) where
   -- a refusal leaves the output as it was
-  pub write_refused : {n : ℕ} → n ≡ first (written_rows pic w h m file (length out)) → (n ≡ 0 → ⊥) → write_leaves (Written.Refused n) out ≡ written_of pic w h m file out
+  pub write_refused : {n : ℕ} → n ≡ first (written_rows pic w h m file (length out)) → (n ≡ 0 → ⊥) → write_leaves (refused n) out ≡ written_of pic w h m file out
   unfolding written_of
-  write_refused {n} e z = unless_refused n (λ k. write_leaves (Written.Refused k) out) done z ∙ ap (λ j. unless j (λ k. write_leaves (Written.Refused k) out) done) e
+  write_refused {n} e z = unless_refused n (λ k. write_leaves (refused k) out) done z ∙ ap (λ j. unless j (λ k. write_leaves (refused k) out) done) e
     where
       done : WriteOut
-      done = write_leaves (Written.Bytes (length file)) (onto out file)
+      done = write_leaves (accepted (length file)) (onto out file)
 
   -- else the file stands at its front, and its length is the answer
   pub write_done : {n k : ℕ} {left : List ℕ} → n ≡ first (written_rows pic w h m file (length out)) → n ≡ 0
-      → left ≡ onto out file → k ≡ length file → write_leaves (Written.Bytes k) left ≡ written_of pic w h m file out
+      → left ≡ onto out file → k ≡ length file → write_leaves (accepted k) left ≡ written_of pic w h m file out
   unfolding written_of
   write_done e z q l = rw (← e, z, q, l) refl

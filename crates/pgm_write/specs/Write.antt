@@ -7,7 +7,6 @@ use Rattle.base_rows.specs.Refuse.{Row, length_row, short_row, first, unless, Sa
 use Rattle.pgm_header.specs.Header.{header_bytes}
 use Rattle.pgm_samples.specs.Samples.{is_wide, packed, none_above_of}
 use Rattle.pgm_raster.specs.Raster.{head_rows, above_row, RasterLimits}
-use Rattle.pgm_write.specs.declared.Written.{Written}
 
 -- "the raster is written straight behind the header bytes already laid down"
 unfoldable pub file_of : (pic : List ℕ) (w h m : ℕ) → List ℕ
@@ -36,23 +35,18 @@ pub record WriteAsks (pic : List ℕ) (w h m : ℕ) (file : List ℕ) (room : �
   pub film : WriteReady pic w h m
   pub fitting : length file ≤ room
 
--- document 01's value and number of write's answers: "the byte count", or a refusal
-unfoldable pub written_says : Written → Says ℕ
-written_says (Written.Bytes n) = accepted n
-written_says (Written.Refused n) = refused n
-
--- what the call leaves: its answer and the output
+-- what the call leaves: its answer, "the byte count" or a refusal, and the output
 pub record WriteOut : Type 0 where
-  pub answer : Written
+  pub answer : Says ℕ
   pub out : List ℕ
 
 -- an answer and an output as one
-abbrev pub write_leaves : Written → List ℕ → WriteOut
+abbrev pub write_leaves : Says ℕ → List ℕ → WriteOut
 write_leaves answer out = record { answer = answer; out = out }
 
 -- the first row that applies, and the output stays as it was, else bytes at its front: "returns the byte count; bytes behind it keep their contents"
 abbrev pub wrote : List Row → List ℕ → List ℕ → WriteOut
-wrote rows out bytes = unless (first rows) (λ n. write_leaves (Written.Refused n) out) (write_leaves (Written.Bytes (length bytes)) (onto out bytes))
+wrote rows out bytes = unless (first rows) (λ n. write_leaves (refused n) out) (write_leaves (accepted (length bytes)) (onto out bytes))
 
 -- of the file that is to be written
 unfoldable pub written_of : (pic : List ℕ) (w h m : ℕ) (file out : List ℕ) → WriteOut

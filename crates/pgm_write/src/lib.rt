@@ -4,45 +4,41 @@
 ghost use Rattle.std.specs.Prelude.{◌≡◌, length};
 ghost use Rattle.base_lists.specs.Lists.{onto};
 ghost use Rattle.base_rows.specs.Refuse.{first};
+ghost use Rattle.base_rows.specs.Given.{given, said};
 ghost use Rattle.pgm_write.specs.Write.{file_of, file_picture_rows, write_rows, WriteAsks, write_leaves, write_of};
 
-// How many bytes were written, or the refusal.
-#[derive(Clone, Copy)]
-pub enum Written {
-    Bytes(usize),
-    Refused(u32),
-}
+use base_rows::Refusal;
 
-// The first refusal of a picture that is to be written, whatever its file's form, else 0.
-pub fn picture_refusal(picture: &[u16], width: u32, height: u32, maxval: u32) -> u32
-    ensures { result ≡ first (file_picture_rows picture.now width height maxval) }
+// The first refusal of a picture that is to be written, whatever its file's form.
+pub fn picture_refusal(picture: &[u16], width: u32, height: u32, maxval: u32) -> Result<(), Refusal>
+    ensures { given result ≡ first (file_picture_rows picture.now width height maxval) }
 {
-    let limit = pgm_raster::limit_refusal(width, height, maxval);
-    if limit != 0 {
-        return limit;
-    }
+    pgm_raster::limit_refusal(width, height, maxval)?;
     if picture.len() != (width as usize) * (height as usize) {
-        return 2;
+        return Err(Refusal::PictureLength);
     }
     if !pgm_samples::greys_none_above(picture, maxval) {
-        return 26;
+        return Err(Refusal::AboveMaxval);
     }
-    0
+    Ok(())
 }
 
-// The first refusal of write, else 0.
-fn write_refusal(picture: &[u16], width: u32, height: u32, maxval: u32, room: usize) -> u32
-    ensures { result ≡ first (write_rows picture.now width height maxval room) }
+// The first refusal of write.
+fn write_refusal(
+    picture: &[u16],
+    width: u32,
+    height: u32,
+    maxval: u32,
+    room: usize,
+) -> Result<(), Refusal>
+    ensures { given result ≡ first (write_rows picture.now width height maxval room) }
 {
-    let refusal = picture_refusal(picture, width, height, maxval);
-    if refusal != 0 {
-        return refusal;
-    }
+    picture_refusal(picture, width, height, maxval)?;
     let header = pgm_header::header_length(width, height, maxval);
     if room < header + pgm_raster::raster_size(width, height, maxval) {
-        return 27;
+        return Err(Refusal::TargetShort);
     }
-    0
+    Ok(())
 }
 
 // Lays the header down, and the raster straight behind it; hands back how many bytes they take.
@@ -55,13 +51,16 @@ fn lay_file(picture: &[u16], width: u32, height: u32, maxval: u32, out: &mut [u8
     header + pgm_raster::raster_size(width, height, maxval)
 }
 
-// Writes a picture as a raw PGM file at the front of out; bytes behind it keep their contents.
-pub fn write(picture: &[u16], width: u32, height: u32, maxval: u32, out: &mut [u8]) -> Written
-    ensures { write_leaves result out.new ≡ write_of picture.now width height maxval out.old }
+// Writes a picture as a raw PGM file at the front of out, and hands back how many bytes it takes; bytes behind it keep their contents.
+pub fn write(
+    picture: &[u16],
+    width: u32,
+    height: u32,
+    maxval: u32,
+    out: &mut [u8],
+) -> Result<usize, Refusal>
+    ensures { write_leaves (said result) out.new ≡ write_of picture.now width height maxval out.old }
 {
-    let refusal = write_refusal(picture, width, height, maxval, out.len());
-    if refusal != 0 {
-        return Written::Refused(refusal);
-    }
-    Written::Bytes(lay_file(picture, width, height, maxval, out))
+    write_refusal(picture, width, height, maxval, out.len())?;
+    Ok(lay_file(picture, width, height, maxval, out))
 }

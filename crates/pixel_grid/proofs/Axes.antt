@@ -1,7 +1,11 @@
 -- Two axes are the same where they are equal: what callers use, so that nobody opens the entries.
 -- Assumes nothing.
-use mathlib.Core.Bool.{Bool, true, false, ◌&&◌}
-use mathlib.Core.Path.{◌≡◌, sym, ap, ap₂, ◌∙◌}
+use Prim.Native.Nat.{ℕ}
+use lib.Dec.{eqb}
+use lib.Pointwise.{pointwise}
+use mathlib.Core.Bool.{true, ◌&&◌}
+use mathlib.Core.List.{List, [], ◌∷◌}
+use mathlib.Core.Path.{◌≡◌, refl, ap, ap₂}
 use Rattle.base_lists.specs.Lists.{same}
 use Rattle.base_lists.proofs.Sames.{same_self, same_is}
 use Rattle.base_lists.proofs.Tabs.{and_left, and_right, and_both}
@@ -17,13 +21,15 @@ unfolding same_axis_of
 same_axis_is a b e =
     ap₂ (λ x y. record { edges = x; centres = y }) (same_is a.edges b.edges (and_left _ _ e)) (same_is a.centres b.centres (and_right (same a.edges b.edges) _ e))
 
--- ---- the two answers of `same_axis`; r is what was said of the edges
+-- ---- what `==` says of two
 
-module _ (a b : Axis) {r : Bool} (e : r ≡ same a.edges b.edges) where
-  pub edges_differ : r ≡ false → false ≡ same_axis_of a b
-  unfolding same_axis_of
-  edges_differ q = ap (λ t. t && same a.centres b.centres) (sym q ∙ e)
+same_pointwise : (xs ys : List ℕ) → pointwise eqb xs ys ≡ same xs ys
+unfolding same
+same_pointwise [] [] = refl
+same_pointwise [] (y ∷ ys) = refl
+same_pointwise (x ∷ xs) [] = refl
+same_pointwise (x ∷ xs) (y ∷ ys) = ap (λ t. eqb x y && t) (same_pointwise xs ys)
 
-  pub edges_agree : r ≡ true → {t : Bool} → t ≡ same a.centres b.centres → t ≡ same_axis_of a b
-  unfolding same_axis_of
-  edges_agree q h = h ∙ ap (λ t. t && same a.centres b.centres) (sym q ∙ e)
+pub same_axis_pointwise : (a b : Axis) → (pointwise eqb a.edges b.edges && pointwise eqb a.centres b.centres) ≡ same_axis_of a b
+unfolding same_axis_of
+same_axis_pointwise a b = ap₂ (λ s t. s && t) (same_pointwise a.edges b.edges) (same_pointwise a.centres b.centres)

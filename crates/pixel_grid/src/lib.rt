@@ -4,8 +4,10 @@
 ghost use Rattle.std.specs.Prelude.{◌≡◌, ◌≤◌, ◌<◌};
 ghost use Rattle.pixel_grid.specs.Grid.{edge_of, size_of, centre_of, edge_at_of, centre_at_of, axis_of, no_axis_of, same_axis_of, Fits};
 
+use std::array;
+
 // The edges and centres of the tile columns of a film, or of its tile rows; 0 behind the last of each.
-#[derive(Clone, Copy)]
+#[derive(Clone, Copy, PartialEq, Eq)]
 pub struct Axis {
     pub edges: [u32; 17],
     pub centres: [u32; 16],
@@ -17,10 +19,7 @@ pub fn edge(side: u32, grid: u32, i: u32) -> u32
     ensures { result ≡ edge_of side grid i }
 {
     let across = i * side;
-    if grid == 8 {
-        return across / 8;
-    }
-    across / grid
+    if grid == 8 { across / 8 } else { across / grid }
 }
 
 // How wide (or high) tile i is.
@@ -47,10 +46,7 @@ fn edge_at(side: u32, grid: u32, i: u32) -> u32
     requires { Fits side grid }
     ensures { result ≡ edge_at_of side grid i }
 {
-    if i <= grid {
-        return edge(side, grid, i);
-    }
-    0
+    if i <= grid { edge(side, grid, i) } else { 0 }
 }
 
 // Centre i, where there is one, else 0.
@@ -58,38 +54,7 @@ fn centre_at(side: u32, grid: u32, i: u32) -> u32
     requires { Fits side grid }
     ensures { result ≡ centre_at_of side grid i }
 {
-    if i < grid {
-        return centre(side, grid, i);
-    }
-    0
-}
-
-// All edges.
-fn all_edges(side: u32, grid: u32) -> [u32; 17]
-    requires { Fits side grid }
-    ensures { result ≡ (axis_of side grid).edges }
-{
-    let mut out = [0u32; 17];
-    let mut i: usize = 0;
-    while i < 17 {
-        out[i] = edge_at(side, grid, i as u32);
-        i += 1;
-    }
-    out
-}
-
-// All centres.
-fn all_centres(side: u32, grid: u32) -> [u32; 16]
-    requires { Fits side grid }
-    ensures { result ≡ (axis_of side grid).centres }
-{
-    let mut out = [0u32; 16];
-    let mut i: usize = 0;
-    while i < 16 {
-        out[i] = centre_at(side, grid, i as u32);
-        i += 1;
-    }
-    out
+    if i < grid { centre(side, grid, i) } else { 0 }
 }
 
 // What a map record keeps of the tile columns, or of the tile rows.
@@ -97,9 +62,10 @@ pub fn axis_for(side: u32, grid: u32) -> Axis
     requires { Fits side grid }
     ensures { result ≡ axis_of side grid }
 {
-    let edges = all_edges(side, grid);
-    let centres = all_centres(side, grid);
-    Axis { edges, centres }
+    Axis {
+        edges: array::from_fn(|i| edge_at(side, grid, i as u32)),
+        centres: array::from_fn(|i| centre_at(side, grid, i as u32)),
+    }
 }
 
 // What stands there in the record of no film.
@@ -116,12 +82,5 @@ pub fn no_axis() -> Axis
 pub fn same_axis(a: Axis, b: Axis) -> bool
     ensures { result ≡ same_axis_of a b }
 {
-    let x = a.edges;
-    let y = b.edges;
-    if !base_lists::same(&x, &y) {
-        return false;
-    }
-    let u = a.centres;
-    let v = b.centres;
-    base_lists::same(&u, &v)
+    a == b
 }

@@ -54,14 +54,15 @@ pub fn locate(side: u32, grid: u32, x: u32) -> Place
     let t = ((x + 1) * grid - 1) / side;
     if x < pixel_grid::centre(side, grid, t) {
         if t == 0 {
-            return single(side, grid, 0);
+            single(side, grid, 0)
+        } else {
+            pair_of(side, grid, x, t - 1)
         }
-        return pair_of(side, grid, x, t - 1);
+    } else if t + 1 == grid {
+        single(side, grid, t)
+    } else {
+        pair_of(side, grid, x, t)
     }
-    if t + 1 == grid {
-        return single(side, grid, t);
-    }
-    pair_of(side, grid, x, t)
 }
 
 // How many columns (or rows) from x on lie between the tiles of x, whose place this is: 1 at least, and no more than the lower weight.
@@ -70,12 +71,12 @@ pub fn run(place: Place, side: u32, grid: u32, x: u32) -> u32
     ensures { (result ≡ length_of side grid x place) × SameTiles side grid x place result }
 {
     if place.lower < place.upper {
-        return place.lowerweight;
+        place.lowerweight
+    } else if place.lower + 1 == grid {
+        side - x
+    } else {
+        pixel_grid::centre(side, grid, 0) - x
     }
-    if place.lower + 1 == grid {
-        return side - x;
-    }
-    pixel_grid::centre(side, grid, 0) - x
 }
 
 // The four mapped values of a pixel's bin, each by its weight, added up.
@@ -83,8 +84,8 @@ fn weigh(column: Place, row: Place, a: u32, b: u32, c: u32, d: u32) -> u64
     requires { Sound 16 2048 column × Sound 16 2048 row × (a ≤ 4095) × (b ≤ 4095) × (c ≤ 4095) × (d ≤ 4095) }
     ensures { result ≡ weighed_of column row a b c d }
 {
-    let upper = (column.lowerweight as u64) * (a as u64) + (column.upperweight as u64) * (b as u64);
-    let lower = (column.lowerweight as u64) * (c as u64) + (column.upperweight as u64) * (d as u64);
+    let upper = sides(column, a, b);
+    let lower = sides(column, c, d);
     (row.lowerweight as u64) * upper + (row.upperweight as u64) * lower
 }
 
@@ -94,9 +95,10 @@ pub fn factor(spans: u64) -> u64
     ensures { (result ≡ inverse_of spans) × Inverse spans result }
 {
     if 1048576 < spans {
-        return 0;
+        0
+    } else {
+        4503599627370496 / spans + 1
     }
-    4503599627370496 / spans + 1
 }
 
 // The grey of a weighted sum, by the factor of the spans: a product and a shift in place of the division.
@@ -105,9 +107,10 @@ pub fn quotient(sum: u64, column: Place, row: Place, factor: u64) -> u32
     ensures { result ≡ sum / (column.span * row.span) }
 {
     if factor == 0 {
-        return (sum / ((column.span as u64) * (row.span as u64))) as u32;
+        (sum / ((column.span as u64) * (row.span as u64))) as u32
+    } else {
+        (sum * factor / 4503599627370496) as u32
     }
-    (sum * factor / 4503599627370496) as u32
 }
 
 // The grey of a pixel, by the factor of its spans.

@@ -1,6 +1,6 @@
 -- The turns of a loop that goes through a row section by section.
 -- Assumes nothing.
-use Prim.Native.Nat.{ℕ, ◌+◌, ◌-◌, ◌≤◌, ◌<◌, min}
+use Prim.Native.Nat.{ℕ, ◌+◌, ◌-◌, ◌≤◌, ◌<◌}
 use mathlib.Core.List.{List}
 use mathlib.Core.Path.{◌≡◌, ap, ◌∙◌}
 use lib.ListN.{length, get_or, take, drop}
@@ -11,26 +11,10 @@ use Rattle.base_lists.proofs.Steps.{drop_filled, filled_part}
 use Rattle.base_lists.proofs.Tabs.{tab_cong}
 use Rattle.base_lists.proofs.Windows.{get_d_part, length_part}
 use Rattle.pixel_place.specs.declared.Place.{Place}
-use Rattle.pixel_place.specs.Blend.{place_of, moved, SameTiles, length_of}
-use Rattle.pixel_place.proofs.Places.{run_shorter, run_place}
+use Rattle.pixel_place.specs.Blend.{place_of, moved}
+use Rattle.pixel_place.proofs.Places.{run_place}
 use Rattle.pixel_render.specs.declared.Section.{Section}
 use Rattle.pixel_render.specs.Render.{Sectioned}
-
--- ---- a section
-
--- the first run of a row, or what is left of the row where that is less
-pub section_is : {w grid left at n run less : ℕ} {column : Place} → column ≡ place_of w grid (left + at) → run ≡ length_of w grid (left + at) column → SameTiles w grid (left + at) column run
-    → less ≡ min run (n - at) → at < n → Sectioned w grid left at n record { column = column; end = at + less }
-section_is {w} {grid} {left} {at} {n} {run} {less} e k r h l =
-    let some : 0 < less = omega (arith, r.some) in
-    let size : at + less - at ≡ less = omega arith in
-    record {
-      column = e;
-      start = omega arith;
-      end = omega arith;
-      run = rw size (run_shorter r some (omega arith));
-      size = ap (λ t. at + t) (h ∙ ap (λ t. min t (n - at)) (k ∙ ap (length_of w grid (left + at)) e));
-    }
 
 -- ---- the turns
 

@@ -1,23 +1,13 @@
 // Pixels of the rendered film from mappings: a row in place, and a window in place.
 #![tactic(auto)]
 
-ghost use Rattle.std.specs.Prelude.{◌≡◌, ◌+◌, ◌≤◌, ◌<◌, min, length};
+ghost use Rattle.std.specs.Prelude.{◌≡◌, ◌+◌, ◌≤◌, ◌<◌, length};
 ghost use Rattle.pixel_grid.specs.Grid.{Fits};
 ghost use Rattle.pixel_bins.specs.Bins.{binned_of};
 ghost use Rattle.pixel_render.specs.Render.{row_place, row_of, weighed_row, moved_row, render_of, moved_window, Mapped, Shown, RenderRowAsks, Sectioned, SumRowAsks};
 
 use film_settings::{Settings, Window};
 use pixel_place::Place;
-
-// The lesser of two lengths.
-fn lesser(a: usize, b: usize) -> usize
-    ensures { result ≡ min a b }
-{
-    if a < b {
-        return a;
-    }
-    b
-}
 
 // Pixels of a row that lie between the same tiles: the first one's place, and where they end.
 #[derive(Clone, Copy)]
@@ -34,7 +24,7 @@ fn section_from(width: u32, across: u32, left: u32, at: usize, len: usize) -> Se
     let x = left + (at as u32);
     let column = pixel_place::locate(width, across, x);
     let run = pixel_place::run(column, width, across, x) as usize;
-    let end = at + lesser(run, len - at);
+    let end = at + run.min(len - at);
     Section { column, end }
 }
 
@@ -56,9 +46,9 @@ fn sum_row(
     let mut moved = 0;
     while at < len {
         let part = section_from(width, s.across, left, at, len);
-        let e = part.end;
-        moved += pixel_weigh::weigh_sums(&mut pixels[at..e], s, map, part.column, row, table);
-        at = e;
+        let ahead = &mut pixels[at..part.end];
+        moved += pixel_weigh::weigh_sums(ahead, s, map, part.column, row, table);
+        at = part.end;
     }
     moved
 }
@@ -97,21 +87,10 @@ fn render_rows(
 {
     let wide = win.width as usize;
     let mut moved = 0;
-    let mut j = 0;
-    while j < win.height {
-        let a = (j as usize) * wide;
-        let e = a + wide;
-        moved += render_row(
-            &mut pixels[a..e],
-            win.left,
-            win.top + j,
-            width,
-            height,
-            s,
-            map,
-            table,
-        );
-        j += 1;
+    for j in 0..win.height {
+        let from = (j as usize) * wide;
+        let strip = &mut pixels[from..from + wide];
+        moved += render_row(strip, win.left, win.top + j, width, height, s, map, table);
     }
     moved
 }

@@ -6,7 +6,7 @@ use mathlib.Core.List.{List}
 use mathlib.Core.Path.{◌≡◌, refl, sym, ap, ap₂, ◌∙◌}
 use lib.Dec.{ltb, leb}
 use lib.ListN.{length, get_or}
-use borrow.Author.Tests.{ltb-true, ltb-false, leb-true, le-leb, lt-leb}
+use borrow.Author.Tests.{ltb-true, ltb-false, leb-true}
 use native.Mathlib.Numerals.{add-one}
 use native.Mathlib.Omega.{arith}
 use Rattle.base_lists.proofs.Tabs.{and_left, and_right}
@@ -68,22 +68,7 @@ module _ (ks : List ℕ) where
 -- ---- whether a table pays
 
 module _ (low top wide room : ℕ) where
-  -- not for no bins
-  pub pays_none : top < low → false ≡ pays_for low top wide room
-  unfolding pays_for
-  pays_none h = rw (lt-leb low top h) refl
-
-  -- not for more bins than pixels
-  pub pays_many : low ≤ top → low + wide < top → false ≡ pays_for low top wide room
-  unfolding pays_for
-  pays_many l h = rw (le-leb low top l, lt-leb top (low + wide) h) refl
-
-  -- else where there is room
-  pub pays_room : low ≤ top → top ≤ low + wide → leb top (room / 2) ≡ pays_for low top wide room
-  unfolding pays_for
-  pays_room l h = rw (le-leb low top l, le-leb top (low + wide) h) refl
-
-  -- and then there is
+  -- where one pays its bins are in order, and there is room for them
   pays_told : pays_for low top wide room ≡ true → (low ≤ top) × (2 * top ≤ room)
   unfolding pays_for
   pays_told e =

@@ -2,36 +2,33 @@
 #![tactic(auto)]
 
 ghost use Rattle.std.specs.Prelude.{cond, ◌≡◌, ◌+◌, ◌-◌, ◌*◌, ◌≤◌, ◌<◌, eqb, length};
-ghost use Rattle.pixel_place.specs.Blend.{pair_of, Sound, moved};
-ghost use Rattle.pixel_table.specs.Table.{blended_run, RunAsks};
+ghost use Rattle.pixel_place.specs.Blend.{Sound, moved};
+ghost use Rattle.pixel_table.specs.Table.{blended_run, side_at, Tiles, RunAsks};
 ghost use Rattle.pixel_sums.specs.Sums.{moved_in, least_of, greatest_of, pays_for, sums_moved, Stands, PixelAsks};
 
 use pixel_place::Place;
-use pixel_table::{Ends, Spot};
+use pixel_table::{Corners, Ends, Spot};
 
 // The least and the greatest bin of a run. None is asked by itself, so that several go at once.
 fn ends_of(ks: &[u16]) -> Ends
     ensures { (result.low ≡ least_of ks.now) × (result.high ≡ greatest_of ks.now) }
 {
-    let mut low = 65535u16;
-    let mut high = 0u16;
-    let mut i = 0;
-    while i < ks.len() {
-        let v = ks[i];
-        low = base_range::least(low, v);
-        high = base_range::greatest(high, v);
-        i += 1;
+    let mut low = u16::MAX;
+    let mut high = u16::MIN;
+    for k in ks {
+        low = low.min(*k);
+        high = high.max(*k);
     }
     Ends { low, high }
 }
 
-// The pairs of both sides in one number, the right one from 2^32 on: two products for four.
-fn pairs_of(row: Place, a: u16, b: u16, c: u16, d: u16) -> u64
-    requires { Sound 16 2048 row × (a ≤ 4095) × (b ≤ 4095) × (c ≤ 4095) × (d ≤ 4095) }
-    ensures { result ≡ pair_of row a c + 4294967296 * pair_of row b d }
+// The pairs of both sides of bin k in one number, the right one from 2^32 on: two products for four.
+fn pairs_of(row: Place, corners: Corners, k: usize) -> u64
+    requires { Sound 16 2048 row × Tiles corners.upper_left.now corners.upper_right.now corners.lower_left.now corners.lower_right.now (length corners.upper_left.now) × (k < length corners.upper_left.now) × (length corners.upper_left.now ≤ 4096) }
+    ensures { result ≡ side_at row corners.entry.upper_left.now corners.entry.lower_left.now k + 4294967296 * side_at row corners.entry.upper_right.now corners.entry.lower_right.now k }
 {
-    let above = (a as u64) + 4294967296 * (b as u64);
-    let below = (c as u64) + 4294967296 * (d as u64);
+    let above = (corners.upper_left[k] as u64) + 4294967296 * (corners.upper_right[k] as u64);
+    let below = (corners.lower_left[k] as u64) + 4294967296 * (corners.lower_right[k] as u64);
     (row.lowerweight as u64) * above + (row.upperweight as u64) * below
 }
 
@@ -41,11 +38,9 @@ fn along(column: Place, i: usize) -> Place
     ensures { result ≡ moved column i }
 {
     Place {
-        lower: column.lower,
-        upper: column.upper,
         lowerweight: column.lowerweight - (i as u32),
         upperweight: column.upperweight + (i as u32),
-        span: column.span,
+        ..column
     }
 }
 
@@ -60,40 +55,36 @@ struct Sum {
 }
 
 // The weighted sum of pixel i, of bin k: where the pixel before it had that bin its sum moves.
-fn next(was: Sum, k: u16, i: usize, a: &[u16], b: &[u16], c: &[u16], d: &[u16], spot: Spot) -> Sum
-    requires { PixelAsks spot.column spot.row a.now b.now c.now d.now (length a.now) i k × (was.moved ≤ i) × (k ≡ was.bin → (0 < i) × Stands spot.column spot.row a.now b.now c.now d.now (i - 1) k was) }
-    ensures { Stands spot.column spot.row a.now b.now c.now d.now i k result × (result.moved ≡ was.moved + cond (eqb k was.bin) 1 0) }
+fn next(was: Sum, k: u16, i: usize, corners: Corners, spot: Spot) -> Sum
+    requires { PixelAsks spot.column spot.row corners.upper_left.now corners.upper_right.now corners.lower_left.now corners.lower_right.now (length corners.upper_left.now) i k × (was.moved ≤ i) × (k ≡ was.bin → (0 < i) × Stands spot.column spot.row corners.upper_left.now corners.upper_right.now corners.lower_left.now corners.lower_right.now (i - 1) k was) }
+    ensures { Stands spot.column spot.row corners.entry.upper_left.now corners.entry.upper_right.now corners.entry.lower_left.now corners.entry.lower_right.now i k result × (result.moved ≡ was.moved + cond (eqb k was.bin) 1 0) }
 {
     if k == was.bin {
         // Order 4: "let the weighted sum move by the mapped differences where the bin stays the same".
-        let sum = was.sum + (was.right as u64) - (was.left as u64);
-        let moved = was.moved + 1;
-        return Sum {
+        Sum {
+            sum: was.sum + (was.right as u64) - (was.left as u64),
+            moved: was.moved + 1,
+            ..was
+        }
+    } else {
+        let pairs = pairs_of(spot.row, corners, k as usize);
+        let left = (pairs % 4294967296) as u32;
+        let right = (pairs / 4294967296) as u32;
+        let sum = pixel_place::sides(along(spot.column, i), left, right);
+        Sum {
             bin: k,
-            left: was.left,
-            right: was.right,
+            left,
+            right,
             sum,
-            moved,
-        };
-    }
-    let n = k as usize;
-    let pairs = pairs_of(spot.row, a[n], b[n], c[n], d[n]);
-    let left = (pairs % 4294967296) as u32;
-    let right = (pairs / 4294967296) as u32;
-    let sum = pixel_place::sides(along(spot.column, i), left, right);
-    Sum {
-        bin: k,
-        left,
-        right,
-        sum,
-        moved: was.moved,
+            moved: was.moved,
+        }
     }
 }
 
 // Renders a run's pixels, whose bins stand in their places, pixel by pixel: weighed from the four tiles, or moved. Answers how many moved.
-fn weigh_run(pixels: &mut [u16], a: &[u16], b: &[u16], c: &[u16], d: &[u16], spot: Spot) -> usize
-    requires { RunAsks spot.column spot.row a.now b.now c.now d.now (length a.now) pixels.old }
-    ensures { (pixels.new ≡ blended_run spot.column spot.row a.now b.now c.now d.now pixels.old) × (result ≡ moved_in pixels.old) }
+fn weigh_run(pixels: &mut [u16], corners: Corners, spot: Spot) -> usize
+    requires { RunAsks spot.column spot.row corners.upper_left.now corners.upper_right.now corners.lower_left.now corners.lower_right.now (length corners.upper_left.now) pixels.old }
+    ensures { (pixels.new ≡ blended_run spot.column spot.row corners.entry.upper_left.now corners.entry.upper_right.now corners.entry.lower_left.now corners.entry.lower_right.now pixels.old) × (result ≡ moved_in pixels.old) }
 {
     let by = pixel_table::spans_factor(spot.column, spot.row);
     let mut at = Sum {
@@ -103,52 +94,35 @@ fn weigh_run(pixels: &mut [u16], a: &[u16], b: &[u16], c: &[u16], d: &[u16], spo
         sum: 0,
         moved: 0,
     };
-    let mut i = 0;
-    while i < pixels.len() {
-        at = next(at, pixels[i], i, a, b, c, d, spot);
-        pixels[i] = pixel_place::quotient(at.sum, spot.column, spot.row, by) as u16;
-        i += 1;
+    for (i, pixel) in pixels.iter_mut().enumerate() {
+        at = next(at, *pixel, i, corners, spot);
+        *pixel = pixel_place::quotient(at.sum, spot.column, spot.row, by) as u16;
     }
     at.moved
 }
 
 // Whether a table of the bins from the least to the greatest fits the room and pays for `wide` pixels: five products a bin and one a pixel are then no more than the six a pixel of the plain rule.
+#[tactic(auto, unfolding(crate::specs::Sums::pays_for))]
 fn pays(ends: Ends, wide: usize, room: usize) -> bool
     requires { wide ≤ 65535 }
     ensures { result ≡ pays_for ends.low (ends.high + 1) wide room }
 {
     let low = ends.low as usize;
     let top = (ends.high as usize) + 1;
-    if top < low {
-        return false;
-    }
-    if low + wide < top {
-        return false;
-    }
-    top <= room / 2
+    low <= top && top <= low + wide && top <= room / 2
 }
 
 // Renders a run's pixels, whose bins stand in their places: from a table of its bins where these are no more than its pixels, else pixel by pixel. Answers how many sums moved. The table is room to work in, which keeps its length.
-pub fn sum_run(
-    pixels: &mut [u16],
-    a: &[u16],
-    b: &[u16],
-    c: &[u16],
-    d: &[u16],
-    column: Place,
-    row: Place,
-    table: &mut [u64],
-) -> usize
-    requires { RunAsks column row a.now b.now c.now d.now (length a.now) pixels.old }
-    ensures { (pixels.new ≡ blended_run column row a.now b.now c.now d.now pixels.old) × (length table.new ≡ length table.old) × (result ≡ sums_moved (length table.old) pixels.old) }
+pub fn sum_run(pixels: &mut [u16], corners: Corners, spot: Spot, table: &mut [u64]) -> usize
+    requires { RunAsks spot.column spot.row corners.upper_left.now corners.upper_right.now corners.lower_left.now corners.lower_right.now (length corners.upper_left.now) pixels.old }
+    ensures { (pixels.new ≡ blended_run spot.column spot.row corners.entry.upper_left.now corners.entry.upper_right.now corners.entry.lower_left.now corners.entry.lower_right.now pixels.old) × (length table.new ≡ length table.old) × (result ≡ sums_moved (length table.old) pixels.old) }
 {
-    let spot = Spot { column, row };
     let ends = ends_of(pixels);
     if !pays(ends, pixels.len(), table.len()) {
-        return weigh_run(pixels, a, b, c, d, spot);
+        weigh_run(pixels, corners, spot)
+    } else if 524288 < spot.column.span * spot.row.span {
+        pixel_table::large_run(pixels, corners, spot, ends, table)
+    } else {
+        pixel_table::table_run(pixels, corners, spot, ends, table)
     }
-    if 524288 < column.span * row.span {
-        return pixel_table::large_run(pixels, a, b, c, d, spot, ends, table);
-    }
-    pixel_table::table_run(pixels, a, b, c, d, spot, ends, table)
 }

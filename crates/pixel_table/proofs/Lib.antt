@@ -1,3 +1,4 @@
 pub mod Patches
 pub mod Tables
 pub mod Turns
+pub mod Runs

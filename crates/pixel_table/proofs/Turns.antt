@@ -4,11 +4,11 @@ use Prim.Native.Nat.{ℕ, ◌+◌, ◌-◌, ◌*◌, ◌/◌, ◌≤◌, ◌<◌
 use mathlib.Core.List.{List}
 use mathlib.Core.Path.{◌≡◌, refl, sym, ap, ap₂, ◌∙◌}
 use lib.ListN.{length, get_or, set}
-use native.Mathlib.Nat.{div-le_of_le-mul, mul_comm, mul_assoc, one-mul, mul-le-mul, mul-le-mul_left, mul-le-mul_right}
+use native.Mathlib.Nat.{mul_comm, mul_assoc, one-mul, mul-le-mul, mul-le-mul_left, mul-le-mul_right}
 use native.Mathlib.Omega.{arith}
 use Rattle.base_lists.specs.Lists.{filled}
 use Rattle.base_lists.proofs.Tabs.{tab_cong}
-use Rattle.base_lists.proofs.Fills.{filled_step, length_filled}
+use Rattle.base_lists.proofs.Fills.{length_filled}
 use Rattle.base_lists.proofs.Puts.{put, put_from}
 use Rattle.base_lists.proofs.Windows.{get_or_behind, filled_whole}
 use Rattle.base_lists.proofs.Tallies.{get_or_filled}
@@ -17,7 +17,7 @@ use Rattle.pixel_place.specs.declared.Place.{Place}
 use Rattle.pixel_place.specs.Blend.{sides_of, moved}
 use Rattle.pixel_place.proofs.Laws.{mean_most, sides_grey}
 use Rattle.pixel_table.proofs.Patches.{patch_read, patch_next, patch_end, patch_none, patch_fills}
-use Rattle.pixel_table.specs.Table.{patch_of, blended_at, blended_run, side_at, start_sum, step_of, entry_of, sum_at, moved_at, moved_by, moved_run, Scaled, Moves, MoveAsks, RunAsks, Within}
+use Rattle.pixel_table.specs.Table.{patch_of, blended_at, blended_run, side_at, start_sum, step_of, entry_of, sum_at, moved_at, moved_by, moved_run, Scaled, Moves, MoveAsks, SumsCan, RunAsks, Within}
 use Rattle.pixel_table.proofs.Tables.{entry_start, entry_step, pair_fits, sum_moved}
 
 -- ---- patches
@@ -45,15 +45,13 @@ module _ (q : ℕ) {t : List ℕ} {from most at end : ℕ} {ks : List ℕ} (asks
   pub turn_asks : Moves t most (from + i) (get_or px i 0)
   turn_asks = rw (patch_read (moved_by q t from most) ks at i e) (asks.each i m h)
 
+  -- and that its sum can be divided
+  pub turn_can : {can : ℕ → Type 0} → SumsCan can t from most at end ks → {s : ℕ} → s ≡ sum_at t most (from + i) (get_or px i 0) → can s
+  turn_can sums {s} f = rw (f, patch_read (moved_by q t from most) ks at i e) (sums.each i m h)
+
   -- one pixel more
   pub turn_next : {v : ℕ} → v ≡ moved_at q t most (from + i) (get_or px i 0) → set px i v ≡ patch_of (moved_by q t from most) ks at (i + 1)
   turn_next f = patch_next (moved_by q t from most) ks at i e m (omega (arith, asks.inside)) f
-
--- what a pixel j further on asks
-pub four_asks : {t : List ℕ} {from most at end : ℕ} {ks : List ℕ} → MoveAsks t from most at end ks → (j : ℕ) → at + j < end → Moves t most (from + at + j) (get_or ks (at + j) 0)
-four_asks {t} {from} {most} {at} {end} {ks} asks j h =
-    let same : from + at + j ≡ from + (at + j) = omega arith in
-    rw same (asks.each (at + j) (omega arith) h)
 
 -- four pixels, each worked out from what stood there
 pub four_are : (q : ℕ) (t : List ℕ) (from most at : ℕ) (ks : List ℕ) {p o r s : ℕ} → at + 4 ≤ length ks
@@ -107,6 +105,10 @@ module _ (q : ℕ) {t : List ℕ} {from most : ℕ} {ks : List ℕ} (asks : Move
         each = λ i l b. rw (ap (λ s. get_or s i 0) e ∙ get_or_behind (moved_on_lem q t from most ks) ks at i l) (asks.each i (omega arith) (omega arith));
       }
 
+  pub stretch_can : {can : ℕ → Type 0} → SumsCan can t from most 0 (length ks) ks → SumsCan can t from most at end px
+  stretch_can sums =
+      record { each = λ i l b. rw (ap (λ s. get_or s i 0) e ∙ get_or_behind (moved_on_lem q t from most ks) ks at i l) (sums.each i (omega arith) (omega arith)) }
+
   -- one stretch more
   pub stretch_next : {ys : List ℕ} → ys ≡ patch_of (moved_by q t from most) px at end → ys ≡ filled (moved_on_lem q t from most ks) ks end
   stretch_next f = patch_fills (moved_by q t from most) ks e m f
@@ -115,27 +117,6 @@ module _ (q : ℕ) {t : List ℕ} {from most : ℕ} {ks : List ℕ} (asks : Move
 pub run_moved : (q : ℕ) (t : List ℕ) (from most : ℕ) (ks : List ℕ) {px : List ℕ} → px ≡ filled (moved_on_lem q t from most ks) ks (length ks) → px ≡ moved_run q t from most ks
 unfolding moved_run
 run_moved q t from most ks e = e ∙ filled_whole (moved_on_lem q t from most ks) ks
-
--- one pixel more of a run that goes pixel by pixel
-module _ (q : ℕ) {t : List ℕ} {from most : ℕ} {ks : List ℕ} (asks : MoveAsks t from most 0 (length ks) ks) {i : ℕ} (h : i < length ks)
-    {px : List ℕ} (e : px ≡ filled (moved_on_lem q t from most ks) ks i) where
-  -- the bin as it was read
-  pub pixel_read : get_or px i 0 ≡ get_or ks i 0
-  pixel_read = ap (λ s. get_or s i 0) e ∙ get_or_behind (moved_on_lem q t from most ks) ks i i (omega arith)
-
-  pub pixel_asks : Moves t most (from + i) (get_or px i 0)
-  pixel_asks = rw pixel_read (asks.each i (omega arith) h)
-
-  pub pixel_next : {s v : ℕ} → s ≡ sum_at t most (from + i) (get_or px i 0) → v ≡ s / q → set px i v ≡ filled (moved_on_lem q t from most ks) ks (i + 1)
-  pixel_next f g = filled_step (moved_on_lem q t from most ks) ks e h (moved_is q t most (from + i) (get_or px i 0) f g ∙ ap (moved_by q t from most i) pixel_read)
-
-  -- a sum that is no larger than what is divided may be
-  module _ {s : ℕ} (f : s ≡ sum_at t most (from + i) (get_or px i 0)) (fits : (j : ℕ) → j < length ks → sum_at t most (from + j) (get_or ks j 0) ≤ q * 4095) where
-    pub large_fits : s ≤ q * 4095
-    large_fits = rw (f, pixel_read) (fits i h)
-
-    pub large_small : {v : ℕ} → v ≡ s / q → v ≤ 4095
-    large_small g = rw g (div-le_of_le-mul q large_fits)
 
 -- ---- from a filled table
 

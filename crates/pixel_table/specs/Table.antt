@@ -83,6 +83,10 @@ pub record MoveAsks (t : List ℕ) (from most at end : ℕ) (ks : List ℕ) : Ty
   pub near : from + end ≤ 4096
   pub each : (i : ℕ) → at ≤ i → i < end → Moves t most (from + i) (get_or ks i 0)
 
+-- and that `can` holds of the sum of each of them
+pub record SumsCan (can : ℕ → Type 0) (t : List ℕ) (from most at end : ℕ) (ks : List ℕ) : Type 0 where
+  pub each : (i : ℕ) → at ≤ i → i < end → can (sum_at t most (from + i) (get_or ks i 0))
+
 -- what a run asks: four tiles of n bins, sound places, bins, and no more pixels than the weight can move by
 pub record RunAsks (atcolumn atrow : Place) (a b c d : List ℕ) (n : ℕ) (ks : List ℕ) : Type 0 where
   pub tiles : Tiles a b c d n

@@ -16,7 +16,7 @@ use Rattle.base_rows.specs.Refuse.{first, accepted, refused, says}
 use Rattle.film_settings.specs.declared.Settings.{Settings}
 use Rattle.film_settings.specs.declared.Footer.{Footer}
 use Rattle.film_settings.specs.Settings.{bins_of, clip_one_of, size_rows}
-use Rattle.film_prepare.specs.Prepare.{enhanced_says, PaintOut}
+use Rattle.film_prepare.specs.Prepare.{PaintOut}
 use Rattle.film_around.specs.Around.{region_pixels, around_grey, around_film, around_foot, arounded_of, around_of, region_mapping}
 use Rattle.film_around.proofs.Table.{around_table_region}
 use Rattle.film_around.proofs.Like.{around_grey_lem}
@@ -41,15 +41,15 @@ use Rattle.promise_films.proofs.Alike.{paint_memory, paint_parts, same_ends}
 
 module _ {c : AroundCall} (ran : Arounds c) where
   -- it says the number of the first row that applies, and where none does the footer
-  pub around_says : enhanced_says c.answer ≡ says (rows_of c) (around_foot c.width c.height c.side c.settings)
+  pub around_says : c.answer ≡ says (rows_of c) (around_foot c.width c.height c.side c.settings)
   around_says = ended_says (around_table _ _ _ _ _ _ _) (around_ends ran)
 
   -- 3 to 6, 11 and 32 are never given
-  pub around_never : (n : ℕ) → NeverGiven n → enhanced_says c.answer ≢ refused n
+  pub around_never : (n : ℕ) → NeverGiven n → c.answer ≢ refused n
   around_never n never e = not_first c n never (says_refused _ _ (sym around_says ∙ e))
 
   -- "39, side even or not 3 to 63, in the place of 3 to 6": where neither 1 nor 2 applies
-  pub around_thirty_nine : first (size_rows c.width c.height (length c.pixels)) ≡ 0 → (SideFits c.side → ⊥) → enhanced_says c.answer ≡ refused 39
+  pub around_thirty_nine : first (size_rows c.width c.height (length c.pixels)) ≡ 0 → (SideFits c.side → ⊥) → c.answer ≡ refused 39
   around_thirty_nine none bad =
       around_says
       ∙ ap (λ n. says n (around_foot c.width c.height c.side c.settings))
@@ -57,14 +57,14 @@ module _ {c : AroundCall} (ran : Arounds c) where
 
   -- "17 for the target as in order 12": where its length is not width x height, and none of 1, 2, 39, 7 to 9, 31, 10 and 12 applies
   pub around_seventeen : (length c.target ≡ c.width * c.height → ⊥)
-      → enhanced_says c.answer ≡ refused (first (other_rows c.width c.height c.pixels c.side c.settings (length c.scratch)))
+      → c.answer ≡ refused (first (other_rows c.width c.height c.pixels c.side c.settings (length c.scratch)))
   around_seventeen other =
       around_says
       ∙ ap (λ n. says n (around_foot c.width c.height c.side c.settings)) (rows_other c.width c.height c.pixels c.side c.settings (length c.scratch) (length c.target) other)
       ∙ (some_says _ _ (rows_some c.width c.height c.pixels c.side c.settings (length c.scratch) (length c.target) other)).1
 
   -- a refusal leaves the target and the scratch as they were
-  pub around_refusal_keeps : (n : ℕ) → enhanced_says c.answer ≡ refused n → (c.target' ≡ c.target) × (c.scratch' ≡ c.scratch)
+  pub around_refusal_keeps : (n : ℕ) → c.answer ≡ refused n → (c.target' ≡ c.target) × (c.scratch' ≡ c.scratch)
   around_refusal_keeps n q = paint_memory (ended_kept (around_table _ _ _ _ _ _ _) (around_ends ran) q)
 
 -- ---- any two outcomes are equal
@@ -83,7 +83,7 @@ around_determined x y same = around_any_grid x y (ap (λ (g : ℕ × ℕ × List
 
 -- ---- an accepted film
 
-module _ {c : AroundCall} (ran : Arounds c) {foot : Footer} (done : enhanced_says c.answer ≡ accepted foot) where
+module _ {c : AroundCall} (ran : Arounds c) {foot : Footer} (done : c.answer ≡ accepted foot) where
   -- "an odd side from 3 to 63"
   pub around_side : SideFits c.side
   around_side = let k = around_known ran done in record { odd = omega (arith, k.odd); least = k.least; most = k.film.few }
@@ -123,10 +123,10 @@ module _ {c : AroundCall} (ran : Arounds c) {foot : Footer} (done : enhanced_say
 -- ---- every region
 
 -- the clip setting of an accepted film is off, exactly 1.0, or a factor above one
-pub around_clip : {c : AroundCall} {foot : Footer} → Arounds c → enhanced_says c.answer ≡ accepted foot → ClipCase c.settings.clip
+pub around_clip : {c : AroundCall} {foot : Footer} → Arounds c → c.answer ≡ accepted foot → ClipCase c.settings.clip
 around_clip {c} ran done = clip_case c.settings.clip (around_known ran done).film.fair
 
-module _ {c : AroundCall} {foot : Footer} (ran : Arounds c) (done : enhanced_says c.answer ≡ accepted foot) {f : Float} (on : ClippingOn c.settings.clip f) (i j : ℕ) (l : i < c.width)
+module _ {c : AroundCall} {foot : Footer} (ran : Arounds c) (done : c.answer ≡ accepted foot) {f : Float} (on : ClippingOn c.settings.clip f) (i j : ℕ) (l : i < c.width)
     (k : j < c.height) where
   -- in our edition
   pub regions_sound : c.settings.edition ≡ Ours → RegionSound c.width c.height c.pixels c.side c.settings f i j (get_or c.target' (j * c.width + i) 0)
@@ -155,7 +155,7 @@ module _ {c : AroundCall} {foot : Footer} (ran : Arounds c) (done : enhanced_say
 -- ---- the region's pixels alone, and a part of the film
 
 -- show the same grey there
-pub around_local : {c d : AroundCall} {foot foot' : Footer} → Arounds c → enhanced_says c.answer ≡ accepted foot → Arounds d → enhanced_says d.answer ≡ accepted foot'
+pub around_local : {c d : AroundCall} {foot foot' : Footer} → Arounds c → c.answer ≡ accepted foot → Arounds d → d.answer ≡ accepted foot'
     → (i j : ℕ) → i < c.width → j < c.height → Two c d i j → get_or c.target' (j * c.width + i) 0 ≡ get_or d.target' (j * d.width + i) 0
 around_local {c} {d} ran done ran' done' i j l k two =
     around_shows ran done i j l k
@@ -165,7 +165,7 @@ around_local {c} {d} ran done ran' done' i j l k two =
     ∙ sym (around_shows ran' done' i j (rw two.width l) (rw two.height k))
 
 -- a part of the film with a margin of half a side shows the same pixels
-pub around_part : {c d : AroundCall} {foot foot' : Footer} → Arounds c → enhanced_says c.answer ≡ accepted foot → Arounds d → enhanced_says d.answer ≡ accepted foot'
+pub around_part : {c d : AroundCall} {foot foot' : Footer} → Arounds c → c.answer ≡ accepted foot → Arounds d → d.answer ≡ accepted foot'
     → (left top i j : ℕ) → PartOf c d left top i j → get_or d.target' (j * d.width + i) 0 ≡ get_or c.target' ((top + j) * c.width + (left + i)) 0
 around_part {c} {d} ran done ran' done' left top i j p =
     around_shows ran' done' i j p.across.below p.down.below

@@ -15,7 +15,7 @@ use Rattle.base_lists.specs.Lists.{all, tab}
 use Rattle.base_lists.proofs.Tabs.{length_tab, get_or_tab}
 use Rattle.base_lists.proofs.Blocks.{get_or_joined}
 use Rattle.tile_limit.proofs.Laws.{above_not_one}
-use Rattle.base_rows.specs.Refuse.{row, first, accepted, Each}
+use Rattle.base_rows.specs.Refuse.{row, first, accepted, Each, refused}
 use Rattle.base_rows.proofs.Walk.{first_never, first_both, first_rest}
 use Rattle.film_settings.specs.declared.Settings.{Settings}
 use Rattle.film_settings.specs.declared.Footer.{Footer}
@@ -25,8 +25,7 @@ use Rattle.film_settings.proofs.Ready.{size_numbered}
 use Rattle.film_settings.proofs.Parts.{grey_numbered}
 use Rattle.film_tiles.specs.Tiles.{FooterAsks}
 use Rattle.film_tiles.proofs.Footers.{footer_off, footer_one, footer_above}
-use Rattle.film_prepare.specs.declared.Enhanced.TheVariants as Enhanced
-use Rattle.film_prepare.specs.Prepare.{enhanced_says, PaintOut, paint_leaves}
+use Rattle.film_prepare.specs.Prepare.{PaintOut, paint_leaves}
 use Rattle.film_around.specs.Around.{region_rows, around_rows, region_pixels, around_grey, around_row, around_film, around_foot, arounded_of, around_of}
 use Rattle.film_around.proofs.Table.{Known, known, around_table_numbers, around_table_parts, region_numbered, region_even, region_small, region_large, around_work_other}
 use Rattle.film_around.proofs.Endings.{asks_footer, around_refused, around_done}
@@ -38,8 +37,8 @@ use Rattle.promise_around.proofs.Runs.{AroundCall, Arounds, around_ends}
 
 -- around goes by the rows 1, 2, 39, 7 to 9, 31, 10, 12, 17 and 13
 pub around_table : (w h : ℕ) (pic : List ℕ) (side : ℕ) (s : Settings) (o t : List ℕ)
-    → ByTable (λ (x : PaintOut). enhanced_says x.answer) (first (around_rows w h pic side s (length t) (length o))) (around_foot w h side s) (arounded_of w h pic side s t) (λ k. paint_leaves (Enhanced.Refused k) o t) (around_of w h pic side s o t)
-unfolding arounded_of enhanced_says
+    → ByTable (λ (x : PaintOut). x.answer) (first (around_rows w h pic side s (length t) (length o))) (around_foot w h side s) (arounded_of w h pic side s t) (λ k. paint_leaves (refused k) o t) (around_of w h pic side s o t)
+unfolding arounded_of
 around_table w h pic side s o t =
     record {
       when_none = λ z. sym (around_done w h pic side s o t refl z);
@@ -103,13 +102,13 @@ module _ (c : AroundCall) where
   not_first _ listless = other 32 refl (rw around_table_numbers refl)
 
 -- a film that around accepted met no row,
-pub around_known : {c : AroundCall} → Arounds c → {foot : Footer} → enhanced_says c.answer ≡ accepted foot
+pub around_known : {c : AroundCall} → Arounds c → {foot : Footer} → c.answer ≡ accepted foot
     → Known c.width c.height c.pixels c.side c.settings (length c.scratch) (length c.target)
 around_known {c} ran done =
     known c.width c.height c.pixels c.side c.settings (length c.scratch) (length c.target) (ended_none (around_table _ _ _ _ _ _ _) (around_ends ran) done)
 
 -- and was left as the rules say
-pub around_left : {c : AroundCall} → Arounds c → {foot : Footer} → enhanced_says c.answer ≡ accepted foot
+pub around_left : {c : AroundCall} → Arounds c → {foot : Footer} → c.answer ≡ accepted foot
     → paint_leaves c.answer c.target' c.scratch' ≡ arounded_of c.width c.height c.pixels c.side c.settings c.scratch
 around_left ran done = ended_done (around_table _ _ _ _ _ _ _) (around_ends ran) done
 

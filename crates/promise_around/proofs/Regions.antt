@@ -10,7 +10,6 @@ use Rattle.base_rows.specs.Refuse.{accepted}
 use Rattle.film_settings.specs.declared.Footer.{Footer}
 use Rattle.film_settings.specs.Settings.{bins_of}
 use Rattle.film_tiles.proofs.Films.{clip_holds}
-use Rattle.film_prepare.specs.Prepare.{enhanced_says}
 use Rattle.tile_slide.specs.Slide.{region_rect}
 use Rattle.film_around.specs.Around.{AroundReady}
 use Rattle.film_around.proofs.Pixels.{film_inside, film_greys, bin_small}
@@ -20,7 +19,7 @@ use Rattle.promise_around.specs.Regions.{own_bin}
 use Rattle.promise_around.proofs.Runs.{AroundCall, Arounds}
 use Rattle.promise_around.proofs.Outcomes.{around_known}
 
-module _ {c : AroundCall} {foot : Footer} (ran : Arounds c) (done : enhanced_says c.answer ≡ accepted foot) {f : Float} (on : ClippingOn c.settings.clip f) (i j : ℕ) (l : i < c.width)
+module _ {c : AroundCall} {foot : Footer} (ran : Arounds c) (done : c.answer ≡ accepted foot) {f : Float} (on : ClippingOn c.settings.clip f) (i j : ℕ) (l : i < c.width)
     (k : j < c.height) where
   pub film : AroundReady c.width c.height c.pixels c.side c.settings
   film = (around_known ran done).film

@@ -3,9 +3,11 @@
 use Prim.Native.Nat.{ℕ}
 use mathlib.Core.List.{List}
 use mathlib.Core.Path.{◌≡◌}
+use Rattle.base_rows.specs.Given.{said}
+use Rattle.base_rows.specs.Refuse.{Says}
 use Rattle.base_rows.specs.Run.{Run, Ran}
 use Rattle.film_settings.specs.declared.Settings.{Settings}
-use Rattle.film_prepare.specs.declared.Enhanced.{Enhanced}
+use Rattle.film_settings.specs.declared.Footer.{Footer}
 use Rattle.film_prepare.specs.Prepare.{paint_leaves}
 use Rattle.film_around.specs.Around.{around_of}
 use Rattle.film_around.proofs.around.Kinds as around
@@ -20,7 +22,7 @@ pub record AroundCall : Type 0 where
   pub settings : Settings
   pub target : List ℕ
   pub scratch : List ℕ
-  pub answer : Enhanced
+  pub answer : Says Footer
   pub target' : List ℕ
   pub scratch' : List ℕ
 
@@ -28,7 +30,7 @@ abbrev pub around_values : Run around.ps around.r around-reads.Post → AroundCa
 around_values run =
     let (width, (height, (pixels, (side, (settings, (target, (scratch, end))))))) = run.handed in
     let (_, (_, (_, (_, (_, (target', (scratch', end'))))))) = run.left in
-    record { width = width; height = height; pixels = pixels.now; side = side; settings = settings; target = target.now; scratch = scratch.now; answer = run.answer; target' = target'.now; scratch' = scratch'.now }
+    record { width = width; height = height; pixels = pixels.now; side = side; settings = settings; target = target.now; scratch = scratch.now; answer = said run.answer; target' = target'.now; scratch' = scratch'.now }
 
 -- what it is handed
 abbrev pub around_arguments : AroundCall → ℕ × ℕ × List ℕ × ℕ × Settings × List ℕ × List ℕ

@@ -23,9 +23,9 @@ pub record SlideCall : Type 0 where
 
 abbrev pub slide_values : Run slide.ps slide.r slide-reads.Post → SlideCall
 slide_values run =
-    let (pixels, (width, (height, (side, (x, (y, (low, (high, (bins, (factor, (counts, end))))))))))) = run.handed in
-    let (_, (_, (_, (_, (_, (_, (_, (_, (_, (_, (counts', end'))))))))))) = run.left in
-    record { pixels = pixels.now; width = width; height = height; side = side; x = x; y = y; low = low; high = high; bins = bins; factor = factor; counts = counts.now; counts' = counts'.now }
+    let (pixels, (width, (height, (side, (x, (y, (by, (counts, end)))))))) = run.handed in
+    let (_, (_, (_, (_, (_, (_, (_, (counts', end')))))))) = run.left in
+    record { pixels = pixels.now; width = width; height = height; side = side; x = x; y = y; low = by.min; high = by.max; bins = by.bins; factor = by.factor; counts = counts.now; counts' = counts'.now }
 
 -- slide ran with these values
 abbrev pub Slides : SlideCall → Type 0

@@ -7,8 +7,6 @@ use lib.ListN.{length}
 use Rattle.base_rows.specs.Refuse.{first, refused, says}
 use Rattle.film_settings.specs.Settings.{record_of}
 use Rattle.film_tiles.specs.Tiles.{foot_of}
-use Rattle.film_prepare.specs.Prepare.{prepared_says, enhanced_says}
-use Rattle.film_draw.specs.Draw.{drawn_says}
 use Rattle.byte_prepare.specs.Bytes.{byte_prepare_rows, byte_enhance_rows, byte_prepare_of, byte_enhance_of}
 use Rattle.byte_draw.specs.Bytes.{byte_draw_rows, byte_draw_of}
 use Rattle.promise_films.proofs.Runs.{PrepareCall, prepare_arguments, EnhanceCall, enhance_arguments, DrawCall, draw_arguments}
@@ -21,36 +19,36 @@ use Rattle.promise_films.proofs.Accepted.{ended_kept, ended_says}
 
 -- prepare on bytes: the number of the first row that applies, 30 after 10 and the others as in the wide call, or the wide call's record and footer
 pub prepare_bytes_says : {p : PrepareCall} → PreparesBytes p
-    → prepared_says p.answer
+    → p.answer
     ≡ says (first (byte_prepare_rows p.width p.height p.pixels p.settings (length p.map) (length p.scratch) (length p.list)))
     (record_of p.film p.width p.height p.settings, foot_of p.width p.height p.settings)
 prepare_bytes_says ran = ended_says (prepare_bytes_table _ _ _ _ _ _ _ _) (prepare_bytes_ends ran)
 
 -- enhance on bytes: that of the same rows but 32, or the same footer
 pub enhance_bytes_says : {e : EnhanceCall} → EnhancesBytes e
-    → enhanced_says e.answer
+    → e.answer
     ≡ says (first (byte_enhance_rows e.width e.height e.pixels e.settings (length e.map) (length e.scratch))) (foot_of e.width e.height e.settings)
 enhance_bytes_says ran = ended_says (enhance_bytes_table _ _ _ _ _ _) (enhance_bytes_ends ran)
 
 -- draw on bytes: that of its own rows
 pub draw_bytes_says : {d : DrawCall} → DrawsBytes d
-    → drawn_says d.answer ≡ says (first (byte_draw_rows d.film d.width d.height d.pixels d.settings d.kept d.window d.map (length d.out))) tt
+    → d.answer ≡ says (first (byte_draw_rows d.film d.width d.height d.pixels d.settings d.kept d.window d.map (length d.out))) tt
 draw_bytes_says ran = ended_says (draw_bytes_table _ _ _ _ _ _ _ _ _) (draw_bytes_ends ran)
 
 -- ---- a refusal keeps lent memory
 
 -- after a refusal prepare's map buffer, scratch and list hold what they held
-pub prepare_bytes_refusal_keeps : {p : PrepareCall} (n : ℕ) → PreparesBytes p → prepared_says p.answer ≡ refused n
+pub prepare_bytes_refusal_keeps : {p : PrepareCall} (n : ℕ) → PreparesBytes p → p.answer ≡ refused n
     → (p.map' ≡ p.map) × (p.scratch' ≡ p.scratch) × (p.list' ≡ p.list)
 prepare_bytes_refusal_keeps n ran q = prepare_memory (ended_kept (prepare_bytes_table _ _ _ _ _ _ _ _) (prepare_bytes_ends ran) q)
 
 -- enhance's picture, map buffer and scratch
-pub enhance_bytes_refusal_keeps : {e : EnhanceCall} (n : ℕ) → EnhancesBytes e → enhanced_says e.answer ≡ refused n
+pub enhance_bytes_refusal_keeps : {e : EnhanceCall} (n : ℕ) → EnhancesBytes e → e.answer ≡ refused n
     → (e.pixels' ≡ e.pixels) × (e.map' ≡ e.map) × (e.scratch' ≡ e.scratch)
 enhance_bytes_refusal_keeps n ran q = enhance_memory (ended_kept (enhance_bytes_table _ _ _ _ _ _) (enhance_bytes_ends ran) q)
 
 -- draw's output
-pub draw_bytes_refusal_keeps : {d : DrawCall} (n : ℕ) → DrawsBytes d → drawn_says d.answer ≡ refused n → d.out' ≡ d.out
+pub draw_bytes_refusal_keeps : {d : DrawCall} (n : ℕ) → DrawsBytes d → d.answer ≡ refused n → d.out' ≡ d.out
 draw_bytes_refusal_keeps n ran q = (draw_both (ended_kept (draw_bytes_table _ _ _ _ _ _ _ _ _) (draw_bytes_ends ran) q)).1
 
 -- ---- any two outcomes are equal

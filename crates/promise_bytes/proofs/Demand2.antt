@@ -13,9 +13,7 @@ use Rattle.film_settings.specs.declared.MapRecord.{MapRecord}
 use Rattle.film_settings.specs.declared.Footer.{Footer}
 use Rattle.film_settings.specs.Settings.{bins_of, kept_of, clip_one_of}
 use Rattle.film_tiles.specs.Tiles.{pixels_in}
-use Rattle.film_prepare.specs.Prepare.{prepared_says, enhanced_says}
 use Rattle.film_record.specs.Held.{Held}
-use Rattle.film_draw.specs.Draw.{drawn_says}
 use Rattle.film_draw.proofs.Laws.{other_field}
 use Rattle.byte_profile.specs.Profile.{byte_rows}
 use Rattle.byte_profile.proofs.Profile.{byte_ready, byte_inside, profile_none}
@@ -38,7 +36,7 @@ use Rattle.promise_films.proofs.Whole.{whole_as_film, whole_by_rule, whole_ours_
 
 -- ---- what prepare left
 
-module _ {p : PrepareCall} {r : MapRecord} {foot : Footer} (ran : PreparesBytes p) (prepared : prepared_says p.answer ≡ accepted (r, foot)) where
+module _ {p : PrepareCall} {r : MapRecord} {foot : Footer} (ran : PreparesBytes p) (prepared : p.answer ≡ accepted (r, foot)) where
   -- each tile's own mapping lies in the map buffer
   pub prepared_bytes_by_rule : clip_one_of p.settings.clip ≡ false → (k b : ℕ) → k < p.settings.across * p.settings.down → b < bins_of p.settings
       → get_or p.map' (k * bins_of p.settings + b) 0
@@ -51,7 +49,7 @@ module _ {p : PrepareCall} {r : MapRecord} {foot : Footer} (ran : PreparesBytes 
 
 -- ---- the whole film
 
-module _ {e : EnhanceCall} {foot : Footer} (ran : EnhancesBytes e) (done : enhanced_says e.answer ≡ accepted foot) where
+module _ {e : EnhanceCall} {foot : Footer} (ran : EnhancesBytes e) (done : e.answer ≡ accepted foot) where
   -- demand 2: each pixel is the rule's
   pub enhanced_bytes_by_rule : clip_one_of e.settings.clip ≡ false → (i j : ℕ) → i < e.width → j < e.height
       → get_or e.pixels' (j * e.width + i) 0 ≡ rule_grey e.width e.height e.pixels e.settings i j
@@ -70,7 +68,7 @@ module _ {e : EnhanceCall} {foot : Footer} (ran : EnhancesBytes e) (done : enhan
 -- ---- a window from what prepare left
 
 -- what prepare on bytes left, handed to draw on bytes, is drawn
-pub drawn_bytes_done : {p : PrepareCall} {foot : Footer} {d : DrawCall} → HandedToDrawBytes p foot d → drawn_says d.answer ≡ accepted tt
+pub drawn_bytes_done : {p : PrepareCall} {foot : Footer} {d : DrawCall} → HandedToDrawBytes p foot d → d.answer ≡ accepted tt
 drawn_bytes_done {p} {foot} {d} x =
     handed_done (prepare_bytes_made x.prepares x.prepared)
     (either_shown (inr x.draws) (kept_inside p.settings d.settings x.handed.rest.like (prepared_bytes_inside x.prepares x.prepared))) x.handed
@@ -89,7 +87,7 @@ module _ {p : PrepareCall} {foot : Footer} {d : DrawCall} (from : DrawnFromBytes
 -- the film of p that prepare on bytes accepted, drawn on bytes, is the picture of enhance on bytes, which accepts it with the same footer
 pub drawn_bytes_as_enhanced : {p : PrepareCall} {foot : Footer} {d : DrawCall} → DrawnFromBytes p foot d → {e : EnhanceCall} → EnhancesBytes e
     → EnhancesSame p.width p.height p.pixels p.settings e
-    → (enhanced_says e.answer ≡ accepted foot)
+    → (e.answer ≡ accepted foot)
     × ((j i : ℕ) → j < d.window.height → i < d.window.width → drawn_grey d i j ≡ get_or e.pixels' ((d.window.top + j) * p.width + (d.window.left + i)) 0)
 drawn_bytes_as_enhanced {p} {foot} {d} from {e} ran too =
     shown_as_enhanced (prepare_bytes_made from.prepares from.prepared) (draw_bytes_shown from.draws from.drawn) from.drawn from.pixels from.mappings
@@ -114,16 +112,16 @@ draw_bytes_alike {d} {f} x y same = draws_alike byte_draw_of (λ film w h pic s 
 -- ---- a record of another film
 
 -- "A window drawn with the record of a film of another number is refused.", and so is one whose record differs in whatever field
-pub draw_bytes_differing : {d : DrawCall} → DrawsBytes d → (Held d.film d.width d.height d.settings d.kept → ⊥) → drawn_says d.answer ≢ accepted tt
+pub draw_bytes_differing : {d : DrawCall} → DrawsBytes d → (Held d.film d.width d.height d.settings d.kept → ⊥) → d.answer ≢ accepted tt
 draw_bytes_differing ran differs done = differs (drawn_bytes_ready ran done).held
 
 -- in the film's number
-pub draw_bytes_other_film : {d : DrawCall} → DrawsBytes d → d.film ≢ d.kept.film → drawn_says d.answer ≢ accepted tt
+pub draw_bytes_other_film : {d : DrawCall} → DrawsBytes d → d.film ≢ d.kept.film → d.answer ≢ accepted tt
 draw_bytes_other_film ran other = draw_bytes_differing ran (λ held. other held.number)
 
 -- by 15 where none of 1 to 11, 30 and 31 applies, also where "the record's edges or centres aren't those of this rule"
 pub draw_bytes_differing_15 : {d : DrawCall} → DrawsBytes d → first (byte_rows d.width d.height (length d.pixels) d.settings (length d.map)) ≡ 0
-    → (Held d.film d.width d.height d.settings d.kept → ⊥) → drawn_says d.answer ≡ refused 15
+    → (Held d.film d.width d.height d.settings d.kept → ⊥) → d.answer ≡ refused 15
 draw_bytes_differing_15 {d} ran none differs =
     let inside = profile_none d.settings (byte_ready d.width d.height (length d.pixels) d.settings (length d.map) none).profile in
     draw_bytes_says ran

@@ -11,7 +11,6 @@ use Rattle.film_settings.specs.declared.MapRecord.{MapRecord}
 use Rattle.film_settings.specs.declared.Footer.{Footer}
 use Rattle.film_settings.specs.Settings.{bins_of}
 use Rattle.film_tiles.specs.Tiles.{pixels_in}
-use Rattle.film_prepare.specs.Prepare.{prepared_says, enhanced_says}
 use Rattle.promise_films.specs.Films.{ClippingOn, FooterShows, limit_in, FilmSound, LimitFits}
 use Rattle.promise_films.proofs.Accepted.{says_refused}
 use Rattle.promise_films.proofs.Runs.{PrepareCall, EnhanceCall}
@@ -25,7 +24,7 @@ use Rattle.promise_films.proofs.Whole.{whole_footer, whole_limit_fits, whole_til
 
 -- ---- what prepare left
 
-module _ {p : PrepareCall} {r : MapRecord} {foot : Footer} (ran : PreparesBytes p) (prepared : prepared_says p.answer ≡ accepted (r, foot)) where
+module _ {p : PrepareCall} {r : MapRecord} {foot : Footer} (ran : PreparesBytes p) (prepared : p.answer ≡ accepted (r, foot)) where
   -- what the footer shows, by the clip setting
   pub prepared_bytes_footer : FooterShows p.settings.clip (pixels_in p.width p.height p.settings 0) (bins_of p.settings) foot
   prepared_bytes_footer = made_footer (prepare_bytes_made ran prepared)
@@ -41,7 +40,7 @@ module _ {p : PrepareCall} {r : MapRecord} {foot : Footer} (ran : PreparesBytes 
 
 -- ---- the whole film
 
-module _ {e : EnhanceCall} {foot : Footer} (ran : EnhancesBytes e) (done : enhanced_says e.answer ≡ accepted foot) where
+module _ {e : EnhanceCall} {foot : Footer} (ran : EnhancesBytes e) (done : e.answer ≡ accepted foot) where
   -- the same of enhance
   pub enhanced_bytes_footer : FooterShows e.settings.clip (pixels_in e.width e.height e.settings 0) (bins_of e.settings) foot
   enhanced_bytes_footer = whole_footer e (enhance_bytes_as_wide ran done) done
@@ -58,12 +57,12 @@ module _ {e : EnhanceCall} {foot : Footer} (ran : EnhancesBytes e) (done : enhan
 -- ---- the clip refusal
 
 -- nor is 14: "a clip refusal never occurs"
-pub prepare_bytes_never_14 : {p : PrepareCall} → PreparesBytes p → prepared_says p.answer ≢ refused 14
+pub prepare_bytes_never_14 : {p : PrepareCall} → PreparesBytes p → p.answer ≢ refused 14
 prepare_bytes_never_14 {p} ran q =
     bytes_never_14 p.width p.height p.pixels p.settings (length p.map) (length p.scratch) (length p.list) (says_refused _ _ (sym (prepare_bytes_says ran) ∙ q))
 
 -- nor by enhance
-pub enhance_bytes_never_14 : {e : EnhanceCall} → EnhancesBytes e → enhanced_says e.answer ≢ refused 14
+pub enhance_bytes_never_14 : {e : EnhanceCall} → EnhancesBytes e → e.answer ≢ refused 14
 enhance_bytes_never_14 {e} ran q =
     bytes_never_14 e.width e.height e.pixels e.settings (length e.map) (length e.scratch) 128
     (rows_enough e.width e.height e.pixels e.settings (length e.map) (length e.scratch) ∙ says_refused _ _ (sym (enhance_bytes_says ran) ∙ q))

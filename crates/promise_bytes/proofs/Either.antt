@@ -11,8 +11,6 @@ use Rattle.film_settings.specs.declared.Settings.{Settings}
 use Rattle.film_settings.specs.declared.MapRecord.{MapRecord}
 use Rattle.film_settings.specs.declared.Footer.{Footer}
 use Rattle.film_settings.specs.Settings.{entries_of, kept_of, clip_one_of}
-use Rattle.film_prepare.specs.Prepare.{prepared_says}
-use Rattle.film_draw.specs.Draw.{drawn_says}
 use Rattle.byte_profile.specs.Profile.{profile_rows}
 use Rattle.byte_profile.proofs.Profile.{profile_none, profile_kept}
 use Rattle.byte_prepare.proofs.Endings.{enhance_inside}
@@ -46,7 +44,7 @@ pub kept_inside : (s s' : Settings) → kept_of s' ≡ kept_of s → Inside s �
 kept_inside s s' like inside = ap first (sym (profile_kept s') ∙ ap profile_rows like ∙ profile_kept s) ∙ inside
 
 -- a film that prepare on bytes accepted has settings inside the profile
-pub prepared_bytes_inside : {p : PrepareCall} {r : MapRecord} {foot : Footer} → PreparesBytes p → prepared_says p.answer ≡ accepted (r, foot) → Inside p.settings
+pub prepared_bytes_inside : {p : PrepareCall} {r : MapRecord} {foot : Footer} → PreparesBytes p → p.answer ≡ accepted (r, foot) → Inside p.settings
 prepared_bytes_inside {p} ran done = profile_none p.settings (prepare_bytes_held ran done)
 
 -- with settings inside the profile either draw shows what draw does
@@ -56,7 +54,7 @@ either_shown {d} (inr ran) inside =
     record { ends = draw_bytes_ends ran ∙ draw_inside d.film d.width d.height d.pixels d.settings d.kept d.window d.map d.out inside }
 
 -- so does either that accepted the window
-pub accepted_shown : {d : DrawCall} → DrawsEither d → drawn_says d.answer ≡ accepted tt → Shown d
+pub accepted_shown : {d : DrawCall} → DrawsEither d → d.answer ≡ accepted tt → Shown d
 accepted_shown (inl ran) done = draw_shown ran
 accepted_shown (inr ran) done = draw_bytes_shown ran done
 
@@ -71,7 +69,7 @@ either_rendered {e} (inr ran) inside = enhance_bytes_ends ran ∙ enhance_inside
 -- answered, the settings, the mappings that were left, a window inside the film and an output of its area
 pub record HandedEither (p : PrepareCall) (foot : Footer) (d : DrawCall) : Type 0 where
   pub prepares : PreparesEither p
-  pub prepared : prepared_says p.answer ≡ accepted (d.kept, foot)
+  pub prepared : p.answer ≡ accepted (d.kept, foot)
   pub inside : Inside p.settings
   pub draws : DrawsEither d
   pub handed : HandedFilm p.film p.width p.height p.pixels p.settings p.map' d
@@ -79,7 +77,7 @@ pub record HandedEither (p : PrepareCall) (foot : Footer) (d : DrawCall) : Type 
 -- of prepare on bytes nothing more is asked: its settings are inside the profile
 pub record HandedToDrawBytes (p : PrepareCall) (foot : Footer) (d : DrawCall) : Type 0 where
   pub prepares : PreparesBytes p
-  pub prepared : prepared_says p.answer ≡ accepted (d.kept, foot)
+  pub prepared : p.answer ≡ accepted (d.kept, foot)
   pub draws : DrawsBytes d
   pub handed : HandedFilm p.film p.width p.height p.pixels p.settings p.map' d
 
@@ -87,8 +85,8 @@ pub record HandedToDrawBytes (p : PrepareCall) (foot : Footer) (d : DrawCall) : 
 -- were left, whatever else
 pub record DrawnFromEither (p : PrepareCall) (foot : Footer) (d : DrawCall) : Type 0 where
   pub prepares : PreparesEither p
-  pub prepared : prepared_says p.answer ≡ accepted (d.kept, foot)
+  pub prepared : p.answer ≡ accepted (d.kept, foot)
   pub draws : DrawsEither d
-  pub drawn : drawn_says d.answer ≡ accepted tt
+  pub drawn : d.answer ≡ accepted tt
   pub pixels : d.pixels ≡ p.pixels
   pub mappings : clip_one_of p.settings.clip ≡ false → take (entries_of p.settings) d.map ≡ take (entries_of p.settings) p.map'

@@ -9,8 +9,8 @@ use Rattle.base_rows.specs.Refuse.{accepted}
 use Rattle.film_settings.specs.declared.MapRecord.{MapRecord}
 use Rattle.film_settings.specs.declared.Footer.{Footer}
 use Rattle.film_settings.specs.Settings.{entries_of, clip_one_of}
-use Rattle.film_prepare.specs.Prepare.{prepared_says, enhanced_says, PrepareOut, prepare_leaves, prepare_of, EnhanceOut, enhance_leaves, enhance_of}
-use Rattle.film_draw.specs.Draw.{drawn_says, DrawOut, DrawReady}
+use Rattle.film_prepare.specs.Prepare.{PrepareOut, prepare_leaves, prepare_of, EnhanceOut, enhance_leaves, enhance_of}
+use Rattle.film_draw.specs.Draw.{DrawOut, DrawReady}
 use Rattle.film_draw.proofs.Tables.{draw_ready}
 use Rattle.byte_profile.specs.Profile.{Profile}
 use Rattle.promise_films.proofs.Made.{Made, ended_made, shown_inside}
@@ -22,22 +22,22 @@ use Rattle.promise_bytes.proofs.Runs.{PreparesBytes, prepare_bytes_ends, Enhance
 
 -- ---- prepare on bytes
 
-module _ {p : PrepareCall} {r : MapRecord} {foot : Footer} (ran : PreparesBytes p) (prepared : prepared_says p.answer ≡ accepted (r, foot)) where
+module _ {p : PrepareCall} {r : MapRecord} {foot : Footer} (ran : PreparesBytes p) (prepared : p.answer ≡ accepted (r, foot)) where
   -- it ended as prepare does
   pub prepare_bytes_as_wide : prepare_leaves p.answer p.map' p.scratch' p.list' ≡ prepare_of p.film p.width p.height p.pixels p.settings p.map p.scratch p.list
   prepare_bytes_as_wide =
       prepare_bytes_ends ran
       ∙ prepare_bytes_wide p.film p.width p.height p.pixels p.settings p.map p.scratch p.list
-      (sym (ap (λ (z : PrepareOut). prepared_says z.answer) (prepare_bytes_ends ran)) ∙ prepared)
+      (sym (ap (λ (z : PrepareOut). z.answer) (prepare_bytes_ends ran)) ∙ prepared)
 
-  pub prepare_bytes_done : prepared_says (prepare_of p.film p.width p.height p.pixels p.settings p.map p.scratch p.list).answer ≡ accepted (r, foot)
-  prepare_bytes_done = sym (ap (λ (z : PrepareOut). prepared_says z.answer) prepare_bytes_as_wide) ∙ prepared
+  pub prepare_bytes_done : (prepare_of p.film p.width p.height p.pixels p.settings p.map p.scratch p.list).answer ≡ accepted (r, foot)
+  prepare_bytes_done = sym (ap (λ (z : PrepareOut). z.answer) prepare_bytes_as_wide) ∙ prepared
 
   -- its settings are inside the profile
   pub prepare_bytes_held : Profile p.settings
   prepare_bytes_held =
       prepare_bytes_profile p.film p.width p.height p.pixels p.settings p.map p.scratch p.list
-      (sym (ap (λ (z : PrepareOut). prepared_says z.answer) (prepare_bytes_ends ran)) ∙ prepared)
+      (sym (ap (λ (z : PrepareOut). z.answer) (prepare_bytes_ends ran)) ∙ prepared)
 
   -- so what it left is what prepare's outcome gives
   pub prepare_bytes_made : Made p.film p.width p.height p.pixels p.settings r foot p.map'
@@ -45,36 +45,36 @@ module _ {p : PrepareCall} {r : MapRecord} {foot : Footer} (ran : PreparesBytes 
 
 -- ---- enhance on bytes
 
-module _ {e : EnhanceCall} {foot : Footer} (ran : EnhancesBytes e) (done : enhanced_says e.answer ≡ accepted foot) where
+module _ {e : EnhanceCall} {foot : Footer} (ran : EnhancesBytes e) (done : e.answer ≡ accepted foot) where
   -- it ended as enhance does
   pub enhance_bytes_as_wide : enhance_leaves e.answer e.pixels' e.map' e.scratch' ≡ enhance_of e.width e.height e.pixels e.settings e.map e.scratch
   enhance_bytes_as_wide =
       enhance_bytes_ends ran
       ∙ enhance_bytes_wide e.width e.height e.pixels e.settings e.map e.scratch
-      (sym (ap (λ (z : EnhanceOut). enhanced_says z.answer) (enhance_bytes_ends ran)) ∙ done)
+      (sym (ap (λ (z : EnhanceOut). z.answer) (enhance_bytes_ends ran)) ∙ done)
 
-  pub enhance_bytes_done : enhanced_says (enhance_of e.width e.height e.pixels e.settings e.map e.scratch).answer ≡ accepted foot
-  enhance_bytes_done = sym (ap (λ (z : EnhanceOut). enhanced_says z.answer) enhance_bytes_as_wide) ∙ done
+  pub enhance_bytes_done : (enhance_of e.width e.height e.pixels e.settings e.map e.scratch).answer ≡ accepted foot
+  enhance_bytes_done = sym (ap (λ (z : EnhanceOut). z.answer) enhance_bytes_as_wide) ∙ done
 
   -- its settings are inside the profile
   pub enhance_bytes_held : Profile e.settings
   enhance_bytes_held =
       enhance_bytes_profile e.width e.height e.pixels e.settings e.map e.scratch
-      (sym (ap (λ (z : EnhanceOut). enhanced_says z.answer) (enhance_bytes_ends ran)) ∙ done)
+      (sym (ap (λ (z : EnhanceOut). z.answer) (enhance_bytes_ends ran)) ∙ done)
 
 -- ---- draw on bytes
 
 -- one that is accepted ended as draw does
-pub draw_bytes_shown : {d : DrawCall} → DrawsBytes d → drawn_says d.answer ≡ accepted tt → Shown d
+pub draw_bytes_shown : {d : DrawCall} → DrawsBytes d → d.answer ≡ accepted tt → Shown d
 draw_bytes_shown {d} ran done =
     record {
       ends = draw_bytes_ends ran
           ∙ draw_bytes_wide d.film d.width d.height d.pixels d.settings d.kept d.window d.map d.out
-          (sym (ap (λ (z : DrawOut). drawn_says z.answer) (draw_bytes_ends ran)) ∙ done);
+          (sym (ap (λ (z : DrawOut). z.answer) (draw_bytes_ends ran)) ∙ done);
     }
 
 -- so what it knows
-pub drawn_bytes_ready : {d : DrawCall} → DrawsBytes d → drawn_says d.answer ≡ accepted tt
+pub drawn_bytes_ready : {d : DrawCall} → DrawsBytes d → d.answer ≡ accepted tt
     → DrawReady d.film d.width d.height d.pixels d.settings d.kept d.window d.map (length d.out)
 drawn_bytes_ready {d} ran done =
     draw_ready d.film d.width d.height d.pixels d.settings d.kept d.window d.map (length d.out)
@@ -84,9 +84,9 @@ drawn_bytes_ready {d} ran done =
 -- the mappings that it left, whatever else
 pub record DrawnFromBytes (p : PrepareCall) (foot : Footer) (d : DrawCall) : Type 0 where
   pub prepares : PreparesBytes p
-  pub prepared : prepared_says p.answer ≡ accepted (d.kept, foot)
+  pub prepared : p.answer ≡ accepted (d.kept, foot)
   pub draws : DrawsBytes d
-  pub drawn : drawn_says d.answer ≡ accepted tt
+  pub drawn : d.answer ≡ accepted tt
   pub pixels : d.pixels ≡ p.pixels
   pub mappings : clip_one_of p.settings.clip ≡ false → take (entries_of p.settings) d.map ≡ take (entries_of p.settings) p.map'
 

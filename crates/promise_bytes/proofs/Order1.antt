@@ -12,8 +12,8 @@ use mathlib.Core.List.{List}
 use native.Mathlib.Nat.{le_of_eq}
 use Rattle.base_rows.specs.Refuse.{first, refused, accepted}
 use Rattle.film_settings.specs.Settings.{setting_rows, clip_one_of}
-use Rattle.film_prepare.specs.Prepare.{prepared_says, enhanced_says, PrepareOut, EnhanceOut, prepare_leaves, prepare_of, enhance_leaves, enhance_of}
-use Rattle.film_draw.specs.Draw.{drawn_says, DrawOut, draw_leaves, draw_of}
+use Rattle.film_prepare.specs.Prepare.{PrepareOut, EnhanceOut, prepare_leaves, prepare_of, enhance_leaves, enhance_of}
+use Rattle.film_draw.specs.Draw.{DrawOut, draw_leaves, draw_of}
 use Rattle.byte_profile.specs.Profile.{profile_rows}
 use Rattle.byte_profile.proofs.Greys.{byte_at}
 use Rattle.byte_prepare.proofs.Tables.{rows_enough}
@@ -44,7 +44,7 @@ use Rattle.promise_bytes.proofs.Ended.{prepare_bytes_made}
 
 -- prepare on bytes
 pub prepare_bytes_thirty : {p : PrepareCall} → PreparesBytes p → first (profile_rows p.settings) ≢ 0 → first (setting_rows p.width p.height (length p.pixels) p.settings) ≡ 0
-    → prepared_says p.answer ≡ refused 30
+    → p.answer ≡ refused 30
 prepare_bytes_thirty {p} ran outside fair =
     prepare_bytes_says ran
     ∙ refused_says _ _ {k = 29}
@@ -52,7 +52,7 @@ prepare_bytes_thirty {p} ran outside fair =
 
 -- enhance on bytes
 pub enhance_bytes_thirty : {e : EnhanceCall} → EnhancesBytes e → first (profile_rows e.settings) ≢ 0 → first (setting_rows e.width e.height (length e.pixels) e.settings) ≡ 0
-    → enhanced_says e.answer ≡ refused 30
+    → e.answer ≡ refused 30
 enhance_bytes_thirty {e} ran outside fair =
     enhance_bytes_says ran
     ∙ refused_says _ _ {k = 29}
@@ -60,7 +60,7 @@ enhance_bytes_thirty {e} ran outside fair =
 
 -- draw on bytes
 pub draw_bytes_thirty : {d : DrawCall} → DrawsBytes d → first (profile_rows d.settings) ≢ 0 → first (setting_rows d.width d.height (length d.pixels) d.settings) ≡ 0
-    → drawn_says d.answer ≡ refused 30
+    → d.answer ≡ refused 30
 draw_bytes_thirty {d} ran outside fair =
     draw_bytes_says ran
     ∙ refused_says _ _ {k = 29}
@@ -69,18 +69,18 @@ draw_bytes_thirty {d} ran outside fair =
 -- ---- 13 and 18 are never given: bytes lie in 0 to 255
 
 -- prepare never gives 13
-pub prepare_bytes_never_13 : {p : PrepareCall} → PreparesBytes p → prepared_says p.answer ≢ refused 13
+pub prepare_bytes_never_13 : {p : PrepareCall} → PreparesBytes p → p.answer ≢ refused 13
 prepare_bytes_never_13 {p} ran q =
     bytes_never_13 p.width p.height p.pixels p.settings (length p.map) (length p.scratch) (length p.list) (prepare_bytes_picture ran) (says_refused _ _ (sym (prepare_bytes_says ran) ∙ q))
 
 -- nor does enhance
-pub enhance_bytes_never_13 : {e : EnhanceCall} → EnhancesBytes e → enhanced_says e.answer ≢ refused 13
+pub enhance_bytes_never_13 : {e : EnhanceCall} → EnhancesBytes e → e.answer ≢ refused 13
 enhance_bytes_never_13 {e} ran q =
     bytes_never_13 e.width e.height e.pixels e.settings (length e.map) (length e.scratch) 128 (enhance_bytes_picture ran)
     (rows_enough e.width e.height e.pixels e.settings (length e.map) (length e.scratch) ∙ says_refused _ _ (sym (enhance_bytes_says ran) ∙ q))
 
 -- nor draw, which never gives 18 either
-pub draw_bytes_never_13_18 : {d : DrawCall} → DrawsBytes d → (drawn_says d.answer ≢ refused 13) × (drawn_says d.answer ≢ refused 18)
+pub draw_bytes_never_13_18 : {d : DrawCall} → DrawsBytes d → (d.answer ≢ refused 13) × (d.answer ≢ refused 18)
 draw_bytes_never_13_18 {d} ran =
     let (bytes, entries) = draw_bytes_lent ran in
     let never = draw_never_13_18 d.film d.width d.height d.pixels d.settings d.kept d.window d.map (length d.out) (byte_at d.pixels bytes) (byte_at d.map entries) in
@@ -149,13 +149,13 @@ draw_narrow_met {b} {d} wide inside way bytes =
 -- ---- either prepare, either draw, either enhance
 
 -- what either prepare left of a film that it accepted
-pub either_made : {p : PrepareCall} {r : MapRecord} {foot : Footer} → PreparesEither p → prepared_says p.answer ≡ accepted (r, foot)
+pub either_made : {p : PrepareCall} {r : MapRecord} {foot : Footer} → PreparesEither p → p.answer ≡ accepted (r, foot)
     → Made p.film p.width p.height p.pixels p.settings r foot p.map'
 either_made (inl ran) done = prepare_made ran done
 either_made (inr ran) done = prepare_bytes_made ran done
 
 -- is drawn
-pub either_done : {p : PrepareCall} {foot : Footer} {d : DrawCall} → HandedEither p foot d → drawn_says d.answer ≡ accepted tt
+pub either_done : {p : PrepareCall} {foot : Footer} {d : DrawCall} → HandedEither p foot d → d.answer ≡ accepted tt
 either_done {p} {foot} {d} x =
     handed_done (either_made x.prepares x.prepared) (either_shown x.draws (kept_inside p.settings d.settings x.handed.rest.like x.inside)) x.handed
 
@@ -177,12 +177,12 @@ module _ {p : PrepareCall} {foot : Footer} {d : DrawCall} (from : DrawnFromEithe
 
   -- and the one in the picture of either enhance, which renders the same film with the same footer, where the settings are inside the profile
   pub either_as_enhanced : {e : EnhanceCall} → EnhancesEither e → Inside p.settings → EnhancesSame p.width p.height p.pixels p.settings e
-      → (enhanced_says e.answer ≡ accepted foot)
+      → (e.answer ≡ accepted foot)
       × ((j i : ℕ) → j < d.window.height → i < d.window.width → drawn_grey d i j ≡ get_or e.pixels' ((d.window.top + j) * p.width + (d.window.left + i)) 0)
   either_as_enhanced {e} ran inside too = shown_as_enhanced (either_made from.prepares from.prepared) (accepted_shown from.draws from.drawn) from.drawn from.pixels from.mappings (either_rendered ran (kept_inside p.settings e.settings too.like inside)) too
 
 -- "A window drawn with the record of a film of another number is refused.": either draw, handed what either prepare answered and another film's number, whatever else
-pub either_other_film : {p : PrepareCall} {r : MapRecord} {foot : Footer} {d : DrawCall} → PreparesEither p → prepared_says p.answer ≡ accepted (r, foot) → DrawsEither d
+pub either_other_film : {p : PrepareCall} {r : MapRecord} {foot : Footer} {d : DrawCall} → PreparesEither p → p.answer ≡ accepted (r, foot) → DrawsEither d
     → d.kept ≡ r → d.film ≢ p.film → Refuses d
 either_other_film {p} {r} {foot} {d} prepares prepared draws same other = go draws
   where

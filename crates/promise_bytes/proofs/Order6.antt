@@ -10,7 +10,6 @@ use Rattle.base_rows.specs.Refuse.{accepted}
 use Rattle.film_settings.specs.declared.MapRecord.{MapRecord}
 use Rattle.film_settings.specs.declared.Footer.{Footer}
 use Rattle.film_settings.specs.Settings.{clip_one_of}
-use Rattle.film_prepare.specs.Prepare.{prepared_says, enhanced_says}
 use Rattle.promise_films.specs.Fitted.{Fitted, fit_grey, fit_mappings, fit_foot}
 use Rattle.promise_films.proofs.Runs.{PrepareCall, EnhanceCall, DrawCall}
 use Rattle.promise_films.proofs.Ways.{drawn_grey}
@@ -19,7 +18,7 @@ use Rattle.promise_bytes.proofs.Ended.{prepare_bytes_as_wide, enhance_bytes_as_w
 use Rattle.promise_films.proofs.Fitted.{ended_fitted, shown_fitted, whole_fitted, whole_fitted_left}
 
 -- a film of bytes whose sides are multiples of its grid, that prepare accepted
-module _ {p : PrepareCall} {r : MapRecord} {foot : Footer} (ran : PreparesBytes p) (prepared : prepared_says p.answer ≡ accepted (r, foot))
+module _ {p : PrepareCall} {r : MapRecord} {foot : Footer} (ran : PreparesBytes p) (prepared : p.answer ≡ accepted (r, foot))
     (fitted : Fitted p.width p.height p.settings) where
   -- the mappings that it leaves (at the factor 1.0 it leaves the map buffer) and the footer are those of the rule before
   pub fitted_bytes_prepared : (p.map' ≡ cond (clip_one_of p.settings.clip) p.map (onto p.map (fit_mappings p.width p.height p.pixels p.settings)))
@@ -27,7 +26,7 @@ module _ {p : PrepareCall} {r : MapRecord} {foot : Footer} (ran : PreparesBytes 
   fitted_bytes_prepared = ended_fitted p (prepare_bytes_as_wide ran prepared) prepared fitted
 
 -- such a film that enhance accepted
-module _ {e : EnhanceCall} {foot : Footer} (ran : EnhancesBytes e) (enhanced : enhanced_says e.answer ≡ accepted foot)
+module _ {e : EnhanceCall} {foot : Footer} (ran : EnhancesBytes e) (enhanced : e.answer ≡ accepted foot)
     (fitted : Fitted e.width e.height e.settings) where
   -- each pixel of the picture that it leaves is the one of the rule before
   pub fitted_bytes_enhanced : clip_one_of e.settings.clip ≡ false → (i j : ℕ) → i < e.width → j < e.height

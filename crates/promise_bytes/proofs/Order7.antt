@@ -13,7 +13,6 @@ use Rattle.film_settings.specs.declared.MapRecord.{MapRecord}
 use Rattle.film_settings.specs.declared.Footer.{Footer}
 use Rattle.film_settings.specs.Settings.{clip_one_of}
 use Rattle.film_tiles.specs.Tiles.{spent_entries}
-use Rattle.film_prepare.specs.Prepare.{prepared_says, enhanced_says}
 use Rattle.promise_films.specs.Films.{ClippingOn}
 use Rattle.promise_films.specs.Looks.{FilmLooks, NoLooks}
 use Rattle.promise_films.proofs.Runs.{PrepareCall, EnhanceCall}
@@ -26,7 +25,7 @@ use Rattle.promise_films.proofs.Looks.{ended_list_behind, ended_list_kept, ended
 
 -- ---- the list
 
-module _ {p : PrepareCall} {r : MapRecord} {foot : Footer} (ran : PreparesBytes p) (prepared : prepared_says p.answer ≡ accepted (r, foot)) where
+module _ {p : PrepareCall} {r : MapRecord} {foot : Footer} (ran : PreparesBytes p) (prepared : p.answer ≡ accepted (r, foot)) where
   -- each tile's E and looks, and their bound, with a factor above one
   pub prepared_bytes_looks : {f : Float} → ClippingOn p.settings.clip f → FilmLooks p.width p.height p.pixels p.settings f p.list'
   prepared_bytes_looks on = ended_looks p (prepare_bytes_as_wide ran prepared) prepared on (prepare_bytes_held ran prepared).edition
@@ -50,6 +49,6 @@ module _ {p : PrepareCall} {r : MapRecord} {foot : Footer} (ran : PreparesBytes 
 -- ---- 32
 
 -- nor is 32 by enhance, which is lent no list
-pub enhance_bytes_never_32 : {e : EnhanceCall} → EnhancesBytes e → enhanced_says e.answer ≢ refused 32
+pub enhance_bytes_never_32 : {e : EnhanceCall} → EnhancesBytes e → e.answer ≢ refused 32
 enhance_bytes_never_32 {e} ran q =
     enhance_never_32 e.width e.height e.pixels e.settings (length e.map) (length e.scratch) (says_refused _ _ (sym (enhance_bytes_says ran) ∙ q))

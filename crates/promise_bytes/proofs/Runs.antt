@@ -6,6 +6,8 @@ use Prim.Native.Nat.{ℕ}
 use mathlib.Core.Bool.{true}
 use mathlib.Core.Path.{◌≡◌}
 use Rattle.base_lists.specs.Lists.{onto, all}
+use Rattle.base_rows.specs.Given.{said}
+use Rattle.film_prepare.specs.Prepare.{prepared_says}
 use Rattle.base_rows.specs.Run.{Run, Ran}
 use Rattle.film_prepare.specs.Prepare.{prepare_leaves, enhance_leaves}
 use Rattle.film_draw.specs.Draw.{draw_leaves}
@@ -30,7 +32,7 @@ abbrev pub prepare_bytes_values : Run prepare-bytes.ps prepare-bytes.r prepare-b
 prepare_bytes_values run =
     let (film, (width, (height, (pixels, (settings, (map, (scratch, (list, end)))))))) = run.handed in
     let (_, (_, (_, (_, (_, (map', (scratch', (list', end')))))))) = run.left in
-    record { film = film; width = width; height = height; pixels = pixels.now; settings = settings; map = map.now; scratch = scratch.now; list = list.now; answer = run.answer; map' = map'.now; scratch' = scratch'.now; list' = list'.now }
+    record { film = film; width = width; height = height; pixels = pixels.now; settings = settings; map = map.now; scratch = scratch.now; list = list.now; answer = prepared_says run.answer; map' = map'.now; scratch' = scratch'.now; list' = list'.now }
 
 -- prepare on bytes ran with these values
 abbrev pub PreparesBytes : PrepareCall → Type 0
@@ -48,7 +50,7 @@ abbrev pub enhance_bytes_values : Run enhance-bytes.ps enhance-bytes.r enhance-b
 enhance_bytes_values run =
     let (width, (height, (pixels, (settings, (map, (scratch, end)))))) = run.handed in
     let (_, (_, (pixels', (_, (map', (scratch', end')))))) = run.left in
-    record { width = width; height = height; pixels = pixels.now; settings = settings; map = map.now; scratch = scratch.now; answer = run.answer; pixels' = pixels'.now; map' = map'.now; scratch' = scratch'.now }
+    record { width = width; height = height; pixels = pixels.now; settings = settings; map = map.now; scratch = scratch.now; answer = said run.answer; pixels' = pixels'.now; map' = map'.now; scratch' = scratch'.now }
 
 -- enhance on bytes ran with these values
 abbrev pub EnhancesBytes : EnhanceCall → Type 0
@@ -66,7 +68,7 @@ abbrev pub draw_bytes_values : Run draw-bytes.ps draw-bytes.r draw-bytes-reads.P
 draw_bytes_values run =
     let (film, (width, (height, (pixels, (settings, (kept, (window, (map, (out, end))))))))) = run.handed in
     let (_, (_, (_, (_, (_, (_, (_, (_, (out', end'))))))))) = run.left in
-    record { film = film; width = width; height = height; pixels = pixels.now; settings = settings; kept = kept; window = window; map = map.now; out = out.now; answer = run.answer; out' = out'.now }
+    record { film = film; width = width; height = height; pixels = pixels.now; settings = settings; kept = kept; window = window; map = map.now; out = out.now; answer = said run.answer; out' = out'.now }
 
 -- draw on bytes ran with these values
 abbrev pub DrawsBytes : DrawCall → Type 0

@@ -4,11 +4,10 @@
 -- Assumes nothing.
 use Prim.Native.Nat.{◌<◌}
 use mathlib.Core.Path.{◌≡◌, refl, sym, ap, ◌∙◌}
-use Rattle.film_prepare.specs.Prepare.{prepared_says, prepared_of, enhanced_says, enhanced_of}
-use Rattle.film_count.specs.Counting.{counted_says, count_of}
+use Rattle.film_prepare.specs.Prepare.{prepared_of, enhanced_of}
+use Rattle.film_count.specs.Counting.{count_of}
 use Rattle.film_map.specs.Counts.{map_done_of, map_of}
-use Rattle.film_draw.specs.Draw.{drawn_says}
-use Rattle.film_room.specs.Room.{stored_says, stored_of, store_of, show_of, dropped_says, dropped_of, drop_of}
+use Rattle.film_room.specs.Room.{stored_of, store_of, show_of, dropped_of, drop_of}
 use Rattle.byte_prepare.specs.Bytes.{byte_prepare_of, byte_enhance_of}
 use Rattle.byte_draw.specs.Bytes.{byte_draw_of}
 use Rattle.promise_films.proofs.Accepted.{returned_kept}
@@ -33,7 +32,7 @@ tz_prepare_bytes_determined x y same =
 
 -- a refusal keeps lent memory
 pub tz_prepare_bytes_refusal_keeps : {c : TzPrepareCall} → TzPreparesBytes c → 0 < c.number → (c.map' ≡ c.map) × (c.scratch' ≡ c.scratch) × (c.list' ≡ c.list) × (c.cells' ≡ c.cells)
-unfolding flat_prepared prepared_says prepared_of
+unfolding flat_prepared prepared_of
 tz_prepare_bytes_refusal_keeps {c} ran l =
     let e = returned_kept (prepare_bytes_table _ _ _ _ _ _ _ _) (λ e. flat_prepared e c.cells) (λ (z : FlatPrepared). z.number) refl (λ k. refl) (tz_prepare_bytes_ends ran) l in
     (ap (λ (z : FlatPrepared). z.map) e, ap (λ (z : FlatPrepared). z.scratch) e, ap (λ (z : FlatPrepared). z.list) e, ap (λ (z : FlatPrepared). z.cells) e)
@@ -49,7 +48,7 @@ tz_enhance_bytes_determined x y same =
 
 -- a refusal keeps picture, map buffer, scratch and cells
 pub tz_enhance_bytes_refusal_keeps : {c : TzEnhanceCall} → TzEnhancesBytes c → 0 < c.number → (c.pixels' ≡ c.pixels) × (c.map' ≡ c.map) × (c.scratch' ≡ c.scratch) × (c.foot' ≡ c.foot)
-unfolding flat_enhanced enhanced_says enhanced_of
+unfolding flat_enhanced enhanced_of
 tz_enhance_bytes_refusal_keeps {c} ran l =
     let e = returned_kept (enhance_bytes_table _ _ _ _ _ _) (λ o. flat_enhanced o c.foot) (λ (z : FlatEnhanced). z.number) refl (λ k. refl) (tz_enhance_bytes_ends ran) l in
     (ap (λ (z : FlatEnhanced). z.picture) e, ap (λ (z : FlatEnhanced). z.map) e, ap (λ (z : FlatEnhanced). z.scratch) e, ap (λ (z : FlatEnhanced). z.foot) e)
@@ -64,7 +63,7 @@ tz_draw_bytes_determined x y same =
 
 -- a refusal keeps the output
 pub tz_draw_bytes_refusal_keeps : {c : TzDrawCall} → TzDrawsBytes c → 0 < c.number → c.out' ≡ c.out
-unfolding flat_drawn drawn_says
+unfolding flat_drawn
 tz_draw_bytes_refusal_keeps ran l =
     ap (λ (z : FlatDrawn). z.out) (returned_kept (draw_bytes_table _ _ _ _ _ _ _ _ _) flat_drawn (λ (z : FlatDrawn). z.number) refl (λ k. refl) (tz_draw_bytes_ends ran) l)
 
@@ -78,7 +77,7 @@ tz_count_determined x y same =
 
 -- a refusal keeps the counts
 pub tz_count_refusal_keeps : {c : TzCountCall} → TzCounts c → 0 < c.number → c.counts' ≡ c.counts
-unfolding flat_counted counted_says
+unfolding flat_counted
 tz_count_refusal_keeps ran l =
     ap (λ (z : FlatCounted). z.counts) (returned_kept (count_table _ _ _ _ _) flat_counted (λ (z : FlatCounted). z.number) refl (λ k. refl) (tz_count_ends ran) l)
 
@@ -93,7 +92,7 @@ tz_map_determined x y same =
 
 -- a refusal keeps map buffer, scratch, list and cells
 pub tz_map_refusal_keeps : {c : TzMapCall} → TzMaps c → 0 < c.number → (c.map' ≡ c.map) × (c.scratch' ≡ c.scratch) × (c.list' ≡ c.list) × (c.cells' ≡ c.cells)
-unfolding flat_prepared prepared_says map_done_of
+unfolding flat_prepared map_done_of
 tz_map_refusal_keeps {c} ran l =
     let e = returned_kept (map_table _ _ _ _ _ _ _ _) (λ e. flat_prepared e c.cells) (λ (z : FlatPrepared). z.number) refl (λ k. refl) (tz_map_ends ran) l in
     (ap (λ (z : FlatPrepared). z.map) e, ap (λ (z : FlatPrepared). z.scratch) e, ap (λ (z : FlatPrepared). z.list) e, ap (λ (z : FlatPrepared). z.cells) e)
@@ -116,7 +115,7 @@ tz_room_store_determined x y same =
 -- a refusal keeps lent memory and all cells
 pub tz_room_store_refusal_keeps : {c : TzStoreCall} → TzStores c → 0 < c.number
     → (c.map' ≡ c.map) × (c.scratch' ≡ c.scratch) × (c.list' ≡ c.list) × (c.foot' ≡ c.foot) × (c.room' ≡ c.room)
-unfolding flat_stored stored_says stored_of
+unfolding flat_stored stored_of
 tz_room_store_refusal_keeps {c} ran l =
     let e = returned_kept (store_table _ _ _ _ _ _ _ _ _) (λ k. flat_stored k c.foot c.room) (λ (z : FlatStored). z.number) refl (λ k. refl) (tz_store_ends ran) l in (
       ap (λ (z : FlatStored). z.map) e,
@@ -134,7 +133,7 @@ tz_room_draw_determined x y same =
     (ap (λ (z : FlatDrawn). z.number) e, ap (λ (z : FlatDrawn). z.out) e)
 
 pub tz_room_draw_refusal_keeps : {c : TzShowCall} → TzShows c → 0 < c.number → c.out' ≡ c.out
-unfolding flat_drawn drawn_says
+unfolding flat_drawn
 tz_room_draw_refusal_keeps {c} ran l =
     ap (λ (z : FlatDrawn). z.out) (returned_kept (show_table _ _ _ _ _ _ _ _ _) flat_drawn (λ (z : FlatDrawn). z.number) refl (λ k. refl) (tz_show_ends ran) l)
 
@@ -147,7 +146,7 @@ tz_room_drop_determined x y same =
     (ap (λ (z : FlatDropped). z.number) e, ap (λ (z : FlatDropped). z.map) e, ap (λ (z : FlatDropped). z.room) e)
 
 pub tz_room_drop_refusal_keeps : {c : TzDropCall} → TzDrops c → 0 < c.number → (c.map' ≡ c.map) × (c.room' ≡ c.room)
-unfolding flat_dropped dropped_says dropped_of
+unfolding flat_dropped dropped_of
 tz_room_drop_refusal_keeps {c} ran l =
     let e = returned_kept (drop_table _ _ _) (λ k. flat_dropped k c.room) (λ (z : FlatDropped). z.number) refl (λ k. refl) (tz_drop_ends ran) l in
     (ap (λ (z : FlatDropped). z.map) e, ap (λ (z : FlatDropped). z.room) e)

@@ -14,7 +14,7 @@ use Rattle.film_sets.specs.declared.Room.{Room}
 use Rattle.film_sets.specs.Sets.{held, span_of, twice, before, with_set_of, without_set_of, moved_down}
 use Rattle.film_sets.proofs.Laid.{none}
 use Rattle.film_sets.proofs.Holds.{held_none, twice_nil}
-use Rattle.film_room.specs.Room.{store_rows, stored_says, stored_of, store_of, drop_rows, dropped_says, dropped_of, drop_of}
+use Rattle.film_room.specs.Room.{store_rows, stored_of, store_of, drop_rows, dropped_of, drop_of}
 use Rattle.promise_room.specs.Films.{StoredFilm, film_set, without}
 use Rattle.promise_room.proofs.Kept.{Kept, stores_of, store_kept, drop_kept}
 use Rattle.c_flat.specs.Films.{Foot}
@@ -57,7 +57,7 @@ count_from cells = refl
 -- what tz_room_store leaves of a room that holds these films
 store_left : (cells : RoomCells) {m : List ℕ} {fs : List StoredFilm} → Kept (room_from_of cells) m fs → (f : StoredFilm) (t ls : List ℕ) (foot : Foot)
     → Kept (room_from_of (flat_stored (stores_of (room_from_of cells) f m t ls) foot cells).room) (flat_stored (stores_of (room_from_of cells) f m t ls) foot cells).map (stored_by (flat_stored (stores_of (room_from_of cells) f m t ls) foot cells).number f fs)
-unfolding flat_stored stored_says store_of stored_of
+unfolding flat_stored store_of stored_of
 store_left cells {m} {fs} kept f t ls foot =
     go (first (store_rows (room_from_of cells) f.number f.width f.height f.pixels f.settings (length m) (length t) (length ls))) refl
   where
@@ -76,7 +76,7 @@ store_left cells {m} {fs} kept f t ls foot =
 -- and tz_room_drop
 drop_left : (cells : RoomCells) {m : List ℕ} {fs : List StoredFilm} → Kept (room_from_of cells) m fs → (n : ℕ)
     → Kept (room_from_of (flat_dropped (drop_of (room_from_of cells) n m) cells).room) (flat_dropped (drop_of (room_from_of cells) n m) cells).map (dropped_by (flat_dropped (drop_of (room_from_of cells) n m) cells).number n fs)
-unfolding flat_dropped dropped_says drop_of dropped_of
+unfolding flat_dropped drop_of dropped_of
 drop_left cells {m} {fs} kept n = go (first (drop_rows (room_from_of cells) n (length m))) refl
   where
     go : (k : ℕ) → first (drop_rows (room_from_of cells) n (length m)) ≡ k

@@ -14,12 +14,12 @@ use Rattle.film_settings.specs.declared.Footer.{Footer}
 use Rattle.film_settings.specs.declared.Settings.{Settings}
 use Rattle.film_settings.specs.Settings.{record_of, clip_one_of}
 use Rattle.film_tiles.specs.Tiles.{foot_of}
-use Rattle.film_prepare.specs.Prepare.{prepared_says, PrepareOut, prepare_of}
-use Rattle.film_count.specs.Counting.{countings, count_rows, counted_says, CountOut, count_of, AlikeButClip}
+use Rattle.film_prepare.specs.Prepare.{PrepareOut, prepare_of}
+use Rattle.film_count.specs.Counting.{countings, count_rows, CountOut, count_of, AlikeButClip}
 use Rattle.film_count.proofs.Like.{rows_alike, countings_alike}
 use Rattle.film_map.specs.Counts.{map_rows_of, map_of}
 use Rattle.film_map.proofs.Mapped.{mapped_as_prepared}
-use Rattle.film_draw.specs.Draw.{draw_rows, drawn_says, DrawOut, draw_of}
+use Rattle.film_draw.specs.Draw.{draw_rows, DrawOut, draw_of}
 use Rattle.film_draw.proofs.Tables.{draw_ready}
 use Rattle.byte_prepare.specs.Bytes.{byte_prepare_rows, byte_prepare_of}
 use Rattle.byte_draw.specs.Bytes.{byte_draw_rows, byte_draw_of}
@@ -53,9 +53,9 @@ returned_said n v e = ap returned e ∙ returned_says n v
 
 -- a call that hands out a record and a footer returned 0
 module _ {number : ℕ} {map scratch list : List ℕ} {cells : Cells} (ended : PrepareOut) (old : Cells) (n : ℕ) (r : MapRecord) (foot : Footer)
-    (ends : prepared_as number map scratch list cells ≡ flat_prepared ended old) (told : prepared_says ended.answer ≡ says n (r, foot)) (free : number ≡ 0) where
+    (ends : prepared_as number map scratch list cells ≡ flat_prepared ended old) (told : ended.answer ≡ says n (r, foot)) (free : number ≡ 0) where
   -- so the call beneath accepted the film
-  flat_done : prepared_says ended.answer ≡ accepted (r, foot)
+  flat_done : ended.answer ≡ accepted (r, foot)
   unfolding flat_prepared
   flat_done =
       told
@@ -79,7 +79,7 @@ module _ {number : ℕ} {map scratch list : List ℕ} {cells : Cells} (ended : P
       → Made film w h pic s (record_from_of cells.numbers cells.factor cells.axes) foot map
   flat_made {film} {w} {h} {pic} {s} m t l wide =
       subst (λ q. Made film w h pic s q foot map) (sym flat_record)
-      (record { map = m; scratch = t; list = l; accepts = sym (ap (λ (z : PrepareOut). prepared_says z.answer) wide) ∙ flat_done; leaves = flat_map ∙ ap (λ (z : PrepareOut). z.map) wide })
+      (record { map = m; scratch = t; list = l; accepts = sym (ap (λ (z : PrepareOut). z.answer) wide) ∙ flat_done; leaves = flat_map ∙ ap (λ (z : PrepareOut). z.map) wide })
 
 -- the record that a call to draw is handed, from its numbers, its factor and its arrays
 abbrev pub tz_record : TzDrawCall → MapRecord
@@ -117,7 +117,7 @@ module _ {film w h : ℕ} {pic : List ℕ} {s : Settings} {foot : Footer} {left 
   drawn : Shown (as_draw d)
   drawn = record { ends = refl }
 
-  accepts : drawn_says (tz_shows d).answer ≡ accepted tt
+  accepts : (tz_shows d).answer ≡ accepted tt
   accepts = handed_done made drawn handed
 
   -- refuses nothing
@@ -142,12 +142,12 @@ module _ {film w h : ℕ} {pic : List ℕ} {s : Settings} {foot : Footer} {left 
 -- ---- prepared, then drawn, on bytes
 
 module _ {p : TzPrepareCall} (ran : TzPreparesBytes p) (prepared : p.number ≡ 0) where
-  pub bytes_said : prepared_says (byte_prepare_of p.film p.width p.height p.pixels p.settings p.map p.scratch p.list).answer
+  pub bytes_said : (byte_prepare_of p.film p.width p.height p.pixels p.settings p.map p.scratch p.list).answer
       ≡ says (first (byte_prepare_rows p.width p.height p.pixels p.settings (length p.map) (length p.scratch) (length p.list)))
       (record_of p.film p.width p.height p.settings, foot_of p.width p.height p.settings)
   bytes_said = table_says (prepare_bytes_table p.film p.width p.height p.pixels p.settings p.map p.scratch p.list)
 
-  pub told : prepared_says (byte_prepare_of p.film p.width p.height p.pixels p.settings p.map p.scratch p.list).answer
+  pub told : (byte_prepare_of p.film p.width p.height p.pixels p.settings p.map p.scratch p.list).answer
       ≡ accepted (record_of p.film p.width p.height p.settings, foot_of p.width p.height p.settings)
   told = flat_done _ _ (first (byte_prepare_rows p.width p.height p.pixels p.settings (length p.map) (length p.scratch) (length p.list))) (record_of p.film p.width p.height p.settings) (foot_of p.width p.height p.settings) (tz_prepare_bytes_ends ran) bytes_said prepared
 
@@ -201,17 +201,17 @@ bytes_number {d} ran free =
     shows : DrawOut
     shows = byte_draw_of d.film d.width d.height d.pixels d.settings (tz_record d) d.window d.map d.out
 
-    said : drawn_says shows.answer ≡ says (first (byte_draw_rows d.film d.width d.height d.pixels d.settings (tz_record d) d.window d.map (length d.out))) tt
+    said : shows.answer ≡ says (first (byte_draw_rows d.film d.width d.height d.pixels d.settings (tz_record d) d.window d.map (length d.out))) tt
     said = table_says (draw_bytes_table d.film d.width d.height d.pixels d.settings (tz_record d) d.window d.map d.out)
 
-    accepted_bytes : drawn_says shows.answer ≡ accepted tt
+    accepted_bytes : shows.answer ≡ accepted tt
     accepted_bytes =
         said
         ∙ ap (λ k. says k tt) (sym (returned_said (first (byte_draw_rows d.film d.width d.height d.pixels d.settings (tz_record d) d.window d.map (length d.out))) _ said) ∙ sym (ap (λ (z : FlatDrawn). z.number) (tz_draw_bytes_ends ran)) ∙ free)
 
-    accepted_wide : drawn_says (tz_shows d).answer ≡ accepted tt
+    accepted_wide : (tz_shows d).answer ≡ accepted tt
     accepted_wide =
-        sym (ap (λ (z : DrawOut). drawn_says z.answer) (draw_bytes_wide d.film d.width d.height d.pixels d.settings (tz_record d) d.window d.map d.out accepted_bytes))
+        sym (ap (λ (z : DrawOut). z.answer) (draw_bytes_wide d.film d.width d.height d.pixels d.settings (tz_record d) d.window d.map d.out accepted_bytes))
         ∙ accepted_bytes
 
 -- a number that is 0 or above
@@ -234,7 +234,7 @@ pub record TzMappedFrom (c : TzCountCall) (m : TzMapCall) : Type 0 where
 
 module _ {c : TzCountCall} {m : TzMapCall} (from : TzMappedFrom c m) where
   -- counting accepted the film
-  count_said : counted_says (count_of c.width c.height c.pixels c.settings c.counts).answer
+  count_said : (count_of c.width c.height c.pixels c.settings c.counts).answer
       ≡ says (first (count_rows c.width c.height c.pixels c.settings (length c.counts))) tt
   count_said = table_says (count_table c.width c.height c.pixels c.settings c.counts)
 
@@ -268,7 +268,7 @@ module _ {c : TzCountCall} {m : TzMapCall} (from : TzMappedFrom c m) where
       (ap first (sym (rows_alike m.width m.height c.pixels from.like (length c.counts))) ∙ rw (← from.width, ← from.height) count_free)
       m.film m.map m.scratch m.list
 
-  pub map_said : prepared_says (map_of m.film m.width m.height m.settings m.counts m.map m.scratch m.list).answer
+  pub map_said : (map_of m.film m.width m.height m.settings m.counts m.map m.scratch m.list).answer
       ≡ says (first (map_rows_of m.width m.height m.settings m.counts (length m.map) (length m.scratch) (length m.list)))
       (record_of m.film m.width m.height m.settings, foot_of m.width m.height m.settings)
   map_said = table_says (map_table m.film m.width m.height m.settings m.counts m.map m.scratch m.list)
@@ -305,12 +305,12 @@ wide_number {d} ran free =
     (draw_ready d.film d.width d.height d.pixels d.settings (tz_record d) d.window d.map (length d.out)
     (sym (returned_said (first (draw_rows d.film d.width d.height d.pixels d.settings (tz_record d) d.window d.map (length d.out))) _ said) ∙ sym (ap (λ (z : FlatDrawn). z.number) (tz_draw_ends ran)) ∙ free)).held.number
   where
-    said : drawn_says (tz_shows d).answer ≡ says (first (draw_rows d.film d.width d.height d.pixels d.settings (tz_record d) d.window d.map (length d.out))) tt
+    said : (tz_shows d).answer ≡ says (first (draw_rows d.film d.width d.height d.pixels d.settings (tz_record d) d.window d.map (length d.out))) tt
     said = table_says (draw_table d.film d.width d.height d.pixels d.settings (tz_record d) d.window d.map d.out)
 
 -- what tz_map left, of whatever counts
 module _ {m : TzMapCall} (ran : TzMaps m) (mapped : m.number ≡ 0) where
-  told_by_map : prepared_says (map_of m.film m.width m.height m.settings m.counts m.map m.scratch m.list).answer
+  told_by_map : (map_of m.film m.width m.height m.settings m.counts m.map m.scratch m.list).answer
       ≡ says (first (map_rows_of m.width m.height m.settings m.counts (length m.map) (length m.scratch) (length m.list)))
       (record_of m.film m.width m.height m.settings, foot_of m.width m.height m.settings)
   told_by_map = table_says (map_table m.film m.width m.height m.settings m.counts m.map m.scratch m.list)

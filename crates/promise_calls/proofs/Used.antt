@@ -26,7 +26,6 @@ use Rattle.film_settings.specs.Settings.{bins_of, clip_bad_of}
 use Rattle.film_tiles.specs.Tiles.{pixels_in, one, FilmFooterAsks}
 use Rattle.film_tiles.proofs.Tiles.{tiles_least, tile_pixels_some, tile_pixels_most}
 use Rattle.film_tiles.proofs.Footers.{film_asks}
-use Rattle.film_prepare.specs.Prepare.{enhanced_says}
 use Rattle.promise_films.specs.Films.{ClippingOn, FooterShows}
 use Rattle.promise_films.proofs.Ended.{Rendered}
 use Rattle.promise_films.proofs.Runs.{EnhanceCall}
@@ -91,5 +90,5 @@ pub made_used : {film w h : ℕ} {pic : List ℕ} {s : Settings} {r : MapRecord}
     → NotBelowOne foot.used
 made_used made on = film_used (made_asks made) (made_footer made) on
 
-pub whole_used : (e : EnhanceCall) {foot : Footer} {f : Float} → Rendered e → enhanced_says e.answer ≡ accepted foot → ClippingOn e.settings.clip f → NotBelowOne foot.used
+pub whole_used : (e : EnhanceCall) {foot : Footer} {f : Float} → Rendered e → e.answer ≡ accepted foot → ClippingOn e.settings.clip f → NotBelowOne foot.used
 whole_used e ends done on = film_used (film_asks (whole_work e ends done).ready) (whole_footer e ends done) on

@@ -20,7 +20,6 @@ use Rattle.film_settings.specs.Settings.{bins_of, clip_one_of}
 use Rattle.film_tiles.specs.Tiles.{tile_of, Work, TilesReady}
 use Rattle.film_tiles.proofs.Tiles.{length_tile_greys, tile_pixels_some}
 use Rattle.film_tiles.proofs.Films.{tile_holds, tile_greys}
-use Rattle.film_prepare.specs.Prepare.{enhanced_says}
 use Rattle.promise_films.specs.Films.{clipped_counts, divides_in}
 use Rattle.promise_films.proofs.Accepted.{prepare_work}
 use Rattle.promise_films.proofs.Ended.{Rendered}
@@ -59,5 +58,5 @@ film_whites {w} {h} {pic} {s} {room} {scratch} work one m own =
 pub made_whites : {film w h : ℕ} {pic : List ℕ} {s : Settings} {r : MapRecord} {foot : Footer} {left : List ℕ} → Made film w h pic s r foot left → clip_one_of s.clip ≡ false → WhitesReach s left
 made_whites {film} {w} {h} {pic} {s} made one = film_whites (prepare_work film w h pic s _ _ _ made.accepts) one _ (made_by_rule made one)
 
-pub whole_whites : (e : EnhanceCall) {foot : Footer} → Rendered e → enhanced_says e.answer ≡ accepted foot → clip_one_of e.settings.clip ≡ false → WhitesReach e.settings e.map'
+pub whole_whites : (e : EnhanceCall) {foot : Footer} → Rendered e → e.answer ≡ accepted foot → clip_one_of e.settings.clip ≡ false → WhitesReach e.settings e.map'
 whole_whites e ends done one = film_whites (whole_work e ends done) one e.map' (whole_mapped_by_rule e ends done one)

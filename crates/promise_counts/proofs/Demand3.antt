@@ -13,12 +13,10 @@ use Rattle.film_settings.specs.declared.MapRecord.{MapRecord}
 use Rattle.film_settings.specs.declared.Footer.{Footer}
 use Rattle.film_settings.specs.Settings.{bins_of}
 use Rattle.film_tiles.specs.Tiles.{pixels_in}
-use Rattle.film_prepare.specs.Prepare.{prepared_says}
 use Rattle.promise_films.specs.Films.{ClippingOn, FooterShows, FilmSound, limit_in, LimitFits}
 use Rattle.promise_films.proofs.Sound.{foot_shows, tiled_limit_fits}
 use Rattle.promise_counts.proofs.Runs.{MapCall, Maps, CountCall, Counts}
 use Rattle.promise_counts.proofs.Ways.{CountedAs}
-use Rattle.film_count.specs.Counting.{counted_says}
 use Rattle.promise_films.proofs.Accepted.{says_refused}
 use Rattle.promise_counts.proofs.Order5.{count_says, map_says}
 use Rattle.promise_counts.proofs.Tables.{count_rows_never_14, map_rows_never_14, map_told, mapped_asks}
@@ -28,7 +26,7 @@ use Rattle.promise_films.proofs.Made.{made_footer, made_tiles_sound}
 -- ---- of counts that counting left
 
 module _ {pic : List ℕ} {d : MapCall} {r : MapRecord} {foot : Footer} (by : CountedAs d.width d.height pic d.settings d.counts) (ran : Maps d)
-    (mapped : prepared_says d.answer ≡ accepted (r, foot)) where
+    (mapped : d.answer ≡ accepted (r, foot)) where
   -- what the footer shows, by the clip setting
   pub mapped_footer : FooterShows d.settings.clip (pixels_in d.width d.height d.settings 0) (bins_of d.settings) foot
   mapped_footer = made_footer (counted_made by ran mapped)
@@ -39,7 +37,7 @@ module _ {pic : List ℕ} {d : MapCall} {r : MapRecord} {foot : Footer} (by : Co
 
 -- ---- of any counts
 
-module _ {d : MapCall} {r : MapRecord} {foot : Footer} (ran : Maps d) (mapped : prepared_says d.answer ≡ accepted (r, foot)) where
+module _ {d : MapCall} {r : MapRecord} {foot : Footer} (ran : Maps d) (mapped : d.answer ≡ accepted (r, foot)) where
   -- what the footer shows, by the clip setting
   pub mapped_footer_any : FooterShows d.settings.clip (pixels_in d.width d.height d.settings 0) (bins_of d.settings) foot
   mapped_footer_any = subst (FooterShows d.settings.clip (pixels_in d.width d.height d.settings 0) (bins_of d.settings)) (map_told ran mapped).2 (foot_shows (mapped_asks ran mapped))
@@ -52,9 +50,9 @@ module _ {d : MapCall} {r : MapRecord} {foot : Footer} (ran : Maps d) (mapped : 
 -- ---- the clip refusal
 
 -- order 2: "a clip refusal never occurs"
-pub count_never_14 : {c : CountCall} → Counts c → counted_says c.answer ≢ refused 14
+pub count_never_14 : {c : CountCall} → Counts c → c.answer ≢ refused 14
 count_never_14 {c} ran q = count_rows_never_14 c.width c.height c.pixels c.settings (length c.counts) (says_refused _ _ (sym (count_says ran) ∙ q))
 
 -- nor by mapping
-pub map_never_14 : {d : MapCall} → Maps d → prepared_says d.answer ≢ refused 14
+pub map_never_14 : {d : MapCall} → Maps d → d.answer ≢ refused 14
 map_never_14 {d} ran q = map_rows_never_14 d.width d.height d.settings d.counts (length d.map) (length d.scratch) (length d.list) (says_refused _ _ (sym (map_says ran) ∙ q))

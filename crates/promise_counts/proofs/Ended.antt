@@ -8,8 +8,8 @@ use lib.ListN.{length}
 use Rattle.base_lists.specs.Lists.{onto}
 use Rattle.base_rows.specs.Refuse.{first, accepted}
 use Rattle.film_settings.specs.declared.Settings.{Settings}
-use Rattle.film_prepare.specs.Prepare.{prepared_says, PrepareOut, prepare_leaves, prepare_of}
-use Rattle.film_count.specs.Counting.{countings, count_rows, counted_says}
+use Rattle.film_prepare.specs.Prepare.{PrepareOut, prepare_leaves, prepare_of}
+use Rattle.film_count.specs.Counting.{countings, count_rows}
 use Rattle.film_map.specs.Counts.{map_of}
 use Rattle.film_map.proofs.Mapped.{mapped_as_prepared, prepared_counts}
 use Rattle.film_count.proofs.Like.{rows_alike, countings_alike, clipping_alike}
@@ -46,8 +46,8 @@ module _ {pic : List ℕ} {d : MapCall} (by : CountedAs d.width d.height pic d.s
   mapped_ends = map_ends ran ∙ counted_maps by d.film d.map d.scratch d.list
 
   -- and says what prepare says of it
-  pub mapped_says : prepared_says (prepare_of d.film d.width d.height pic d.settings d.map d.scratch d.list).answer ≡ prepared_says d.answer
-  mapped_says = sym (ap (λ (z : PrepareOut). prepared_says z.answer) mapped_ends)
+  pub mapped_says : (prepare_of d.film d.width d.height pic d.settings d.map d.scratch d.list).answer ≡ d.answer
+  mapped_says = sym (ap (λ (z : PrepareOut). z.answer) mapped_ends)
 
 -- the call to prepare that it stands for, of the film that was counted
 abbrev pub as_prepare : List ℕ → MapCall → PrepareCall
@@ -56,14 +56,14 @@ as_prepare pic d =
 
 -- so what mapping left is what prepare's outcome gives for the film
 pub counted_made : {pic : List ℕ} {d : MapCall} {r : MapRecord} {foot : Footer} → CountedAs d.width d.height pic d.settings d.counts → Maps d
-    → prepared_says d.answer ≡ accepted (r, foot) → Made d.film d.width d.height pic d.settings r foot d.map'
+    → d.answer ≡ accepted (r, foot) → Made d.film d.width d.height pic d.settings r foot d.map'
 counted_made {pic} {d} by ran mapped = ended_made (as_prepare pic d) (mapped_ends by ran) mapped
 
 -- ---- wherever prepare accepts the film and 33 is not met
 
 -- counting accepts it too
-pub count_accepts : {p : PrepareCall} {r : MapRecord} {foot : Footer} → Prepares p → prepared_says p.answer ≡ accepted (r, foot) → {c : CountCall} → CountsFilm p c
-    → counted_says c.answer ≡ accepted tt
+pub count_accepts : {p : PrepareCall} {r : MapRecord} {foot : Footer} → Prepares p → p.answer ≡ accepted (r, foot) → {c : CountCall} → CountsFilm p c
+    → c.answer ≡ accepted tt
 count_accepts {p} prepares prepared {c} of =
     let free : first (count_rows p.width p.height p.pixels p.settings (length c.counts)) ≡ 0 =
     prepared_counts p.width p.height p.pixels p.settings (length p.map) (length p.scratch) (length p.list) (length c.counts)
@@ -72,7 +72,7 @@ count_accepts {p} prepares prepared {c} of =
     ∙ rw (of.width, of.height, of.pixels, rows_alike p.width p.height p.pixels of.like (length c.counts), free) refl
 
 -- and left its counts
-pub counted_as_lem : {p : PrepareCall} {r : MapRecord} {foot : Footer} → Prepares p → prepared_says p.answer ≡ accepted (r, foot) → {c : CountCall} → CountsFilm p c
+pub counted_as_lem : {p : PrepareCall} {r : MapRecord} {foot : Footer} → Prepares p → p.answer ≡ accepted (r, foot) → {c : CountCall} → CountsFilm p c
     → CountedAs p.width p.height p.pixels p.settings c.counts'
 counted_as_lem prepares prepared {c} of =
     record { call = c; ran = of.counts; done = count_accepts prepares prepared of; width = of.width; height = of.height; pixels = of.pixels; like = of.like; left = refl }

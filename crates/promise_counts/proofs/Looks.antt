@@ -11,7 +11,7 @@ use Rattle.film_settings.specs.declared.MapRecord.{MapRecord}
 use Rattle.film_settings.specs.declared.Footer.{Footer}
 use Rattle.film_settings.specs.Settings.{clip_one_of, bins_of}
 use Rattle.film_tiles.specs.Tiles.{spent_entries}
-use Rattle.film_prepare.specs.Prepare.{prepared_says, PrepareOut}
+use Rattle.film_prepare.specs.Prepare.{PrepareOut}
 use Rattle.film_count.specs.Counting.{counts_in}
 use Rattle.film_map.specs.Counts.{spent_from, spents_from, map_done_of}
 use Rattle.film_map.proofs.Tiles.{length_counts_in}
@@ -23,13 +23,13 @@ use Rattle.promise_counts.proofs.Tables.{map_table, map_known}
 
 -- ---- of any counts, whoever wrote them
 
-module _ {d : MapCall} {r : MapRecord} {foot : Footer} (ran : Maps d) (mapped : prepared_says d.answer ≡ accepted (r, foot)) where
+module _ {d : MapCall} {r : MapRecord} {foot : Footer} (ran : Maps d) (mapped : d.answer ≡ accepted (r, foot)) where
   -- at the factor 1.0 the list stays; else the tiles' entries lie in its front
   pub left_list : d.list' ≡ cond (clip_one_of d.settings.clip) d.list (onto d.list (spents_from d.width d.height d.settings d.counts))
   unfolding map_done_of
   left_list =
       let x = map_ends ran in
-      ap (λ (y : PrepareOut). y.list) (x ∙ table_done (map_table _ _ _ _ _ _ _ _) (sym (ap (λ (y : PrepareOut). prepared_says y.answer) x) ∙ mapped))
+      ap (λ (y : PrepareOut). y.list) (x ∙ table_done (map_table _ _ _ _ _ _ _ _) (sym (ap (λ (y : PrepareOut). y.answer) x) ∙ mapped))
 
   -- where the factor is not 1.0, the entries of tile k are those of its counts
   pub entries_by : clip_one_of d.settings.clip ≡ false → (k : ℕ) → k < d.settings.across * d.settings.down

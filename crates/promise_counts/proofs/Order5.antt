@@ -13,8 +13,8 @@ use Rattle.base_lists.proofs.Fills.{take_onto, drop_onto}
 use Rattle.base_rows.specs.Refuse.{first, refused, accepted, says}
 use Rattle.film_settings.specs.Settings.{entries_of, record_of, clip_one_of, bins_of}
 use Rattle.film_tiles.specs.Tiles.{foot_of}
-use Rattle.film_prepare.specs.Prepare.{prepared_says, PrepareOut, enhanced_says}
-use Rattle.film_count.specs.Counting.{raw_counts, countings, counts_in, count_rows, counted_says, CountOut, count_leaves, count_of, AlikeButClip}
+use Rattle.film_prepare.specs.Prepare.{PrepareOut}
+use Rattle.film_count.specs.Counting.{raw_counts, countings, counts_in, count_rows, CountOut, count_leaves, count_of, AlikeButClip}
 use Rattle.film_map.specs.Counts.{map_rows_of, map_of}
 use Rattle.film_count.proofs.Tables.{count_never_10}
 use Rattle.film_count.proofs.Tiles.{length_countings, own_counts}
@@ -31,7 +31,6 @@ use Rattle.promise_counts.proofs.Ended.{counted_maps, counted_as_lem, counted_ma
 use Rattle.tile_map.specs.Tile.{mapped_of}
 use Rattle.promise_films.specs.Films.{clipped_counts, divides_in}
 use Rattle.film_settings.proofs.Records.{record_film}
-use Rattle.film_draw.specs.Draw.{drawn_says}
 use Rattle.pixel_rule.specs.Rule.{rule_grey}
 use Rattle.promise_films.proofs.Ways.{Refuses, drawn_grey}
 use Rattle.promise_films.proofs.Demand2.{draw_other_film_refused}
@@ -42,16 +41,16 @@ use Rattle.promise_films.proofs.Alike.{prepare_memory, prepare_parts, same_ends}
 -- ---- what is said
 
 -- counting: done, or the number of the first row that applies
-pub count_says : {c : CountCall} → Counts c → counted_says c.answer ≡ says (first (count_rows c.width c.height c.pixels c.settings (length c.counts))) tt
+pub count_says : {c : CountCall} → Counts c → c.answer ≡ says (first (count_rows c.width c.height c.pixels c.settings (length c.counts))) tt
 count_says ran = ended_says (count_table _ _ _ _ _) (count_ends ran)
 
 -- counting never looks at the clip: a factor that mapping refuses is counted all the same
-pub count_says_no_10 : {c : CountCall} → Counts c → counted_says c.answer ≢ refused 10
+pub count_says_no_10 : {c : CountCall} → Counts c → c.answer ≢ refused 10
 count_says_no_10 {c} ran q = count_never_10 c.width c.height c.pixels c.settings (length c.counts) (says_refused _ _ (sym (count_says ran) ∙ q))
 
 -- mapping: prepare's record and footer, or the number
 pub map_says : {d : MapCall} → Maps d
-    → prepared_says d.answer
+    → d.answer
     ≡ says (first (map_rows_of d.width d.height d.settings d.counts (length d.map) (length d.scratch) (length d.list)))
     (record_of d.film d.width d.height d.settings, foot_of d.width d.height d.settings)
 map_says ran = ended_says (map_table _ _ _ _ _ _ _ _) (map_ends ran)
@@ -59,11 +58,11 @@ map_says ran = ended_says (map_table _ _ _ _ _ _ _ _) (map_ends ran)
 -- ---- a refusal keeps lent memory
 
 -- after a refusal the counts hold what they held
-pub count_refusal_keeps : {c : CountCall} (n : ℕ) → Counts c → counted_says c.answer ≡ refused n → c.counts' ≡ c.counts
+pub count_refusal_keeps : {c : CountCall} (n : ℕ) → Counts c → c.answer ≡ refused n → c.counts' ≡ c.counts
 count_refusal_keeps n ran q = ap (λ (y : CountOut). y.counts) (ended_kept (count_table _ _ _ _ _) (count_ends ran) q)
 
 -- and so do mapping's map buffer, scratch and list
-pub map_refusal_keeps : {d : MapCall} (n : ℕ) → Maps d → prepared_says d.answer ≡ refused n → (d.map' ≡ d.map) × (d.scratch' ≡ d.scratch) × (d.list' ≡ d.list)
+pub map_refusal_keeps : {d : MapCall} (n : ℕ) → Maps d → d.answer ≡ refused n → (d.map' ≡ d.map) × (d.scratch' ≡ d.scratch) × (d.list' ≡ d.list)
 map_refusal_keeps n ran q = prepare_memory (ended_kept (map_table _ _ _ _ _ _ _ _) (map_ends ran) q)
 
 -- ---- any two outcomes are equal
@@ -94,7 +93,7 @@ map_determined x y same = prepare_parts (same_ends (λ g. map_of g.0 g.1 g.2 g.3
 
 -- ---- "fills only the front of a lent buffer with each tile's raw counts in the mappings' order"
 
-module _ {c : CountCall} (ran : Counts c) (done : counted_says c.answer ≡ accepted tt) where
+module _ {c : CountCall} (ran : Counts c) (done : c.answer ≡ accepted tt) where
   -- what counting left
   pub counts_left : c.counts' ≡ onto c.counts (countings c.width c.height c.pixels c.settings)
   counts_left = counted_left ran done
@@ -122,15 +121,15 @@ mapped_as_prepare {p} {cs} {d} prepares by same =
     ∙ rw (same.film, same.width, same.height, same.settings, same.counts, same.map, same.scratch, same.list) (counted_maps by p.film p.map p.scratch p.list)
     ∙ sym (prepare_ends prepares))
 
-module _ {p : PrepareCall} {r : MapRecord} {foot : Footer} (prepares : Prepares p) (prepared : prepared_says p.answer ≡ accepted (r, foot)) {c : CountCall} (of : CountsFilm p c) where
+module _ {p : PrepareCall} {r : MapRecord} {foot : Footer} (prepares : Prepares p) (prepared : p.answer ≡ accepted (r, foot)) {c : CountCall} (of : CountsFilm p c) where
   -- counting accepts it
-  pub counted_done : counted_says c.answer ≡ accepted tt
+  pub counted_done : c.answer ≡ accepted tt
   counted_done = count_accepts prepares prepared of
 
   -- and mapping what it left gives prepare's record and footer, map buffer, scratch and list
   pub counted_then_mapped : {d : MapCall} → MappedAs p c.counts' d
-      → (prepared_says d.answer ≡ accepted (r, foot)) × (d.map' ≡ p.map') × (d.scratch' ≡ p.scratch') × (d.list' ≡ p.list')
-  counted_then_mapped same = let (answer, map, scratch, list) = mapped_as_prepare prepares (counted_as_lem prepares prepared of) same in (ap prepared_says answer ∙ prepared, map, scratch, list)
+      → (d.answer ≡ accepted (r, foot)) × (d.map' ≡ p.map') × (d.scratch' ≡ p.scratch') × (d.list' ≡ p.list')
+  counted_then_mapped same = let (answer, map, scratch, list) = mapped_as_prepare prepares (counted_as_lem prepares prepared of) same in (answer ∙ prepared, map, scratch, list)
 
 -- mapping in turn over the same counts ends, each time, as prepare in turn does
 pub in_turn : {w h : ℕ} {pic : List ℕ} {s : Settings} {cs : List ℕ} → CountedAs w h pic s cs → (film : ℕ) (fs : List Clipping) (m t n : List ℕ) (es es' : List PrepareOut)
@@ -145,7 +144,7 @@ in_turn by film (f ∷ fs) m t n (e ∷ es) (e' ∷ es') x y =
 
 -- demand 2: each tile's own mapping lies in the map buffer
 pub mapped_by_rule : {pic : List ℕ} {d : MapCall} {r : MapRecord} {foot : Footer} → CountedAs d.width d.height pic d.settings d.counts → Maps d
-    → prepared_says d.answer ≡ accepted (r, foot) → clip_one_of d.settings.clip ≡ false → (k b : ℕ) → k < d.settings.across * d.settings.down → b < bins_of d.settings
+    → d.answer ≡ accepted (r, foot) → clip_one_of d.settings.clip ≡ false → (k b : ℕ) → k < d.settings.across * d.settings.down → b < bins_of d.settings
     → get_or d.map' (k * bins_of d.settings + b) 0
     ≡ mapped_of d.settings.min d.settings.max (divides_in d.width d.height pic d.settings k) (clipped_counts d.width d.height pic d.settings k) b
 mapped_by_rule by ran mapped = made_by_rule (counted_made by ran mapped)
@@ -156,7 +155,7 @@ mapped_made from = counted_made from.counted from.maps from.mapped
 
 -- what mapping left, handed to draw with the same film, the record that mapping answered, the settings, the mappings, a window inside the film and an output of its area, is drawn
 pub mapped_drawn_done : {pic : List ℕ} {m : MapCall} {foot : Footer} {d : DrawCall} → MappedFrom pic m d.kept foot → Draws d
-    → HandedFilm m.film m.width m.height pic m.settings m.map' d → drawn_says d.answer ≡ accepted tt
+    → HandedFilm m.film m.width m.height pic m.settings m.map' d → d.answer ≡ accepted tt
 mapped_drawn_done from draws handed = handed_done (mapped_made from) (draw_shown draws) handed
 
 module _ {pic : List ℕ} {m : MapCall} {foot : Footer} {d : DrawCall} (x : DrawnFromMapping pic m foot d) where
@@ -172,12 +171,12 @@ module _ {pic : List ℕ} {m : MapCall} {foot : Footer} {d : DrawCall} (x : Draw
 
   -- and the one in the picture of enhance, which accepts the film with the same footer
   pub mapped_drawn_as_enhanced : {e : EnhanceCall} → Enhances e → EnhancesSame m.width m.height pic m.settings e
-      → (enhanced_says e.answer ≡ accepted foot)
+      → (e.answer ≡ accepted foot)
       × ((j i : ℕ) → j < d.window.height → i < d.window.width → drawn_grey d i j ≡ get_or e.pixels' ((d.window.top + j) * m.width + (d.window.left + i)) 0)
   mapped_drawn_as_enhanced ran too = shown_as_enhanced (mapped_made x.from) (draw_shown x.draws) x.drawn x.pixels x.mappings (enhance_ends ran) too
 
 -- "A window drawn with the record of a film of another number is refused.": handed the record that mapping answered, of whatever counts, and another film's number, whatever else
-pub mapped_other_film : {m : MapCall} {r : MapRecord} {foot : Footer} {d : DrawCall} → Maps m → prepared_says m.answer ≡ accepted (r, foot) → Draws d → d.kept ≡ r → d.film ≢ m.film
+pub mapped_other_film : {m : MapCall} {r : MapRecord} {foot : Footer} {d : DrawCall} → Maps m → m.answer ≡ accepted (r, foot) → Draws d → d.kept ≡ r → d.film ≢ m.film
     → Refuses d
 mapped_other_film {m} {r} {foot} {d} ran mapped draws same other =
     draw_other_film_refused draws (λ e. other (e ∙ ap (λ (z : MapRecord). z.film) (same ∙ sym (map_told ran mapped).1) ∙ record_film m.film m.width m.height m.settings))

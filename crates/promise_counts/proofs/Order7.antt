@@ -14,7 +14,7 @@ use Rattle.film_settings.specs.declared.MapRecord.{MapRecord}
 use Rattle.film_settings.specs.declared.Footer.{Footer}
 use Rattle.film_settings.specs.Settings.{clip_one_of}
 use Rattle.film_tiles.specs.Tiles.{spent_entries}
-use Rattle.film_prepare.specs.Prepare.{prepared_says, PrepareOut}
+use Rattle.film_prepare.specs.Prepare.{PrepareOut}
 use Rattle.film_count.specs.Counting.{counts_in}
 use Rattle.promise_films.specs.Films.{ClippingOn}
 use Rattle.promise_films.specs.Looks.{TilesLooks, FilmLooks, NoLooks}
@@ -28,7 +28,7 @@ use Rattle.promise_counts.proofs.Looks.{entries_by, counts_long, list_behind}
 
 -- ---- of any counts, whoever wrote them
 
-module _ {d : MapCall} {r : MapRecord} {foot : Footer} (ran : Maps d) (mapped : prepared_says d.answer ≡ accepted (r, foot)) where
+module _ {d : MapCall} {r : MapRecord} {foot : Footer} (ran : Maps d) (mapped : d.answer ≡ accepted (r, foot)) where
   -- "two entries: E, and the number of looks .. it is 0 when r is 0 and never more than r x B x (B + 1) / 2": of every tile's counts as lent, with a factor above one, in our edition
   pub mapped_looks_any : {f : Float} → ClippingOn d.settings.clip f → d.settings.edition ≡ Ours → TilesLooks d.width d.height d.settings f (counts_in d.settings d.counts) d.list'
   mapped_looks_any on ours = tiles_looks d.width d.height d.settings on ours (counts_in d.settings d.counts) d.list' (counts_long ran mapped) (entries_by ran mapped (on_not_one on))
@@ -51,7 +51,7 @@ map_one_keeps {d} ran one =
 -- ---- of counts that counting left
 
 module _ {pic : List ℕ} {d : MapCall} {r : MapRecord} {foot : Footer} (by : CountedAs d.width d.height pic d.settings d.counts) (ran : Maps d)
-    (mapped : prepared_says d.answer ≡ accepted (r, foot)) where
+    (mapped : d.answer ≡ accepted (r, foot)) where
   -- the same of the film's own raw counts
   pub mapped_looks : {f : Float} → ClippingOn d.settings.clip f → d.settings.edition ≡ Ours → FilmLooks d.width d.height pic d.settings f d.list'
   mapped_looks on ours = ended_looks (as_prepare pic d) (mapped_ends by ran) mapped on ours

@@ -9,7 +9,6 @@ use Rattle.base_rows.specs.Refuse.{accepted}
 use Rattle.tile_limit.specs.declared.Edition.TheVariants.{Of1986}
 use Rattle.film_settings.specs.declared.MapRecord.{MapRecord}
 use Rattle.film_settings.specs.declared.Footer.{Footer}
-use Rattle.film_prepare.specs.Prepare.{prepared_says}
 use Rattle.promise_films.specs.Films.{ClippingOn}
 use Rattle.promise_films.specs.Older.{FilmOlder}
 use Rattle.promise_films.proofs.Sound.{on_not_one}
@@ -25,21 +24,21 @@ use Rattle.promise_films.proofs.Made.{made_tiles_older}
 -- ---- every tile
 
 module _ {pic : List ℕ} {d : MapCall} {r : MapRecord} {foot : Footer} (by : CountedAs d.width d.height pic d.settings d.counts) (ran : Maps d)
-    (mapped : prepared_says d.answer ≡ accepted (r, foot)) where
+    (mapped : d.answer ≡ accepted (r, foot)) where
   -- and in that of 1986
   pub mapped_tiles_older : {f : Float} → ClippingOn d.settings.clip f → d.settings.edition ≡ Of1986 → FilmOlder d.width d.height pic d.settings f d.map'
   mapped_tiles_older on other = made_tiles_older (counted_made by ran mapped) on other
 
 -- ---- order 7's list
 
-module _ {d : MapCall} {r : MapRecord} {foot : Footer} (ran : Maps d) (mapped : prepared_says d.answer ≡ accepted (r, foot)) where
+module _ {d : MapCall} {r : MapRecord} {foot : Footer} (ran : Maps d) (mapped : d.answer ≡ accepted (r, foot)) where
   -- order 8, "E is what stands above C, and the looks are 0 here": in that of 1986
   pub mapped_looks_any_older : {f : Float} → ClippingOn d.settings.clip f → d.settings.edition ≡ Of1986
       → TilesOlderLooks d.width d.height d.settings f (counts_in d.settings d.counts) d.list'
   mapped_looks_any_older on other = tiles_older_looks d.width d.height d.settings on other (counts_in d.settings d.counts) d.list' (counts_long ran mapped) (entries_by ran mapped (on_not_one on))
 
 module _ {pic : List ℕ} {d : MapCall} {r : MapRecord} {foot : Footer} (by : CountedAs d.width d.height pic d.settings d.counts) (ran : Maps d)
-    (mapped : prepared_says d.answer ≡ accepted (r, foot)) where
+    (mapped : d.answer ≡ accepted (r, foot)) where
   -- and in the edition of 1986
   pub mapped_looks_older : {f : Float} → ClippingOn d.settings.clip f → d.settings.edition ≡ Of1986 → FilmOlderLooks d.width d.height pic d.settings f d.list'
   mapped_looks_older on other = ended_looks_older (as_prepare pic d) (mapped_ends by ran) mapped on other

@@ -5,12 +5,14 @@ use Prim.Native.Nat.{ℕ}
 use mathlib.Core.List.{List}
 use mathlib.Core.Path.{◌≡◌}
 use lib.ListN.{take}
+use Rattle.base_rows.specs.Given.{said}
+use Rattle.base_rows.specs.Refuse.{Says}
 use Rattle.base_rows.specs.Run.{Run, Ran}
 use Rattle.film_settings.specs.declared.Settings.{Settings}
+use Rattle.film_settings.specs.declared.MapRecord.{MapRecord}
+use Rattle.film_settings.specs.declared.Footer.{Footer}
 use Rattle.film_settings.specs.Settings.{entries_of, kept_of}
-use Rattle.film_prepare.specs.declared.Prepared.{Prepared}
-use Rattle.film_prepare.specs.Prepare.{prepare_leaves}
-use Rattle.film_count.specs.declared.Counted.{Counted}
+use Rattle.film_prepare.specs.Prepare.{prepared_says, prepare_leaves}
 use Rattle.film_count.specs.Counting.{count_leaves, count_of}
 use Rattle.film_map.specs.Counts.{map_of}
 use Rattle.film_count.proofs.count_tiles.Kinds as count
@@ -26,14 +28,14 @@ pub record CountCall : Type 0 where
   pub pixels : List ℕ
   pub settings : Settings
   pub counts : List ℕ
-  pub answer : Counted
+  pub answer : Says (Unit {0})
   pub counts' : List ℕ
 
 abbrev pub count_values : Run count.ps count.r count-reads.Post → CountCall
 count_values run =
     let (width, (height, (pixels, (settings, (counts, end))))) = run.handed in
     let (_, (_, (_, (_, (counts', end'))))) = run.left in
-    record { width = width; height = height; pixels = pixels.now; settings = settings; counts = counts.now; answer = run.answer; counts' = counts'.now }
+    record { width = width; height = height; pixels = pixels.now; settings = settings; counts = counts.now; answer = said run.answer; counts' = counts'.now }
 
 -- what it is handed
 abbrev pub count_arguments : CountCall → ℕ × ℕ × List ℕ × Settings × List ℕ
@@ -57,7 +59,7 @@ pub record MapCall : Type 0 where
   pub map : List ℕ
   pub scratch : List ℕ
   pub list : List ℕ
-  pub answer : Prepared
+  pub answer : Says (MapRecord × Footer)
   pub map' : List ℕ
   pub scratch' : List ℕ
   pub list' : List ℕ
@@ -75,7 +77,7 @@ map_values run =
       map = (map).now;
       scratch = scratch.now;
       list = list.now;
-      answer = run.answer;
+      answer = prepared_says run.answer;
       map' = map'.now;
       scratch' = scratch'.now;
       list' = list'.now;

@@ -9,13 +9,12 @@ use native.Mathlib.Omega.{arith}
 use lib.ListN.{length, take}
 use mathlib.Core.Logic.{◌≢◌}
 use Rattle.base_lists.specs.Lists.{onto, all}
-use Rattle.base_rows.specs.Refuse.{first, numbers_of, accepted}
+use Rattle.base_rows.specs.Refuse.{first, numbers_of, accepted, refused}
 use Rattle.film_settings.specs.declared.Settings.{Settings}
 use Rattle.film_settings.specs.Settings.{record_of, clip_one_of, range_rows, clip_rows, grey_rows, entries_of, kept_of, Tiled}
 use Rattle.film_tiles.specs.Tiles.{foot_of, FilmFooterAsks}
-use Rattle.film_prepare.specs.Prepare.{prepared_not, prepared_says, PrepareOut, prepare_leaves}
-use Rattle.film_count.specs.declared.Counted.TheVariants as Counted
-use Rattle.film_count.specs.Counting.{countings, count_rows, counted_says, CountOut, count_leaves, count_of}
+use Rattle.film_prepare.specs.Prepare.{PrepareOut, prepare_leaves}
+use Rattle.film_count.specs.Counting.{countings, count_rows, CountOut, count_leaves, count_of}
 use Rattle.film_map.specs.Counts.{map_rows_of, map_done_of, map_of, MapAllAsks}
 use Rattle.film_count.proofs.Endings.{count_refused, count_well}
 use Rattle.film_map.proofs.Endings.{map_refused, map_done, map_one}
@@ -34,9 +33,8 @@ use Rattle.film_map.proofs.Tables.{map_numbers, map_ready}
 
 -- counting: "1 to 9 with 31 after 9, then 33, then 13"
 pub count_table : (w h : ℕ) (pic : List ℕ) (s : Settings) (cs : List ℕ)
-    → ByTable (λ (x : CountOut). counted_says x.answer) (first (count_rows w h pic s (length cs))) tt (count_leaves Counted.Done (onto cs (countings w h pic s)))
-    (λ k. count_leaves (Counted.Refused k) cs) (count_of w h pic s cs)
-unfolding counted_says
+    → ByTable (λ (x : CountOut). x.answer) (first (count_rows w h pic s (length cs))) tt (count_leaves (accepted tt) (onto cs (countings w h pic s)))
+    (λ k. count_leaves (refused k) cs) (count_of w h pic s cs)
 count_table w h pic s cs =
     record {
       when_none = λ z. sym (count_well w h pic s cs refl z refl);
@@ -47,9 +45,9 @@ count_table w h pic s cs =
 
 -- mapping: "1, 3 to 12 with 31 after 9, then 33, then 34", and 32 "straight after 12"
 pub map_table : (film w h : ℕ) (s : Settings) (cs m t n : List ℕ)
-    → ByTable (λ (x : PrepareOut). prepared_says x.answer) (first (map_rows_of w h s cs (length m) (length t) (length n))) (record_of film w h s, foot_of w h s)
-    (map_done_of film w h s cs m t n) (λ k. prepare_leaves (prepared_not k) m t n) (map_of film w h s cs m t n)
-unfolding map_done_of prepared_says
+    → ByTable (λ (x : PrepareOut). x.answer) (first (map_rows_of w h s cs (length m) (length t) (length n))) (record_of film w h s, foot_of w h s)
+    (map_done_of film w h s cs m t n) (λ k. prepare_leaves (refused k) m t n) (map_of film w h s cs m t n)
+unfolding map_done_of
 map_table film w h s cs m t n =
     record {
       when_none = λ z. sym (map_done film w h s cs m t n refl z);
@@ -91,18 +89,18 @@ map_rows_never_14 w h s cs room scratch list =
 -- ---- what an answer tells
 
 -- counting that is done met no row, and left each tile's counts in the front
-pub counted_none : {c : CountCall} → Counts c → counted_says c.answer ≡ accepted tt → first (count_rows c.width c.height c.pixels c.settings (length c.counts)) ≡ 0
+pub counted_none : {c : CountCall} → Counts c → c.answer ≡ accepted tt → first (count_rows c.width c.height c.pixels c.settings (length c.counts)) ≡ 0
 counted_none ran done = ended_none (count_table _ _ _ _ _) (count_ends ran) done
 
-pub counted_left : {c : CountCall} → Counts c → counted_says c.answer ≡ accepted tt → c.counts' ≡ onto c.counts (countings c.width c.height c.pixels c.settings)
+pub counted_left : {c : CountCall} → Counts c → c.answer ≡ accepted tt → c.counts' ≡ onto c.counts (countings c.width c.height c.pixels c.settings)
 counted_left ran done = ap (λ (y : CountOut). y.counts) (ended_done (count_table _ _ _ _ _) (count_ends ran) done)
 
 -- of a film that is one
-pub counted_tiled : {c : CountCall} → Counts c → counted_says c.answer ≡ accepted tt → Tiled c.width c.height c.settings
+pub counted_tiled : {c : CountCall} → Counts c → c.answer ≡ accepted tt → Tiled c.width c.height c.settings
 counted_tiled {c} ran done = (count_ready c.width c.height c.pixels c.settings (length c.counts) (counted_none ran done)).tiled
 
 -- mapping that is done met no row, and answered the rules' record and footer
-pub map_told : {d : MapCall} {r : MapRecord} {foot : Footer} → Maps d → prepared_says d.answer ≡ accepted (r, foot)
+pub map_told : {d : MapCall} {r : MapRecord} {foot : Footer} → Maps d → d.answer ≡ accepted (r, foot)
     → (first (map_rows_of d.width d.height d.settings d.counts (length d.map) (length d.scratch) (length d.list)) ≡ 0)
     × (record_of d.film d.width d.height d.settings ≡ r) × (foot_of d.width d.height d.settings ≡ foot)
 map_told {d} ran mapped =
@@ -110,13 +108,13 @@ map_told {d} ran mapped =
     (e.0, ap (λ (v : MapRecord × Footer). v.0) e.1, ap (λ (v : MapRecord × Footer). v.1) e.1)
 
 -- and knows all that its rows ask
-pub map_known : {d : MapCall} {r : MapRecord} {foot : Footer} → Maps d → prepared_says d.answer ≡ accepted (r, foot)
+pub map_known : {d : MapCall} {r : MapRecord} {foot : Footer} → Maps d → d.answer ≡ accepted (r, foot)
     → MapAllAsks d.width d.height d.settings d.counts (length d.map) (length d.scratch) (length d.list)
 map_known {d} ran mapped =
     map_ready d.width d.height d.settings d.counts (length d.map) (length d.scratch) (length d.list) (map_told ran mapped).0
 
 -- sides, grid, range and bins are those of a film, and the factor is not refused
-pub mapped_asks : {d : MapCall} {r : MapRecord} {foot : Footer} → Maps d → prepared_says d.answer ≡ accepted (r, foot) → FilmFooterAsks d.width d.height d.settings
+pub mapped_asks : {d : MapCall} {r : MapRecord} {foot : Footer} → Maps d → d.answer ≡ accepted (r, foot) → FilmFooterAsks d.width d.height d.settings
 mapped_asks ran mapped = let known = (map_known ran mapped).film in record { tiled = known.tiled; fair = known.fair }
 
 -- mapping's outcome is that of what it reads

@@ -13,11 +13,10 @@ use Rattle.film_settings.specs.declared.Settings.{Settings}
 use Rattle.film_settings.specs.declared.MapRecord.{MapRecord}
 use Rattle.film_settings.specs.declared.Footer.{Footer}
 use Rattle.film_settings.specs.Settings.{entries_of, clip_one_of}
-use Rattle.film_prepare.specs.Prepare.{prepared_says, PrepareOut, prepare_leaves}
-use Rattle.film_count.specs.Counting.{counted_says, AlikeButClip, with_clipping}
+use Rattle.film_prepare.specs.Prepare.{PrepareOut, prepare_leaves}
+use Rattle.film_count.specs.Counting.{AlikeButClip, with_clipping}
 use Rattle.promise_films.proofs.Runs.{PrepareCall, Prepares, prepare_arguments, DrawCall, Draws}
 use Rattle.promise_counts.proofs.Runs.{CountCall, Counts, MapCall, Maps, map_arguments}
-use Rattle.film_draw.specs.Draw.{drawn_says}
 
 -- ---- one mapping
 
@@ -25,7 +24,7 @@ use Rattle.film_draw.specs.Draw.{drawn_says}
 pub record CountedAs (w h : ℕ) (pic : List ℕ) (s : Settings) (cs : List ℕ) : Type 0 where
   pub call : CountCall
   pub ran : Counts call
-  pub done : counted_says call.answer ≡ accepted tt
+  pub done : call.answer ≡ accepted tt
   pub width : call.width ≡ w
   pub height : call.height ≡ h
   pub pixels : call.pixels ≡ pic
@@ -90,12 +89,12 @@ InTurn Call (f ∷ fs) m t n (e ∷ es) = Call f m t n e × InTurn Call fs e.map
 pub record MappedFrom (pic : List ℕ) (m : MapCall) (r : MapRecord) (foot : Footer) : Type 0 where
   pub counted : CountedAs m.width m.height pic m.settings m.counts
   pub maps : Maps m
-  pub mapped : prepared_says m.answer ≡ accepted (r, foot)
+  pub mapped : m.answer ≡ accepted (r, foot)
 
 -- draw accepted d, handed the record that mapping answered, the film's pixels and, but at the factor 1.0, the mappings that it left, whatever else
 pub record DrawnFromMapping (pic : List ℕ) (m : MapCall) (foot : Footer) (d : DrawCall) : Type 0 where
   pub from : MappedFrom pic m d.kept foot
   pub draws : Draws d
-  pub drawn : drawn_says d.answer ≡ accepted tt
+  pub drawn : d.answer ≡ accepted tt
   pub pixels : d.pixels ≡ pic
   pub mappings : clip_one_of m.settings.clip ≡ false → take (entries_of m.settings) d.map ≡ take (entries_of m.settings) m.map'

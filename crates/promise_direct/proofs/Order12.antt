@@ -12,7 +12,7 @@ use Rattle.base_rows.specs.Refuse.{first, accepted, refused, says}
 use Rattle.film_settings.specs.declared.Footer.{Footer}
 use Rattle.film_settings.specs.Settings.{entries_of}
 use Rattle.film_tiles.specs.Tiles.{foot_of}
-use Rattle.film_prepare.specs.Prepare.{enhance_rows, enhanced_says, PaintOut}
+use Rattle.film_prepare.specs.Prepare.{enhance_rows, PaintOut}
 use Rattle.pixel_rule.specs.Rule.{shown_grey}
 use Rattle.film_direct.specs.Direct.{direct_rows, directed_of, direct_of}
 use Rattle.film_direct.proofs.Table.{direct_table_never_11, direct_table_never_32, known}
@@ -36,28 +36,28 @@ use Rattle.promise_films.proofs.Alike.{paint_memory, paint_parts, same_ends}
 
 -- it says the number of the first row that applies, and where none does the footer
 pub direct_says : {d : DirectCall} → Directs d
-    → enhanced_says d.answer ≡ says (first (direct_rows d.width d.height d.pixels d.settings (length d.scratch) (length d.target))) (foot_of d.width d.height d.settings)
+    → d.answer ≡ says (first (direct_rows d.width d.height d.pixels d.settings (length d.scratch) (length d.target))) (foot_of d.width d.height d.settings)
 direct_says ran = ended_says (direct_table _ _ _ _ _ _) (direct_ends ran)
 
 -- "11, which it never gives"
-pub direct_never_11 : {d : DirectCall} → Directs d → enhanced_says d.answer ≢ refused 11
+pub direct_never_11 : {d : DirectCall} → Directs d → d.answer ≢ refused 11
 direct_never_11 {d} ran e =
     direct_table_never_11 d.width d.height d.pixels d.settings (length d.scratch) (length d.target) (says_refused _ _ (sym (direct_says ran) ∙ e))
 
 -- nor order 7's 32, since it is lent no list
-pub direct_never_32 : {d : DirectCall} → Directs d → enhanced_says d.answer ≢ refused 32
+pub direct_never_32 : {d : DirectCall} → Directs d → d.answer ≢ refused 32
 direct_never_32 {d} ran e =
     direct_table_never_32 d.width d.height d.pixels d.settings (length d.scratch) (length d.target) (says_refused _ _ (sym (direct_says ran) ∙ e))
 
 -- "17 if the target's length is not width x height, after 12": the first of 1 to 9, 31, 10 and 12 that applies, and 17 else; all memory stays
 pub direct_seventeen : {d : DirectCall} → Directs d → (length d.target ≡ d.width * d.height → ⊥)
-    → enhanced_says d.answer ≡ refused (first (other_rows d.width d.height d.pixels d.settings (length d.scratch)))
+    → d.answer ≡ refused (first (other_rows d.width d.height d.pixels d.settings (length d.scratch)))
 direct_seventeen {d} ran other =
     let found = rows_other d.width d.height d.pixels d.settings (length d.scratch) (length d.target) other in
     direct_says ran ∙ ap (λ n. says n (foot_of d.width d.height d.settings)) found.0 ∙ (some_says _ _ found.1).1
 
 -- a refusal leaves the target and the scratch as they were
-pub direct_refusal_keeps : {d : DirectCall} (n : ℕ) → Directs d → enhanced_says d.answer ≡ refused n → (d.target' ≡ d.target) × (d.scratch' ≡ d.scratch)
+pub direct_refusal_keeps : {d : DirectCall} (n : ℕ) → Directs d → d.answer ≡ refused n → (d.target' ≡ d.target) × (d.scratch' ≡ d.scratch)
 direct_refusal_keeps n ran q = paint_memory (ended_kept (direct_table _ _ _ _ _ _) (direct_ends ran) q)
 
 -- the same arguments, the same answer and memory
@@ -65,7 +65,7 @@ pub direct_determined : {d f : DirectCall} → Directs d → Directs f → direc
 direct_determined x y same = paint_parts (same_ends (λ (g : ℕ × ℕ × List ℕ × _ × List ℕ × List ℕ). direct_of g.0 g.1 g.2 g.3 g.4 g.5) (direct_ends x) (direct_ends y) same)
 
 -- what is shown of each pixel of an accepted film: by the rule, and the film's own at the factor 1.0
-pub direct_shows : {d : DirectCall} {foot : Footer} → Directs d → enhanced_says d.answer ≡ accepted foot → (i j : ℕ) → i < d.width → j < d.height
+pub direct_shows : {d : DirectCall} {foot : Footer} → Directs d → d.answer ≡ accepted foot → (i j : ℕ) → i < d.width → j < d.height
     → directed_grey d i j ≡ shown_grey d.width d.height d.pixels d.settings i j
 unfolding directed_of
 direct_shows {d} ran done i j l k =
@@ -74,7 +74,7 @@ direct_shows {d} ran done i j l k =
 -- ---- beside enhance
 
 -- order 12, where enhance does not say 11
-pub direct_is_enhance : {d : DirectCall} {e : EnhanceCall} → Directs d → Enhances e → SameFilm d e → enhanced_says e.answer ≢ refused 11 → IsEnhance d e
+pub direct_is_enhance : {d : DirectCall} {e : EnhanceCall} → Directs d → Enhances e → SameFilm d e → e.answer ≢ refused 11 → IsEnhance d e
 direct_is_enhance {d} {e} ran over same not =
     let ends = enhance_ends over in
     let no : rows_of e ≢ 11 = λ q. not (ended_row e ends ∙ refused_says (rows_of e) _ q) in
@@ -82,7 +82,7 @@ direct_is_enhance {d} {e} ran over same not =
 
 -- and what it says where enhance says 11: what enhance's rows come to with a map buffer of just the entries that it needs
 pub direct_without_map : {d : DirectCall} → Directs d → length d.target ≡ d.width * d.height
-    → enhanced_says d.answer
+    → d.answer
     ≡ says (first (enhance_rows d.width d.height d.pixels d.settings (entries_of d.settings) (length d.scratch))) (foot_of d.width d.height d.settings)
 direct_without_map {d} ran e =
     direct_says ran
@@ -96,7 +96,7 @@ direct_any_map {d} {e} ran over same long =
     (λ q. fits_not_11 e.width e.height e.pixels e.settings (length e.map) (length e.scratch) (e.width * e.height) refl long (says_refused _ _ (sym (ended_row e (enhance_ends over)) ∙ q)))
 
 -- and of every film that the byte call accepts, which direct is handed widened
-pub direct_bytes : {d : DirectCall} {e : EnhanceCall} {foot : Footer} → Directs d → EnhancesBytes e → SameFilm d e → enhanced_says e.answer ≡ accepted foot → IsEnhance d e
+pub direct_bytes : {d : DirectCall} {e : EnhanceCall} {foot : Footer} → Directs d → EnhancesBytes e → SameFilm d e → e.answer ≡ accepted foot → IsEnhance d e
 direct_bytes {d} {e} ran over same done =
     let ends = enhance_bytes_as_wide over done in
     let no : rows_of e ≢ 11 = λ q. omega (arith, q, ended_none (enhance_table _ _ _ _ _ _) ends done) in
@@ -105,7 +105,7 @@ direct_bytes {d} {e} ran over same done =
 -- ---- how far a scratch reaches
 
 -- a pixel of what direct left of an accepted film
-pub direct_seen : {d : DirectCall} {foot : Footer} → Directs d → enhanced_says d.answer ≡ accepted foot → {i j : ℕ} → i < d.width → j < d.height
+pub direct_seen : {d : DirectCall} {foot : Footer} → Directs d → d.answer ≡ accepted foot → {i j : ℕ} → i < d.width → j < d.height
     → Seen (directs_film d) i j (directed_grey d i j)
 direct_seen {d} ran done l k =
     let none = ended_none (direct_table _ _ _ _ _ _) (direct_ends ran) done in
@@ -113,18 +113,18 @@ direct_seen {d} ran done l k =
     record { tiled = fits; column = l; row = k; shows = direct_shows ran done _ _ l k }
 
 -- two films that are alike for a pixel show the same grey there
-pub direct_local : {d d' : DirectCall} {foot foot' : Footer} → Directs d → enhanced_says d.answer ≡ accepted foot → Directs d' → enhanced_says d'.answer ≡ accepted foot'
+pub direct_local : {d d' : DirectCall} {foot foot' : Footer} → Directs d → d.answer ≡ accepted foot → Directs d' → d'.answer ≡ accepted foot'
     → (i j : ℕ) → i < d.width → j < d.height → Two (directs_film d) (directs_film d') i j → directed_grey d i j ≡ directed_grey d' i j
 direct_local ran done ran' done' i j l k two =
     seen_local (direct_seen ran done l k) (direct_seen ran' done' (rw two.twins.width l) (rw two.twins.height k)) two
 
 -- and so do the one by direct and the other by any of order 10's ways
-pub direct_rendered_local : {d : DirectCall} {foot : Footer} {f : Film} {g : ℕ} → Directs d → enhanced_says d.answer ≡ accepted foot → (i j : ℕ) → i < d.width → j < d.height
+pub direct_rendered_local : {d : DirectCall} {foot : Footer} {f : Film} {g : ℕ} → Directs d → d.answer ≡ accepted foot → (i j : ℕ) → i < d.width → j < d.height
     → Rendered f i j g → Two (directs_film d) f i j → directed_grey d i j ≡ g
 direct_rendered_local ran done i j l k other two = seen_local (direct_seen ran done l k) (rendered_seen other) two
 
 -- the films differ in the tile in column i and row j alone: the grey of every pixel beyond the neighbouring tiles' centres is the same in both
-pub direct_stays : {d d' : DirectCall} {foot foot' : Footer} → Directs d → enhanced_says d.answer ≡ accepted foot → Directs d' → enhanced_says d'.answer ≡ accepted foot'
+pub direct_stays : {d d' : DirectCall} {foot foot' : Footer} → Directs d → d.answer ≡ accepted foot → Directs d' → d'.answer ≡ accepted foot'
     → Twins (directs_film d) (directs_film d') → (i j : ℕ) → i < d.settings.across → DifferIn d.width d.height d.pixels d'.pixels (tile_in_lem (directs_film d) i j)
     → (x y : ℕ) → x < d.width → y < d.height → BeyondTile d.width d.height d.settings i j x y → directed_grey d x y ≡ directed_grey d' x y
 direct_stays {d} ran done ran' done' twins i j in-grid differ x y l k beyond =

@@ -14,7 +14,7 @@ use Rattle.base_lists.proofs.Blocks.{get_or_joined}
 use Rattle.base_rows.specs.Refuse.{first, accepted, says}
 use Rattle.film_settings.specs.declared.Footer.{Footer}
 use Rattle.film_tiles.specs.Tiles.{foot_of}
-use Rattle.film_prepare.specs.Prepare.{enhance_rows, enhanced_says, EnhanceOut, enhance_leaves, enhance_of, PaintOut}
+use Rattle.film_prepare.specs.Prepare.{enhance_rows, EnhanceOut, enhance_leaves, enhance_of, PaintOut}
 use Rattle.pixel_rule.specs.Rule.{shown_grey}
 use Rattle.film_direct.specs.Direct.{shown_film, direct_of}
 use Rattle.film_direct.proofs.Endings.{rows_whole}
@@ -46,8 +46,8 @@ abbrev pub EndedAs : EnhanceCall → Type 0
 EndedAs e = enhance_leaves e.answer e.pixels' e.map' e.scratch' ≡ enhance_of e.width e.height e.pixels e.settings e.map e.scratch
 
 -- it says the number of enhance's first row that applies, and where none does the footer
-pub ended_row : (e : EnhanceCall) → EndedAs e → enhanced_says e.answer ≡ says (rows_of e) (foot_of e.width e.height e.settings)
-ended_row e over = ap (λ (y : EnhanceOut). enhanced_says y.answer) over ∙ table_says (enhance_table _ _ _ _ _ _)
+pub ended_row : (e : EnhanceCall) → EndedAs e → e.answer ≡ says (rows_of e) (foot_of e.width e.height e.settings)
+ended_row e over = ap (λ (y : EnhanceOut). y.answer) over ∙ table_says (enhance_table _ _ _ _ _ _)
 
 module _ {d : DirectCall} {e : EnhanceCall} (ran : Directs d) (over : EndedAs e) (same : SameFilm d e) where
   -- what direct left, with enhance's film
@@ -75,7 +75,7 @@ module _ {d : DirectCall} {e : EnhanceCall} (ran : Directs d) (over : EndedAs e)
       ∙ sym (ap (λ (y : EnhanceOut). y.scratch) over)
 
   -- "its picture equal to enhance's on every accepted film"
-  pub picture_by : {foot : Footer} → enhanced_says e.answer ≡ accepted foot → ((i j : ℕ) → i < e.width → j < e.height → enhanced_grey e i j ≡ shown_grey e.width e.height e.pixels e.settings i j) → d.target' ≡ e.pixels'
+  pub picture_by : {foot : Footer} → e.answer ≡ accepted foot → ((i j : ℕ) → i < e.width → j < e.height → enhanced_grey e i j ≡ shown_grey e.width e.height e.pixels e.settings i j) → d.target' ≡ e.pixels'
   unfolding shown_film
   picture_by {foot} done shows =
       ap (λ (y : PaintOut). y.target) left
@@ -89,4 +89,4 @@ module _ {d : DirectCall} {e : EnhanceCall} (ran : Directs d) (over : EndedAs e)
       long : length e.pixels' ≡ e.width * e.height
       long =
           ap (λ (y : EnhanceOut). length y.picture) over
-          ∙ picture_length e.width e.height e.pixels e.settings e.map e.scratch (sym (ap (λ (y : EnhanceOut). enhanced_says y.answer) over) ∙ done)
+          ∙ picture_length e.width e.height e.pixels e.settings e.map e.scratch (sym (ap (λ (y : EnhanceOut). y.answer) over) ∙ done)

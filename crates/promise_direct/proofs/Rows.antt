@@ -11,7 +11,7 @@ use native.Mathlib.Omega.{arith}
 use lib.Dec.{ltb}
 use lib.ListN.{length}
 use borrow.Author.Tests.{ltb-true, ltb-false}
-use Rattle.base_rows.specs.Refuse.{Row, row, first, unless, accepted}
+use Rattle.base_rows.specs.Refuse.{Row, row, first, unless, accepted, refused}
 use Rattle.base_rows.proofs.Walk.{front, behind}
 use Rattle.film_settings.specs.declared.Settings.{Settings}
 use Rattle.film_settings.specs.declared.Footer.{Footer}
@@ -20,8 +20,7 @@ use Rattle.film_settings.proofs.Ready.{setting_numbered, shared_numbered, shared
 use Rattle.pixel_render.specs.Render.{render_of, whole}
 use Rattle.pixel_render.proofs.Laws.{length_render}
 use Rattle.film_tiles.specs.Tiles.{mappings, foot_of}
-use Rattle.film_prepare.specs.declared.Enhanced.TheVariants as Enhanced
-use Rattle.film_prepare.specs.Prepare.{work_rows, enhance_rows, enhanced_says, EnhanceOut, enhance_leaves, enhanced_of, enhance_of, PaintOut, paint_leaves}
+use Rattle.film_prepare.specs.Prepare.{work_rows, enhance_rows, EnhanceOut, enhance_leaves, enhanced_of, enhance_of, PaintOut, paint_leaves}
 use Rattle.film_prepare.proofs.Table.{over_parts}
 use Rattle.film_direct.specs.Direct.{direct_rows, shown_film, directed_of, direct_of}
 use Rattle.film_direct.proofs.Table.{direct_table_never_11, direct_table_setting, direct_table_work, direct_work_other, direct_work_over}
@@ -113,12 +112,12 @@ module _ (w h : ℕ) (pic : List ℕ) (s : Settings) (scratch target : ℕ) (oth
 -- ---- what the two leave
 
 module _ (w h : ℕ) (pic : List ℕ) (s : Settings) (o m t u : List ℕ) where
-  answer_at : (n : ℕ) → (unless n (λ k. paint_leaves (Enhanced.Refused k) o t) (directed_of w h pic s t)).answer ≡ (unless n (λ k. enhance_leaves (Enhanced.Refused k) pic m u) (enhanced_of w h pic s m u)).answer
+  answer_at : (n : ℕ) → (unless n (λ k. paint_leaves (refused k) o t) (directed_of w h pic s t)).answer ≡ (unless n (λ k. enhance_leaves (refused k) pic m u) (enhanced_of w h pic s m u)).answer
   unfolding directed_of enhanced_of
   answer_at zero = refl
   answer_at (suc n) = refl
 
-  scratch_at : (n : ℕ) → (unless n (λ k. paint_leaves (Enhanced.Refused k) o u) (directed_of w h pic s u)).scratch ≡ (unless n (λ k. enhance_leaves (Enhanced.Refused k) pic m u) (enhanced_of w h pic s m u)).scratch
+  scratch_at : (n : ℕ) → (unless n (λ k. paint_leaves (refused k) o u) (directed_of w h pic s u)).scratch ≡ (unless n (λ k. enhance_leaves (refused k) pic m u) (enhanced_of w h pic s m u)).scratch
   unfolding directed_of enhanced_of
   scratch_at zero = refl
   scratch_at (suc n) = refl
@@ -131,14 +130,14 @@ module _ (w h : ℕ) (pic : List ℕ) (s : Settings) (o m t u : List ℕ) where
     pub same_answer : (direct_of w h pic s o t).answer ≡ (enhance_of w h pic s m u).answer
     unfolding direct_of enhance_of
     same_answer =
-        ap (λ n. (unless n (λ k. paint_leaves (Enhanced.Refused k) o t) (directed_of w h pic s t)).answer) same_rows ∙ answer_at (first (enhance_rows w h pic s (length m) (length u)))
+        ap (λ n. (unless n (λ k. paint_leaves (refused k) o t) (directed_of w h pic s t)).answer) same_rows ∙ answer_at (first (enhance_rows w h pic s (length m) (length u)))
 
     -- the scratch
     pub same_scratch : t ≡ u → (direct_of w h pic s o t).scratch ≡ (enhance_of w h pic s m u).scratch
     unfolding direct_of enhance_of
     same_scratch q =
-        ap (λ n. (unless n (λ k. paint_leaves (Enhanced.Refused k) o t) (directed_of w h pic s t)).scratch) same_rows
-        ∙ ap (λ x. (unless (first (enhance_rows w h pic s (length m) (length u))) (λ k. paint_leaves (Enhanced.Refused k) o x) (directed_of w h pic s x)).scratch) q
+        ap (λ n. (unless n (λ k. paint_leaves (refused k) o t) (directed_of w h pic s t)).scratch) same_rows
+        ∙ ap (λ x. (unless (first (enhance_rows w h pic s (length m) (length u))) (λ k. paint_leaves (refused k) o x) (directed_of w h pic s x)).scratch) q
         ∙ scratch_at (first (enhance_rows w h pic s (length m) (length u)))
 
     -- and, where enhance is done, the film as it is shown
@@ -148,8 +147,8 @@ module _ (w h : ℕ) (pic : List ℕ) (s : Settings) (o m t u : List ℕ) where
 
 -- direct goes by its rows
 pub direct_table : (w h : ℕ) (pic : List ℕ) (s : Settings) (o t : List ℕ)
-    → ByTable (λ (x : PaintOut). enhanced_says x.answer) (first (direct_rows w h pic s (length t) (length o))) (foot_of w h s) (directed_of w h pic s t) (λ k. paint_leaves (Enhanced.Refused k) o t) (direct_of w h pic s o t)
-unfolding directed_of enhanced_says
+    → ByTable (λ (x : PaintOut). x.answer) (first (direct_rows w h pic s (length t) (length o))) (foot_of w h s) (directed_of w h pic s t) (λ k. paint_leaves (refused k) o t) (direct_of w h pic s o t)
+unfolding directed_of
 direct_table w h pic s o t =
     record {
       when_none = λ z. sym (direct_done w h pic s o t refl z);
@@ -159,7 +158,7 @@ direct_table w h pic s o t =
     }
 
 -- enhance's picture is as long as the film
-pub picture_length : (w h : ℕ) (pic : List ℕ) (s : Settings) (m u : List ℕ) {foot : Footer} → enhanced_says (enhance_of w h pic s m u).answer ≡ accepted foot → length (enhance_of w h pic s m u).picture ≡ w * h
+pub picture_length : (w h : ℕ) (pic : List ℕ) (s : Settings) (m u : List ℕ) {foot : Footer} → (enhance_of w h pic s m u).answer ≡ accepted foot → length (enhance_of w h pic s m u).picture ≡ w * h
 unfolding enhanced_of
 picture_length w h pic s m u done = ap (λ (x : EnhanceOut). length x.picture) (table_done (enhance_table w h pic s m u) done) ∙ go (clip_one_of s.clip)
   where

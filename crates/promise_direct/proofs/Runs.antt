@@ -3,9 +3,11 @@
 use Prim.Native.Nat.{ℕ}
 use mathlib.Core.List.{List}
 use mathlib.Core.Path.{◌≡◌}
+use Rattle.base_rows.specs.Given.{said}
+use Rattle.base_rows.specs.Refuse.{Says}
 use Rattle.base_rows.specs.Run.{Run, Ran}
 use Rattle.film_settings.specs.declared.Settings.{Settings}
-use Rattle.film_prepare.specs.declared.Enhanced.{Enhanced}
+use Rattle.film_settings.specs.declared.Footer.{Footer}
 use Rattle.film_prepare.specs.Prepare.{paint_leaves}
 use Rattle.film_direct.specs.Direct.{direct_of}
 use Rattle.film_direct.proofs.direct.Kinds as direct
@@ -18,7 +20,7 @@ pub record DirectCall : Type 0 where
   pub settings : Settings
   pub target : List ℕ
   pub scratch : List ℕ
-  pub answer : Enhanced
+  pub answer : Says Footer
   pub target' : List ℕ
   pub scratch' : List ℕ
 
@@ -26,7 +28,7 @@ abbrev pub direct_values : Run direct.ps direct.r direct-reads.Post → DirectCa
 direct_values run =
     let (width, (height, (pixels, (settings, (target, (scratch, end)))))) = run.handed in
     let (_, (_, (_, (_, (target', (scratch', end')))))) = run.left in
-    record { width = width; height = height; pixels = pixels.now; settings = settings; target = target.now; scratch = scratch.now; answer = run.answer; target' = target'.now; scratch' = scratch'.now }
+    record { width = width; height = height; pixels = pixels.now; settings = settings; target = target.now; scratch = scratch.now; answer = said run.answer; target' = target'.now; scratch' = scratch'.now }
 
 -- what it is handed
 abbrev pub direct_arguments : DirectCall → ℕ × ℕ × List ℕ × Settings × List ℕ × List ℕ

@@ -7,7 +7,6 @@ use lib.ListN.{length, get_or}
 use Rattle.base_rows.specs.Refuse.{accepted}
 use Rattle.film_settings.specs.declared.Footer.{Footer}
 use Rattle.film_settings.specs.Settings.{kept_of}
-use Rattle.film_prepare.specs.Prepare.{enhanced_says}
 use Rattle.promise_films.proofs.Runs.{EnhanceCall}
 use Rattle.promise_reach.proofs.Rendered.{Film}
 use Rattle.promise_direct.proofs.Runs.{DirectCall}
@@ -35,4 +34,4 @@ pub record SameFilm (d : DirectCall) (e : EnhanceCall) : Type 0 where
 pub record IsEnhance (d : DirectCall) (e : EnhanceCall) : Type 0 where
   pub answer : d.answer ≡ e.answer
   pub scratch : d.scratch ≡ e.scratch → d.scratch' ≡ e.scratch'
-  pub picture : {foot : Footer} → enhanced_says e.answer ≡ accepted foot → d.target' ≡ e.pixels'
+  pub picture : {foot : Footer} → e.answer ≡ accepted foot → d.target' ≡ e.pixels'

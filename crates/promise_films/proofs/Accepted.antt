@@ -11,14 +11,12 @@ use Rattle.film_settings.specs.declared.MapRecord.{MapRecord}
 use Rattle.film_settings.specs.declared.Footer.{Footer}
 use Rattle.film_settings.specs.declared.Window.{Window}
 use Rattle.film_settings.specs.Settings.{record_of}
-use Rattle.film_prepare.specs.declared.Enhanced.TheVariants as Enhanced
 use Rattle.film_tiles.specs.Tiles.{foot_of, Work}
-use Rattle.film_prepare.specs.Prepare.{prepared_not, enhance_rows, prepare_rows, prepared_says, enhanced_says, PrepareOut, prepare_leaves, prepared_of, prepare_of, EnhanceOut, enhance_leaves, enhanced_of, enhance_of}
+use Rattle.film_prepare.specs.Prepare.{enhance_rows, prepare_rows, PrepareOut, prepare_leaves, prepared_of, prepare_of, EnhanceOut, enhance_leaves, enhanced_of, enhance_of}
 use Rattle.film_prepare.proofs.Table.{work, over_work}
 use Rattle.film_prepare.proofs.Endings.{ends_refused, ends_done}
 use Rattle.film_prepare.proofs.Renders.{over_refused, over_done}
-use Rattle.film_draw.specs.declared.Drawn.TheVariants as Drawn
-use Rattle.film_draw.specs.Draw.{drawn_pixels, draw_rows, drawn_says, DrawOut, draw_leaves, draw_of}
+use Rattle.film_draw.specs.Draw.{drawn_pixels, draw_rows, DrawOut, draw_leaves, draw_of}
 use Rattle.film_draw.proofs.Works.{draw_ends_well, draw_ends_refused}
 
 -- ---- any call
@@ -117,9 +115,9 @@ module _ {Y A : Type 0} {said : Y → Says A} {n : ℕ} {v : A} {done : Y} {lent
 
 module _ (film w h : ℕ) (pic : List ℕ) (s : Settings) (m t n : List ℕ) where
   -- prepare goes by the rows 1 to 13, 31 and 32
-  pub prepare_table : ByTable (λ (x : PrepareOut). prepared_says x.answer) (first (prepare_rows w h pic s (length m) (length t) (length n)))
-      (record_of film w h s, foot_of w h s) (prepared_of film w h pic s m t n) (λ k. prepare_leaves (prepared_not k) m t n) (prepare_of film w h pic s m t n)
-  unfolding prepared_of prepared_says
+  pub prepare_table : ByTable (λ (x : PrepareOut). x.answer) (first (prepare_rows w h pic s (length m) (length t) (length n)))
+      (record_of film w h s, foot_of w h s) (prepared_of film w h pic s m t n) (λ k. prepare_leaves (refused k) m t n) (prepare_of film w h pic s m t n)
+  unfolding prepared_of
   prepare_table =
       record {
         when_none = λ z. sym (ends_done film w h pic s m t n refl z);
@@ -128,7 +126,7 @@ module _ (film w h : ℕ) (pic : List ℕ) (s : Settings) (m t n : List ℕ) whe
         says_lent = λ k. refl;
       }
 
-  module _ {r : MapRecord} {foot : Footer} (done : prepared_says (prepare_of film w h pic s m t n).answer ≡ accepted (r, foot)) where
+  module _ {r : MapRecord} {foot : Footer} (done : (prepare_of film w h pic s m t n).answer ≡ accepted (r, foot)) where
     -- an accepted film meets none of them
     pub prepare_accepts : first (prepare_rows w h pic s (length m) (length t) (length n)) ≡ 0
     prepare_accepts = (table_accepted prepare_table done).0
@@ -153,9 +151,9 @@ module _ (film w h : ℕ) (pic : List ℕ) (s : Settings) (m t n : List ℕ) whe
 
 module _ (w h : ℕ) (pic : List ℕ) (s : Settings) (m t : List ℕ) where
   -- enhance goes by the same rows but 32
-  pub enhance_table : ByTable (λ (x : EnhanceOut). enhanced_says x.answer) (first (enhance_rows w h pic s (length m) (length t)))
-      (foot_of w h s) (enhanced_of w h pic s m t) (λ k. enhance_leaves (Enhanced.Refused k) pic m t) (enhance_of w h pic s m t)
-  unfolding enhanced_of enhanced_says
+  pub enhance_table : ByTable (λ (x : EnhanceOut). x.answer) (first (enhance_rows w h pic s (length m) (length t)))
+      (foot_of w h s) (enhanced_of w h pic s m t) (λ k. enhance_leaves (refused k) pic m t) (enhance_of w h pic s m t)
+  unfolding enhanced_of
   enhance_table =
       record {
         when_none = λ z. sym (over_done w h pic s m t refl z);
@@ -164,7 +162,7 @@ module _ (w h : ℕ) (pic : List ℕ) (s : Settings) (m t : List ℕ) where
         says_lent = λ k. refl;
       }
 
-  module _ {foot : Footer} (done : enhanced_says (enhance_of w h pic s m t).answer ≡ accepted foot) where
+  module _ {foot : Footer} (done : (enhance_of w h pic s m t).answer ≡ accepted foot) where
     -- what an accepted film's call knows
     pub enhance_work : Work w h pic s (length m) (length t)
     enhance_work = over_work w h pic s (length m) (length t) (table_accepted enhance_table done).0
@@ -181,10 +179,9 @@ module _ (w h : ℕ) (pic : List ℕ) (s : Settings) (m t : List ℕ) where
 
 module _ (film w h : ℕ) (pic : List ℕ) (s : Settings) (r : MapRecord) (win : Window) (m out : List ℕ) where
   -- draw goes by its own
-  pub draw_table : ByTable (λ (x : DrawOut). drawn_says x.answer) (first (draw_rows film w h pic s r win m (length out))) tt
-      (draw_leaves Drawn.Done (drawn_pixels w h pic s win m))
-      (λ k. draw_leaves (Drawn.Refused k) out) (draw_of film w h pic s r win m out)
-  unfolding drawn_says
+  pub draw_table : ByTable (λ (x : DrawOut). x.answer) (first (draw_rows film w h pic s r win m (length out))) tt
+      (draw_leaves (accepted tt) (drawn_pixels w h pic s win m))
+      (λ k. draw_leaves (refused k) out) (draw_of film w h pic s r win m out)
   draw_table =
       record {
         when_none = λ z. sym (draw_ends_well film w h pic s r win m out refl z refl);

@@ -5,40 +5,39 @@ use Prim.Native.Nat.{ℕ}
 use mathlib.Core.List.{List}
 use mathlib.Core.Path.{◌≡◌, sym, ap, ◌∙◌}
 use lib.ListN.{take}
+use Rattle.base_rows.specs.Refuse.{Says}
+use Rattle.film_settings.specs.declared.Footer.{Footer}
 use Rattle.film_settings.specs.declared.Settings.{Settings}
 use Rattle.film_settings.specs.declared.MapRecord.{MapRecord}
 use Rattle.film_settings.specs.declared.Window.{Window}
 use Rattle.film_settings.specs.Settings.{entries_of, kept_of, kept_record}
-use Rattle.film_prepare.specs.declared.Prepared.{Prepared}
-use Rattle.film_prepare.specs.declared.Enhanced.{Enhanced}
 use Rattle.film_prepare.specs.Prepare.{PrepareOut, prepare_leaves, EnhanceOut, enhance_leaves, PaintOut, paint_leaves}
-use Rattle.film_draw.specs.declared.Drawn.{Drawn}
 use Rattle.film_draw.specs.Draw.{DrawOut, draw_leaves, draw_of}
 use Rattle.film_draw.proofs.Like.{draw_kept, draw_kept_record, draw_front}
 use Rattle.promise_films.proofs.Runs.{PrepareCall, prepare_arguments, prepare_read, EnhanceCall, enhance_arguments, enhance_read, DrawCall, draw_arguments, draw_read}
 
 -- ---- equal outcomes, part by part
 
-pub prepare_parts : {a b : Prepared} {m n t u l k : List ℕ} → prepare_leaves a m t l ≡ prepare_leaves b n u k → (a ≡ b) × (m ≡ n) × (t ≡ u) × (l ≡ k)
+pub prepare_parts : {a b : Says (MapRecord × Footer)} {m n t u l k : List ℕ} → prepare_leaves a m t l ≡ prepare_leaves b n u k → (a ≡ b) × (m ≡ n) × (t ≡ u) × (l ≡ k)
 prepare_parts e = (ap (λ (z : PrepareOut). z.answer) e, ap (λ (z : PrepareOut). z.map) e, ap (λ (z : PrepareOut). z.scratch) e, ap (λ (z : PrepareOut). z.list) e)
 
 -- the lent memory alone
-pub prepare_memory : {a b : Prepared} {m n t u l k : List ℕ} → prepare_leaves a m t l ≡ prepare_leaves b n u k → (m ≡ n) × (t ≡ u) × (l ≡ k)
+pub prepare_memory : {a b : Says (MapRecord × Footer)} {m n t u l k : List ℕ} → prepare_leaves a m t l ≡ prepare_leaves b n u k → (m ≡ n) × (t ≡ u) × (l ≡ k)
 prepare_memory e = (ap (λ (z : PrepareOut). z.map) e, ap (λ (z : PrepareOut). z.scratch) e, ap (λ (z : PrepareOut). z.list) e)
 
-pub enhance_parts : {a b : Enhanced} {p q m n t u : List ℕ} → enhance_leaves a p m t ≡ enhance_leaves b q n u → (a ≡ b) × (p ≡ q) × (m ≡ n) × (t ≡ u)
+pub enhance_parts : {a b : Says Footer} {p q m n t u : List ℕ} → enhance_leaves a p m t ≡ enhance_leaves b q n u → (a ≡ b) × (p ≡ q) × (m ≡ n) × (t ≡ u)
 enhance_parts e = (ap (λ (z : EnhanceOut). z.answer) e, ap (λ (z : EnhanceOut). z.picture) e, ap (λ (z : EnhanceOut). z.map) e, ap (λ (z : EnhanceOut). z.scratch) e)
 
-pub enhance_memory : {a b : Enhanced} {p q m n t u : List ℕ} → enhance_leaves a p m t ≡ enhance_leaves b q n u → (p ≡ q) × (m ≡ n) × (t ≡ u)
+pub enhance_memory : {a b : Says Footer} {p q m n t u : List ℕ} → enhance_leaves a p m t ≡ enhance_leaves b q n u → (p ≡ q) × (m ≡ n) × (t ≡ u)
 enhance_memory e = (ap (λ (z : EnhanceOut). z.picture) e, ap (λ (z : EnhanceOut). z.map) e, ap (λ (z : EnhanceOut). z.scratch) e)
 
-pub draw_both : {a b : Drawn} {o q : List ℕ} → draw_leaves a o ≡ draw_leaves b q → (a ≡ b) × (o ≡ q)
+pub draw_both : {a b : Says (Unit {0})} {o q : List ℕ} → draw_leaves a o ≡ draw_leaves b q → (a ≡ b) × (o ≡ q)
 draw_both e = (ap (λ (z : DrawOut). z.answer) e, ap (λ (z : DrawOut). z.out) e)
 
-pub paint_parts : {a b : Enhanced} {o q t u : List ℕ} → paint_leaves a o t ≡ paint_leaves b q u → (a ≡ b) × (o ≡ q) × (t ≡ u)
+pub paint_parts : {a b : Says Footer} {o q t u : List ℕ} → paint_leaves a o t ≡ paint_leaves b q u → (a ≡ b) × (o ≡ q) × (t ≡ u)
 paint_parts e = (ap (λ (z : PaintOut). z.answer) e, ap (λ (z : PaintOut). z.target) e, ap (λ (z : PaintOut). z.scratch) e)
 
-pub paint_memory : {a b : Enhanced} {o q t u : List ℕ} → paint_leaves a o t ≡ paint_leaves b q u → (o ≡ q) × (t ≡ u)
+pub paint_memory : {a b : Says Footer} {o q t u : List ℕ} → paint_leaves a o t ≡ paint_leaves b q u → (o ≡ q) × (t ≡ u)
 paint_memory e = (ap (λ (z : PaintOut). z.target) e, ap (λ (z : PaintOut). z.scratch) e)
 
 -- ---- two runs

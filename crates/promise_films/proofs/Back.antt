@@ -7,11 +7,10 @@ use mathlib.Core.Path.{◌≡◌, refl, sym, ap, ◌∙◌}
 use native.Mathlib.Omega.{arith}
 use lib.ListN.{length, take, drop, length-drop, drop_of_length-le}
 use Rattle.base_rows.specs.Refuse.{first, accepted}
-use Rattle.pgm_header.specs.declared.Head.{Head}
-use Rattle.pgm_header.specs.declared.Head.TheVariants as Head
-use Rattle.pgm_read.specs.Pgm.{read_of, sizes_of, raster_of, sizes_says}
+use Rattle.pgm_header.specs.Header.{Head}
+use Rattle.pgm_read.specs.Pgm.{read_of, sizes_of, raster_of}
 use Rattle.pgm_read.proofs.Tables.{read_within}
-use Rattle.pgm_write.specs.Write.{write_rows, written_says, file_of, WriteOut, write_of}
+use Rattle.pgm_write.specs.Write.{write_rows, file_of, WriteOut, write_of}
 use Rattle.promise_films.proofs.Files.{written_none, written_file, file_sizes}
 use Rattle.promise_films.proofs.Runs.{SizesCall, sizes_ends, RasterCall, GreysCall, WriteCall, Writes, write_ends}
 use Rattle.promise_films.proofs.Ways.{ReadTwice, ReadBack}
@@ -33,9 +32,9 @@ raster_stands s = go (read_of s) refl
 
 -- ---- a film that was written
 
-module _ {c : WriteCall} {n : ℕ} (ran : Writes c) (written : written_says c.answer ≡ accepted n) where
-  pub write_laid : written_says (write_of c.pixels c.width c.height c.maxval c.out).answer ≡ accepted n
-  write_laid = sym (ap (λ (x : WriteOut). written_says x.answer) (write_ends ran)) ∙ written
+module _ {c : WriteCall} {n : ℕ} (ran : Writes c) (written : c.answer ≡ accepted n) where
+  pub write_laid : (write_of c.pixels c.width c.height c.maxval c.out).answer ≡ accepted n
+  write_laid = sym (ap (λ (x : WriteOut). x.answer) (write_ends ran)) ∙ written
 
   pub write_none : first (write_rows c.pixels c.width c.height c.maxval (length c.out)) ≡ 0
   write_none = written_none _ _ _ _ _ _ write_laid
@@ -45,8 +44,8 @@ module _ {c : WriteCall} {n : ℕ} (ran : Writes c) (written : written_says c.an
   write_file = ap (λ (x : WriteOut). take n x.out) (write_ends ran) ∙ written_file _ _ _ _ _ c.out write_laid
 
   -- of which read says the film's width, height and maxval
-  pub write_sizes : {s : List ℕ} → s ≡ take n c.out' → sizes_says (sizes_of (read_of s)) ≡ accepted (c.width, c.height, c.maxval)
-  write_sizes same = ap (λ s. sizes_says (sizes_of (read_of s))) (same ∙ write_file) ∙ file_sizes _ _ _ _ (length c.out) write_none
+  pub write_sizes : {s : List ℕ} → s ≡ take n c.out' → (sizes_of (read_of s)) ≡ accepted (c.width, c.height, c.maxval)
+  write_sizes same = ap (λ s. (sizes_of (read_of s))) (same ∙ write_file) ∙ file_sizes _ _ _ _ (length c.out) write_none
 
 -- ---- and read back
 
@@ -55,8 +54,8 @@ module _ {c : WriteCall} {n : ℕ} {z : SizesCall} {k : RasterCall} {g : GreysCa
   back_bytes = way.file ∙ write_file way.writes way.written
 
   -- the sizes and maxval that read says are the film's
-  pub back_same : {w h m : ℕ} → sizes_says z.answer ≡ accepted (w, h, m) → (w ≡ c.width) × (h ≡ c.height) × (m ≡ c.maxval)
+  pub back_same : {w h m : ℕ} → z.answer ≡ accepted (w, h, m) → (w ≡ c.width) × (h ≡ c.height) × (m ≡ c.maxval)
   back_same {w} {h} {m} q =
-      let e = sym q ∙ ap sizes_says (sizes_ends way.reads.sizes) ∙ write_sizes way.writes way.written (way.reads.same ∙ way.file) in
+      let e = sym q ∙ (sizes_ends way.reads.sizes) ∙ write_sizes way.writes way.written (way.reads.same ∙ way.file) in
       let v : ◌≡◌ {A = ℕ × ℕ × ℕ} (w, h, m) (c.width, c.height, c.maxval) = cc in
       (ap (λ (x : ℕ × ℕ × ℕ). x.0) v, ap (λ (x : ℕ × ℕ × ℕ). x.1) v, ap (λ (x : ℕ × ℕ × ℕ). x.2) v)

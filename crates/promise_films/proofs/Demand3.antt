@@ -16,7 +16,6 @@ use Rattle.film_settings.specs.declared.MapRecord.{MapRecord}
 use Rattle.film_settings.specs.declared.Footer.{Footer}
 use Rattle.film_settings.specs.Settings.{bins_of, clip_bad_of}
 use Rattle.film_tiles.specs.Tiles.{pixels_in}
-use Rattle.film_prepare.specs.Prepare.{prepared_says, enhanced_says}
 use Rattle.film_prepare.proofs.Table.{table_never_14, over_never_14}
 use Rattle.promise_films.specs.Films.{ClippingOn, limit_in, FilmSound, LimitFits}
 use Rattle.promise_films.proofs.Accepted.{says_refused}
@@ -29,7 +28,7 @@ use Rattle.promise_films.proofs.Whole.{whole_tiles_sound, whole_limit_fits}
 -- ---- every tile
 
 -- a film that prepare accepted, answering this footer
-module _ {p : PrepareCall} {r : MapRecord} {foot : Footer} (ran : Prepares p) (done : prepared_says p.answer ≡ accepted (r, foot)) where
+module _ {p : PrepareCall} {r : MapRecord} {foot : Footer} (ran : Prepares p) (done : p.answer ≡ accepted (r, foot)) where
   -- "With clipping on (a factor above one), in every tile of a film that prepare .. accepts": with the tile's own limit, and the map entries that prepare left, in our edition
   pub prepared_tiles_sound : {f : Float} → ClippingOn p.settings.clip f → p.settings.edition ≡ Ours → FilmSound p.width p.height p.pixels p.settings f p.map'
   prepared_tiles_sound on ours = made_tiles_sound (prepare_made ran done) on ours
@@ -40,7 +39,7 @@ module _ {p : PrepareCall} {r : MapRecord} {foot : Footer} (ran : Prepares p) (d
   prepared_limit_fits {f} on k = made_limit_fits (prepare_made ran done) f k
 
 -- a film that enhance accepted, answering this footer
-module _ {e : EnhanceCall} {foot : Footer} (ran : Enhances e) (done : enhanced_says e.answer ≡ accepted foot) where
+module _ {e : EnhanceCall} {foot : Footer} (ran : Enhances e) (done : e.answer ≡ accepted foot) where
   -- "With clipping on (a factor above one), in every tile of a film that .. enhance accepts", in our edition
   pub enhanced_tiles_sound : {f : Float} → ClippingOn e.settings.clip f → e.settings.edition ≡ Ours → FilmSound e.width e.height e.pixels e.settings f e.map'
   enhanced_tiles_sound on ours = whole_tiles_sound e (enhance_ends ran) done on ours
@@ -53,12 +52,12 @@ module _ {e : EnhanceCall} {foot : Footer} (ran : Enhances e) (done : enhanced_s
 -- ---- the clip refusal
 
 -- "a clip refusal never occurs": of prepare
-pub prepare_never_14 : {p : PrepareCall} → Prepares p → prepared_says p.answer ≢ refused 14
+pub prepare_never_14 : {p : PrepareCall} → Prepares p → p.answer ≢ refused 14
 prepare_never_14 {p} ran q =
     table_never_14 p.width p.height p.pixels p.settings (length p.map) (length p.scratch) (length p.list) (says_refused _ _ (sym (prepare_says ran) ∙ q))
 
 -- and of enhance
-pub enhance_never_14 : {e : EnhanceCall} → Enhances e → enhanced_says e.answer ≢ refused 14
+pub enhance_never_14 : {e : EnhanceCall} → Enhances e → e.answer ≢ refused 14
 enhance_never_14 {e} ran q =
     over_never_14 e.width e.height e.pixels e.settings (length e.map) (length e.scratch) (says_refused _ _ (sym (enhance_says ran) ∙ q))
 

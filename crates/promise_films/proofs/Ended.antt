@@ -6,7 +6,7 @@ use mathlib.Core.Path.{◌≡◌, sym, ap, ◌∙◌}
 use Rattle.base_rows.specs.Refuse.{accepted}
 use Rattle.film_settings.specs.declared.MapRecord.{MapRecord}
 use Rattle.film_settings.specs.declared.Footer.{Footer}
-use Rattle.film_prepare.specs.Prepare.{prepared_says, enhanced_says, PrepareOut, prepare_leaves, prepare_of, EnhanceOut, enhance_leaves, enhance_of}
+use Rattle.film_prepare.specs.Prepare.{PrepareOut, prepare_leaves, prepare_of, EnhanceOut, enhance_leaves, enhance_of}
 use Rattle.film_draw.specs.Draw.{draw_leaves, draw_of}
 use Rattle.promise_films.proofs.Runs.{PrepareCall, Prepares, prepare_ends, EnhanceCall, Enhances, enhance_ends, DrawCall, Draws, draw_ends}
 
@@ -18,13 +18,13 @@ Ended p =
     prepare_leaves p.answer p.map' p.scratch' p.list' ≡ prepare_of p.film p.width p.height p.pixels p.settings p.map p.scratch p.list
 
 -- so that outcome says what the answer does
-pub ended_accepted : (p : PrepareCall) {v : MapRecord × Footer} → Ended p → prepared_says p.answer ≡ accepted v
-    → prepared_says (prepare_of p.film p.width p.height p.pixels p.settings p.map p.scratch p.list).answer ≡ accepted v
-ended_accepted p ends e = sym (ap (λ (y : PrepareOut). prepared_says y.answer) ends) ∙ e
+pub ended_accepted : (p : PrepareCall) {v : MapRecord × Footer} → Ended p → p.answer ≡ accepted v
+    → (prepare_of p.film p.width p.height p.pixels p.settings p.map p.scratch p.list).answer ≡ accepted v
+ended_accepted p ends e = sym (ap (λ (y : PrepareOut). y.answer) ends) ∙ e
 
 -- of prepare itself
-pub prepare_accepted : {p : PrepareCall} {v : MapRecord × Footer} → Prepares p → prepared_says p.answer ≡ accepted v
-    → prepared_says (prepare_of p.film p.width p.height p.pixels p.settings p.map p.scratch p.list).answer ≡ accepted v
+pub prepare_accepted : {p : PrepareCall} {v : MapRecord × Footer} → Prepares p → p.answer ≡ accepted v
+    → (prepare_of p.film p.width p.height p.pixels p.settings p.map p.scratch p.list).answer ≡ accepted v
 prepare_accepted {p} ran e = ended_accepted p (prepare_ends ran) e
 
 -- ---- enhance
@@ -35,13 +35,13 @@ Rendered e =
     enhance_leaves e.answer e.pixels' e.map' e.scratch' ≡ enhance_of e.width e.height e.pixels e.settings e.map e.scratch
 
 -- so that outcome says what the answer does
-pub rendered_accepted : (e : EnhanceCall) {foot : Footer} → Rendered e → enhanced_says e.answer ≡ accepted foot
-    → enhanced_says (enhance_of e.width e.height e.pixels e.settings e.map e.scratch).answer ≡ accepted foot
-rendered_accepted e ends q = sym (ap (λ (y : EnhanceOut). enhanced_says y.answer) ends) ∙ q
+pub rendered_accepted : (e : EnhanceCall) {foot : Footer} → Rendered e → e.answer ≡ accepted foot
+    → (enhance_of e.width e.height e.pixels e.settings e.map e.scratch).answer ≡ accepted foot
+rendered_accepted e ends q = sym (ap (λ (y : EnhanceOut). y.answer) ends) ∙ q
 
 -- of enhance itself
-pub enhance_accepted : {e : EnhanceCall} {foot : Footer} → Enhances e → enhanced_says e.answer ≡ accepted foot
-    → enhanced_says (enhance_of e.width e.height e.pixels e.settings e.map e.scratch).answer ≡ accepted foot
+pub enhance_accepted : {e : EnhanceCall} {foot : Footer} → Enhances e → e.answer ≡ accepted foot
+    → (enhance_of e.width e.height e.pixels e.settings e.map e.scratch).answer ≡ accepted foot
 enhance_accepted {e} ran q = rendered_accepted e (enhance_ends ran) q
 
 -- ---- draw

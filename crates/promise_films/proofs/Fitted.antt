@@ -27,14 +27,13 @@ use Rattle.film_tiles.specs.Tiles.{tile_of, pixels_in, footer_of}
 use Rattle.film_tiles.proofs.Tiles.{tile_area, tile_is}
 use Rattle.film_tiles.proofs.Films.{mappings_by}
 use Rattle.film_tiles.proofs.Footers.{foot_is}
-use Rattle.film_prepare.specs.Prepare.{prepared_says, enhanced_says, PrepareOut, EnhanceOut, enhanced_of}
+use Rattle.film_prepare.specs.Prepare.{PrepareOut, EnhanceOut, enhanced_of}
 use Rattle.pixel_rule.proofs.Rule.{rule_from, grey_from_lem}
 use Rattle.promise_films.specs.Fitted.{Fitted, fit_rect, fit_pixels, fit_alone, fit_between, half, fit_place, fit_grey, fit_mappings, fit_foot, AxisAsBefore, FilmAsBefore}
 use Rattle.promise_films.proofs.Accepted.{prepare_foot, enhance_done, enhance_foot}
 use Rattle.promise_films.proofs.Reuse.{left_map}
 use Rattle.promise_films.proofs.Runs.{PrepareCall, EnhanceCall, DrawCall}
 use Rattle.promise_films.proofs.Ways.{drawn_grey}
-use Rattle.film_draw.specs.Draw.{drawn_says}
 use Rattle.promise_films.proofs.Ended.{Ended, ended_accepted, Rendered, rendered_accepted, Shown}
 use Rattle.promise_films.proofs.Made.{Made, made_tiled, ended_made, shown_inside, shown_by_rule}
 use Rattle.promise_films.proofs.Whole.{whole_work, whole_by_rule}
@@ -152,7 +151,7 @@ pub made_as_before : {film w h : ℕ} {pic : List ℕ} {s : Settings} {r : MapRe
 made_as_before {pic = pic} made fitted = fitted_film (made_tiled made) fitted pic
 
 -- the mappings that are left (at the factor 1.0 the map buffer) and the footer are those of the rule before
-pub ended_fitted : (p : PrepareCall) {r : MapRecord} {foot : Footer} → Ended p → prepared_says p.answer ≡ accepted (r, foot) → Fitted p.width p.height p.settings
+pub ended_fitted : (p : PrepareCall) {r : MapRecord} {foot : Footer} → Ended p → p.answer ≡ accepted (r, foot) → Fitted p.width p.height p.settings
     → (p.map' ≡ cond (clip_one_of p.settings.clip) p.map (onto p.map (fit_mappings p.width p.height p.pixels p.settings)))
     × (foot ≡ fit_foot p.width p.height p.settings)
 ended_fitted p ends prepared fitted =
@@ -164,7 +163,7 @@ ended_fitted p ends prepared fitted =
     )
 
 -- such a film that was rendered whole
-module _ (e : EnhanceCall) {foot : Footer} (rendered : Rendered e) (enhanced : enhanced_says e.answer ≡ accepted foot) (fitted : Fitted e.width e.height e.settings) where
+module _ (e : EnhanceCall) {foot : Footer} (rendered : Rendered e) (enhanced : e.answer ≡ accepted foot) (fitted : Fitted e.width e.height e.settings) where
   before : FilmAsBefore e.width e.height e.pixels e.settings
   before = fitted_film (whole_work e rendered enhanced).ready.tiled fitted e.pixels
 
@@ -185,7 +184,7 @@ module _ (e : EnhanceCall) {foot : Footer} (rendered : Rendered e) (enhanced : e
 
 -- each pixel drawn from what was made of such a film is the one of the rule before
 pub shown_fitted : {film w h : ℕ} {pic : List ℕ} {s : Settings} {foot : Footer} {left : List ℕ} {d : DrawCall} (made : Made film w h pic s d.kept foot left) → Shown d
-    → drawn_says d.answer ≡ accepted tt → d.pixels ≡ pic → (clip_one_of s.clip ≡ false → take (entries_of s) d.map ≡ take (entries_of s) left) → Fitted w h s → clip_one_of s.clip ≡ false
+    → d.answer ≡ accepted tt → d.pixels ≡ pic → (clip_one_of s.clip ≡ false → take (entries_of s) d.map ≡ take (entries_of s) left) → Fitted w h s → clip_one_of s.clip ≡ false
     → (j i : ℕ) → j < d.window.height → i < d.window.width → drawn_grey d i j ≡ fit_grey w h pic s (d.window.left + i) (d.window.top + j)
 shown_fitted {d = d} made shown drawn pixels mappings fitted one j i l k =
     let inside = shown_inside made shown drawn pixels mappings in

@@ -35,7 +35,7 @@ use Rattle.film_settings.proofs.Ready.{shared_numbers}
 use Rattle.film_tiles.specs.Tiles.{tile_of, pixels_in, spents, spent_entries}
 use Rattle.film_tiles.proofs.Spents.{spent_in_from, listed_excess, listed_looks, listed_behind, listed_size}
 use Rattle.film_count.specs.Counting.{raw_counts}
-use Rattle.film_prepare.specs.Prepare.{listed_rows, enhance_rows, prepare_rows, prepared_says, PrepareOut, prepare_of, prepared_of}
+use Rattle.film_prepare.specs.Prepare.{listed_rows, enhance_rows, prepare_rows, PrepareOut, prepare_of, prepared_of}
 use Rattle.film_prepare.proofs.Table.{listed_scratch, listed_short, listed_greys, table_parts, table_shared, table_work, table_listed, over_numbers}
 use Rattle.promise_films.specs.Films.{ClippingOn, limit_in}
 use Rattle.promise_films.specs.Looks.{excess_at, looks_at, TileLooks, TilesLooks, FilmLooks, NoLooks, TilesOlderLooks, FilmOlderLooks, ListShort}
@@ -96,7 +96,7 @@ tiles_no_looks w h s off counts n entries k l =
 
 -- ---- the list that prepare leaves
 
-module _ (film w h : ℕ) (pic : List ℕ) (s : Settings) (m t n : List ℕ) {r : MapRecord} {foot : Footer} (done : prepared_says (prepare_of film w h pic s m t n).answer ≡ accepted (r, foot)) where
+module _ (film w h : ℕ) (pic : List ℕ) (s : Settings) (m t n : List ℕ) {r : MapRecord} {foot : Footer} (done : (prepare_of film w h pic s m t n).answer ≡ accepted (r, foot)) where
   -- at the factor 1.0 it stays; else the tiles' entries lie in its front
   pub left_list : (prepare_of film w h pic s m t n).list ≡ cond (clip_one_of s.clip) n (onto n (spents w h pic s))
   unfolding prepared_of
@@ -157,8 +157,8 @@ module _ (film w h : ℕ) (pic : List ℕ) (s : Settings) (m t n : List ℕ) {r 
 -- ---- a call that ended as prepare does
 
 -- and accepted its film
-module _ (p : PrepareCall) {r : MapRecord} {foot : Footer} (ends : Ended p) (prepared : prepared_says p.answer ≡ accepted (r, foot)) where
-  done : prepared_says (prepare_of p.film p.width p.height p.pixels p.settings p.map p.scratch p.list).answer ≡ accepted (r, foot)
+module _ (p : PrepareCall) {r : MapRecord} {foot : Footer} (ends : Ended p) (prepared : p.answer ≡ accepted (r, foot)) where
+  done : (prepare_of p.film p.width p.height p.pixels p.settings p.map p.scratch p.list).answer ≡ accepted (r, foot)
   done = ended_accepted p ends prepared
 
   listed : p.list' ≡ (prepare_of p.film p.width p.height p.pixels p.settings p.map p.scratch p.list).list

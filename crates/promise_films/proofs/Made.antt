@@ -13,9 +13,9 @@ use Rattle.film_settings.specs.declared.MapRecord.{MapRecord}
 use Rattle.film_settings.specs.declared.Footer.{Footer}
 use Rattle.film_settings.specs.Settings.{bins_of, entries_of, kept_of, clip_one_of, Tiled}
 use Rattle.film_settings.proofs.Records.{record_film}
-use Rattle.film_prepare.specs.Prepare.{prepared_says, enhanced_says, PrepareOut, prepare_of, EnhanceOut, enhance_leaves, enhance_of}
+use Rattle.film_prepare.specs.Prepare.{PrepareOut, prepare_of, EnhanceOut, enhance_leaves, enhance_of}
 use Rattle.film_prepare.proofs.Like.{enhance_kept}
-use Rattle.film_draw.specs.Draw.{drawn_says, DrawOut, draw_leaves, draw_of}
+use Rattle.film_draw.specs.Draw.{DrawOut, draw_leaves, draw_of}
 use Rattle.pixel_rule.specs.Rule.{rule_grey}
 use Rattle.promise_films.specs.Films.{HandedOn, clipped_counts, divides_in, ClippingOn, ClipCase, FooterShows, limit_in, FilmSound, LimitFits, BinsReached}
 use Rattle.promise_films.proofs.Accepted.{prepare_record, prepare_work, ended_none, draw_table}
@@ -42,7 +42,7 @@ pub record Made (film w h : ℕ) (pic : List ℕ) (s : Settings) (r : MapRecord)
   pub map : List ℕ
   pub scratch : List ℕ
   pub list : List ℕ
-  pub accepts : prepared_says (prepare_of film w h pic s map scratch list).answer ≡ accepted (r, foot)
+  pub accepts : (prepare_of film w h pic s map scratch list).answer ≡ accepted (r, foot)
   pub leaves : left ≡ (prepare_of film w h pic s map scratch list).map
 
 module _ {film w h : ℕ} {pic : List ℕ} {s : Settings} {r : MapRecord} {foot : Footer} {left : List ℕ} (made : Made film w h pic s r foot left) where
@@ -101,13 +101,13 @@ module _ {film w h : ℕ} {pic : List ℕ} {s : Settings} {r : MapRecord} {foot 
   made_reached = tiled_reached made_tiled
 
 -- a call that ended as prepare does, and accepted its film, made them
-pub ended_made : (p : PrepareCall) {r : MapRecord} {foot : Footer} → Ended p → prepared_says p.answer ≡ accepted (r, foot)
+pub ended_made : (p : PrepareCall) {r : MapRecord} {foot : Footer} → Ended p → p.answer ≡ accepted (r, foot)
     → Made p.film p.width p.height p.pixels p.settings r foot p.map'
 ended_made p ends done =
     record { map = p.map; scratch = p.scratch; list = p.list; accepts = ended_accepted p ends done; leaves = ap (λ (z : PrepareOut). z.map) ends }
 
 -- so does prepare itself
-pub prepare_made : {p : PrepareCall} {r : MapRecord} {foot : Footer} → Prepares p → prepared_says p.answer ≡ accepted (r, foot)
+pub prepare_made : {p : PrepareCall} {r : MapRecord} {foot : Footer} → Prepares p → p.answer ≡ accepted (r, foot)
     → Made p.film p.width p.height p.pixels p.settings r foot p.map'
 prepare_made {p} ran done = ended_made p (prepare_ends ran) done
 
@@ -123,9 +123,9 @@ pub record HandedFilm (no w h : ℕ) (pic : List ℕ) (s : Settings) (left : Lis
 
 -- with the record it is drawn
 pub handed_done : {film w h : ℕ} {pic : List ℕ} {s : Settings} {foot : Footer} {left : List ℕ} {d : DrawCall} → Made film w h pic s d.kept foot left → Shown d
-    → HandedFilm film w h pic s left d → drawn_says d.answer ≡ accepted tt
+    → HandedFilm film w h pic s left d → d.answer ≡ accepted tt
 handed_done {film} {w} {h} {pic} {s} {foot} {left} {d} made shown handed =
-    ap (λ (z : DrawOut). drawn_says z.answer) shown.ends
+    ap (λ (z : DrawOut). z.answer) shown.ends
     ∙ rw (handed.film, handed.width, handed.height, handed.pixels)
     (draw_agrees film w h pic s _ _ _ made.accepts d.settings d.map d.window d.out
     (subst (λ m. HandedOn w h s m d.settings d.map d.window (length d.out)) made.leaves handed.rest))
@@ -141,12 +141,12 @@ pub record EnhancesSame (w h : ℕ) (pic : List ℕ) (s : Settings) (e : Enhance
 
 -- a window that draw accepted, handed the record, the film's pixels and, but at the factor 1.0, the mappings that were left, whatever else
 module _ {film w h : ℕ} {pic : List ℕ} {s : Settings} {foot : Footer} {left : List ℕ} {d : DrawCall} (made : Made film w h pic s d.kept foot left) (shown : Shown d)
-    (drawn : drawn_says d.answer ≡ accepted tt) (pixels : d.pixels ≡ pic) (mappings : clip_one_of s.clip ≡ false → take (entries_of s) d.map ≡ take (entries_of s) left) where
+    (drawn : d.answer ≡ accepted tt) (pixels : d.pixels ≡ pic) (mappings : clip_one_of s.clip ≡ false → take (entries_of s) d.map ≡ take (entries_of s) left) where
   shows : draw_leaves d.answer d.out' ≡ draw_of d.film d.width d.height pic d.settings d.kept d.window d.map d.out
   shows = shown.ends ∙ rw pixels refl
 
-  accepts : drawn_says (draw_of d.film d.width d.height pic d.settings d.kept d.window d.map d.out).answer ≡ accepted tt
-  accepts = sym (ap (λ (z : DrawOut). drawn_says z.answer) shows) ∙ drawn
+  accepts : (draw_of d.film d.width d.height pic d.settings d.kept d.window d.map d.out).answer ≡ accepted tt
+  accepts = sym (ap (λ (z : DrawOut). z.answer) shows) ∙ drawn
 
   entries : clip_one_of s.clip ≡ false → take (entries_of s) d.map ≡ take (entries_of s) (prepare_of film w h pic s made.map made.scratch made.list).map
   entries one = mappings one ∙ ap (take (entries_of s)) made.leaves
@@ -173,21 +173,21 @@ module _ {film w h : ℕ} {pic : List ℕ} {s : Settings} {foot : Footer} {left 
 
   -- and the one in enhance's picture, which enhance renders with the same footer
   pub shown_as_enhanced : {e : EnhanceCall} → Rendered e → EnhancesSame w h pic s e
-      → (enhanced_says e.answer ≡ accepted foot)
+      → (e.answer ≡ accepted foot)
       × ((j i : ℕ) → j < d.window.height → i < d.window.width → drawn_grey d i j ≡ get_or e.pixels' ((d.window.top + j) * w + (d.window.left + i)) 0)
   shown_as_enhanced {e} rendered too =
       let over : enhance_leaves e.answer e.pixels' e.map' e.scratch' ≡ enhance_of w h pic s e.map e.scratch =
       rendered
       ∙ rw (too.width, too.height, too.pixels)
       (sym (enhance_kept _ _ _ e.settings _ _) ∙ ap (λ x. enhance_of w h pic x e.map e.scratch) too.like ∙ enhance_kept _ _ _ s _ _) in (
-        ap (λ (z : EnhanceOut). enhanced_says z.answer) over ∙ enhance_agrees film w h pic s _ _ _ made.accepts _ _ too.map too.scratch,
+        ap (λ (z : EnhanceOut). z.answer) over ∙ enhance_agrees film w h pic s _ _ _ made.accepts _ _ too.map too.scratch,
         λ j i l k. ap (λ (z : DrawOut). get_or z.out (j * d.window.width + i) 0) shows
             ∙ accepted_as_enhanced film w h pic s _ _ _ made.accepts _ _ _ _ _ d.window _ accepts entries e.map e.scratch too.map too.scratch j i l k
             ∙ sym (ap (λ (z : EnhanceOut). get_or z.picture ((d.window.top + j) * w + (d.window.left + i)) 0) over),
       )
 
 -- order 3, of a window that was drawn
-pub shown_reached : {d : DrawCall} → Shown d → drawn_says d.answer ≡ accepted tt → BinsReached d.settings
+pub shown_reached : {d : DrawCall} → Shown d → d.answer ≡ accepted tt → BinsReached d.settings
 shown_reached {d} shown drawn =
     tiled_reached
     (ready d.width d.height (length d.pixels) d.settings (length d.map)

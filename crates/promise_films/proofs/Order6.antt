@@ -11,8 +11,6 @@ use Rattle.pixel_grid.specs.Grid.{axis_of}
 use Rattle.film_settings.specs.declared.MapRecord.{MapRecord}
 use Rattle.film_settings.specs.declared.Footer.{Footer}
 use Rattle.film_settings.specs.Settings.{clip_one_of, shared_rows}
-use Rattle.film_prepare.specs.Prepare.{prepared_says, enhanced_says}
-use Rattle.film_draw.specs.Draw.{drawn_says}
 use Rattle.promise_films.proofs.Ended.{draw_shown}
 use Rattle.promise_films.proofs.Runs.{PrepareCall, Prepares, prepare_ends, EnhanceCall, Enhances, enhance_ends, DrawCall, Draws}
 use Rattle.promise_films.proofs.Ways.{DrawnFrom, drawn_grey}
@@ -28,17 +26,17 @@ use Rattle.promise_films.proofs.Fitted.{ended_fitted, whole_fitted, whole_fitted
 -- the pixels and the map entries
 module _ {d : DrawCall} (ran : Draws d) (shared : first (shared_rows d.width d.height (length d.pixels) d.settings (length d.map)) ≡ 0) where
   -- order 6, "15 is also given where the record's edges or centres aren't those of this rule": those of the columns, any of them
-  pub other_columns_15 : axis_of d.width d.settings.across ≢ d.kept.columns → drawn_says d.answer ≡ refused 15
+  pub other_columns_15 : axis_of d.width d.settings.across ≢ d.kept.columns → d.answer ≡ refused 15
   other_columns_15 other = draw_differing_15 ran shared (λ held. other held.columns)
 
   -- and of the rows
-  pub other_rows_15 : axis_of d.height d.settings.down ≢ d.kept.rows → drawn_says d.answer ≡ refused 15
+  pub other_rows_15 : axis_of d.height d.settings.down ≢ d.kept.rows → d.answer ≡ refused 15
   other_rows_15 other = draw_differing_15 ran shared (λ held. other held.rows)
 
 -- ---- films that fitted before
 
 -- such a film that prepare accepted
-module _ {p : PrepareCall} {r : MapRecord} {foot : Footer} (ran : Prepares p) (prepared : prepared_says p.answer ≡ accepted (r, foot))
+module _ {p : PrepareCall} {r : MapRecord} {foot : Footer} (ran : Prepares p) (prepared : p.answer ≡ accepted (r, foot))
     (fitted : Fitted p.width p.height p.settings) where
   -- the mappings that it leaves (at the factor 1.0 it leaves the map buffer) and the footer are those of the rule before
   pub fitted_prepared : (p.map' ≡ cond (clip_one_of p.settings.clip) p.map (onto p.map (fit_mappings p.width p.height p.pixels p.settings)))
@@ -46,7 +44,7 @@ module _ {p : PrepareCall} {r : MapRecord} {foot : Footer} (ran : Prepares p) (p
   fitted_prepared = ended_fitted p (prepare_ends ran) prepared fitted
 
 -- such a film that enhance accepted
-module _ {e : EnhanceCall} {foot : Footer} (ran : Enhances e) (enhanced : enhanced_says e.answer ≡ accepted foot)
+module _ {e : EnhanceCall} {foot : Footer} (ran : Enhances e) (enhanced : e.answer ≡ accepted foot)
     (fitted : Fitted e.width e.height e.settings) where
   -- each pixel of the picture that it leaves is the one of the rule before
   pub fitted_enhanced : clip_one_of e.settings.clip ≡ false → (i j : ℕ) → i < e.width → j < e.height

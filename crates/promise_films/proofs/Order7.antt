@@ -14,7 +14,6 @@ use Rattle.film_settings.specs.declared.MapRecord.{MapRecord}
 use Rattle.film_settings.specs.declared.Footer.{Footer}
 use Rattle.film_settings.specs.Settings.{clip_one_of}
 use Rattle.film_tiles.specs.Tiles.{spent_entries}
-use Rattle.film_prepare.specs.Prepare.{prepared_says, enhanced_says}
 use Rattle.promise_films.specs.Films.{ClippingOn}
 use Rattle.promise_films.specs.Looks.{FilmLooks, NoLooks, ListShort}
 use Rattle.promise_films.proofs.Accepted.{says_refused, refused_says}
@@ -25,7 +24,7 @@ use Rattle.promise_films.proofs.Looks.{ended_looks, ended_looks_off, ended_list_
 -- ---- the list
 
 -- a film that prepare accepted
-module _ {p : PrepareCall} {r : MapRecord} {foot : Footer} (ran : Prepares p) (prepared : prepared_says p.answer ≡ accepted (r, foot)) where
+module _ {p : PrepareCall} {r : MapRecord} {foot : Footer} (ran : Prepares p) (prepared : p.answer ≡ accepted (r, foot)) where
   -- "each tile in row order has two entries: E, and the number of looks .. it is 0 when r is 0 and never more than r x B x (B + 1) / 2": of every tile, with a factor above one, in our edition
   pub prepared_looks : {f : Float} → ClippingOn p.settings.clip f → p.settings.edition ≡ Ours → FilmLooks p.width p.height p.pixels p.settings f p.list'
   prepared_looks on ours = ended_looks p (prepare_ends ran) prepared on ours
@@ -50,14 +49,14 @@ module _ {p : PrepareCall} {r : MapRecord} {foot : Footer} (ran : Prepares p) (p
 
 -- prepare gives 32 exactly where no row before it applies and the list is shorter than twice the tiles, whatever the clip setting is
 pub prepare_32_exactly : {p : PrepareCall} → Prepares p
-    → (prepared_says p.answer ≡ refused 32 → ListShort p.width p.height p.pixels p.settings (length p.map) (length p.scratch) (length p.list))
-    × (ListShort p.width p.height p.pixels p.settings (length p.map) (length p.scratch) (length p.list) → prepared_says p.answer ≡ refused 32)
+    → (p.answer ≡ refused 32 → ListShort p.width p.height p.pixels p.settings (length p.map) (length p.scratch) (length p.list))
+    × (ListShort p.width p.height p.pixels p.settings (length p.map) (length p.scratch) (length p.list) → p.answer ≡ refused 32)
 prepare_32_exactly {p} ran = (
   λ q. table_32 p.width p.height p.pixels p.settings _ _ _ (says_refused _ _ (sym (prepare_says ran) ∙ q)),
   λ short. prepare_says ran ∙ refused_says _ _ (table_short p.width p.height p.pixels p.settings _ _ _ short),
 )
 
 -- enhance, which is lent no list, never does
-pub enhance_never_32 : {e : EnhanceCall} → Enhances e → enhanced_says e.answer ≢ refused 32
+pub enhance_never_32 : {e : EnhanceCall} → Enhances e → e.answer ≢ refused 32
 enhance_never_32 {e} ran q =
     over_never_32 e.width e.height e.pixels e.settings (length e.map) (length e.scratch) (says_refused _ _ (sym (enhance_says ran) ∙ q))

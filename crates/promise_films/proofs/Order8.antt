@@ -14,8 +14,6 @@ use Rattle.film_settings.specs.declared.Footer.{Footer}
 use Rattle.film_settings.specs.Settings.{bins_of, shared_rows}
 use Rattle.film_tiles.specs.Tiles.{pixels_in}
 use Rattle.film_count.specs.Counting.{raw_counts}
-use Rattle.film_prepare.specs.Prepare.{prepared_says, enhanced_says}
-use Rattle.film_draw.specs.Draw.{drawn_says}
 use Rattle.promise_films.specs.Films.{ClippingOn}
 use Rattle.promise_films.proofs.Runs.{PrepareCall, Prepares, prepare_ends, EnhanceCall, Enhances, enhance_ends, DrawCall, Draws}
 use Rattle.tile_limit.specs.declared.Edition.TheVariants.{Of1986}
@@ -32,13 +30,13 @@ use Rattle.promise_films.proofs.Whole.{whole_off_by_rule, whole_tiles_older}
 -- the pixels and the map entries
 module _ {d : DrawCall} (ran : Draws d) (shared : first (shared_rows d.width d.height (length d.pixels) d.settings (length d.map)) ≡ 0) where
   -- in the edition: order 8, "The edition is a setting, so it is part of what 15 compares.", with clip off and at the factor 1.0 too
-  pub other_edition_15 : d.settings.edition ≢ d.kept.settings.edition → drawn_says d.answer ≡ refused 15
+  pub other_edition_15 : d.settings.edition ≢ d.kept.settings.edition → d.answer ≡ refused 15
   other_edition_15 other = draw_differing_15 ran shared (λ held. other held.edition)
 
 -- ---- clip off
 
 -- a film that prepare accepted, answering the record r
-module _ {p : PrepareCall} {r : MapRecord} {foot : Footer} (ran : Prepares p) (prepared : prepared_says p.answer ≡ accepted (r, foot)) where
+module _ {p : PrepareCall} {r : MapRecord} {foot : Footer} (ran : Prepares p) (prepared : p.answer ≡ accepted (r, foot)) where
   -- order 8, "Clip off .. stay as in 01": in either edition "the raw counts are mapped", over N
   pub prepared_off_by_rule : p.settings.clip ≡ Off → (k b : ℕ) → k < p.settings.across * p.settings.down → b < bins_of p.settings
       → get_or p.map' (k * bins_of p.settings + b) 0
@@ -46,7 +44,7 @@ module _ {p : PrepareCall} {r : MapRecord} {foot : Footer} (ran : Prepares p) (p
   prepared_off_by_rule = made_off_by_rule (prepare_made ran prepared)
 
 -- a film that enhance accepted
-module _ {e : EnhanceCall} {foot : Footer} (ran : Enhances e) (enhanced : enhanced_says e.answer ≡ accepted foot) where
+module _ {e : EnhanceCall} {foot : Footer} (ran : Enhances e) (enhanced : e.answer ≡ accepted foot) where
   -- order 8, "Clip off .. stay as in 01": in either edition "the raw counts are mapped", over N
   pub enhanced_off_by_rule : e.settings.clip ≡ Off → (k b : ℕ) → k < e.settings.across * e.settings.down → b < bins_of e.settings
       → get_or e.map' (k * bins_of e.settings + b) 0
@@ -56,13 +54,13 @@ module _ {e : EnhanceCall} {foot : Footer} (ran : Enhances e) (enhanced : enhanc
 -- ---- every tile
 
 -- a film that prepare accepted, answering this footer
-module _ {p : PrepareCall} {r : MapRecord} {foot : Footer} (ran : Prepares p) (done : prepared_says p.answer ≡ accepted (r, foot)) where
+module _ {p : PrepareCall} {r : MapRecord} {foot : Footer} (ran : Prepares p) (done : p.answer ≡ accepted (r, foot)) where
   -- order 8, "Here these facts stand in for demand 3.": in the edition of 1986
   pub prepared_tiles_older : {f : Float} → ClippingOn p.settings.clip f → p.settings.edition ≡ Of1986 → FilmOlder p.width p.height p.pixels p.settings f p.map'
   prepared_tiles_older on other = made_tiles_older (prepare_made ran done) on other
 
 -- a film that enhance accepted, answering this footer
-module _ {e : EnhanceCall} {foot : Footer} (ran : Enhances e) (done : enhanced_says e.answer ≡ accepted foot) where
+module _ {e : EnhanceCall} {foot : Footer} (ran : Enhances e) (done : e.answer ≡ accepted foot) where
   -- order 8, in that of 1986
   pub enhanced_tiles_older : {f : Float} → ClippingOn e.settings.clip f → e.settings.edition ≡ Of1986 → FilmOlder e.width e.height e.pixels e.settings f e.map'
   enhanced_tiles_older on other = whole_tiles_older e (enhance_ends ran) done on other
@@ -70,7 +68,7 @@ module _ {e : EnhanceCall} {foot : Footer} (ran : Enhances e) (done : enhanced_s
 -- ---- order 7's list
 
 -- a film that prepare accepted
-module _ {p : PrepareCall} {r : MapRecord} {foot : Footer} (ran : Prepares p) (prepared : prepared_says p.answer ≡ accepted (r, foot)) where
+module _ {p : PrepareCall} {r : MapRecord} {foot : Footer} (ran : Prepares p) (prepared : p.answer ≡ accepted (r, foot)) where
   -- order 8, "In order 7's list E is what stands above C, and the looks are 0 here": in that of 1986
   pub prepared_looks_older : {f : Float} → ClippingOn p.settings.clip f → p.settings.edition ≡ Of1986 → FilmOlderLooks p.width p.height p.pixels p.settings f p.list'
   prepared_looks_older on other = ended_looks_older p (prepare_ends ran) prepared on other

@@ -29,11 +29,11 @@ use Rattle.pixel_render.proofs.Laws.{render_at, window_law}
 use Rattle.film_tiles.specs.Tiles.{tile_of, pixels_in, mappings, Work, TilesReady}
 use Rattle.film_tiles.proofs.Tiles.{length_tile_greys}
 use Rattle.film_count.specs.Counting.{raw_counts}
-use Rattle.film_prepare.specs.Prepare.{prepared_says, enhanced_says, PrepareOut, prepare_of, prepared_of, EnhanceOut, enhance_of, enhanced_of}
+use Rattle.film_prepare.specs.Prepare.{PrepareOut, prepare_of, prepared_of, EnhanceOut, enhance_of, enhanced_of}
 use Rattle.film_prepare.proofs.Table.{rows_any}
 use Rattle.film_tiles.proofs.Films.{length_mappings, mappings_own}
 use Rattle.film_prepare.proofs.Renders.{laid_mapped, laid_render}
-use Rattle.film_draw.specs.Draw.{draw_rows, drawn_says, DrawOut, draw_of}
+use Rattle.film_draw.specs.Draw.{draw_rows, DrawOut, draw_of}
 use Rattle.pixel_rule.specs.Rule.{rule_grey}
 use Rattle.pixel_rule.proofs.Rule.{rendered_rule}
 use Rattle.promise_films.specs.Films.{clipped_counts, divides_in, HandedOn}
@@ -76,7 +76,7 @@ laid_own w h pic s m k b l q =
 -- "the one that the integer rule of document 01 gives for that film's own pixels and settings": the map entry of tile k and bin b that prepare leaves
 -- is the mapped value of that tile's own clipped counts, over N or, in the edition of 1986, T, for every tile and bin
 pub own_mapping : (film w h : ℕ) (pic : List ℕ) (s : Settings) (m t n : List ℕ) {r : MapRecord} {foot : Footer}
-    → prepared_says (prepare_of film w h pic s m t n).answer ≡ accepted (r, foot) → clip_one_of s.clip ≡ false → (k b : ℕ) → k < s.across * s.down → b < bins_of s
+    → (prepare_of film w h pic s m t n).answer ≡ accepted (r, foot) → clip_one_of s.clip ≡ false → (k b : ℕ) → k < s.across * s.down → b < bins_of s
     → get_or (prepare_of film w h pic s m t n).map (k * bins_of s + b) 0 ≡ mapped_of s.min s.max (divides_in w h pic s k) (clipped_counts w h pic s k) b
 unfolding prepared_of
 own_mapping film w h pic s m t n e one k b l q =
@@ -86,7 +86,7 @@ own_mapping film w h pic s m t n e one k b l q =
 
 -- the same of the map entries that enhance leaves
 pub own_mapping_enhance : (w h : ℕ) (pic : List ℕ) (s : Settings) (m t : List ℕ) {foot : Footer}
-    → enhanced_says (enhance_of w h pic s m t).answer ≡ accepted foot → clip_one_of s.clip ≡ false → (k b : ℕ) → k < s.across * s.down → b < bins_of s
+    → (enhance_of w h pic s m t).answer ≡ accepted foot → clip_one_of s.clip ≡ false → (k b : ℕ) → k < s.across * s.down → b < bins_of s
     → get_or (enhance_of w h pic s m t).map (k * bins_of s + b) 0 ≡ mapped_of s.min s.max (divides_in w h pic s k) (clipped_counts w h pic s k) b
 unfolding enhanced_of
 own_mapping_enhance w h pic s m t e one k b l q =
@@ -106,7 +106,7 @@ laid_grey m {w} {h} {pic} {s} asks x y l k g =
 -- "The rendering of every accepted film is the one that the integer rule of document 01 gives for that film's own pixels and settings: whole":
 -- each pixel of enhance's picture
 pub own_rendering : (w h : ℕ) (pic : List ℕ) (s : Settings) (m t : List ℕ) {foot : Footer}
-    → enhanced_says (enhance_of w h pic s m t).answer ≡ accepted foot → clip_one_of s.clip ≡ false → (x y : ℕ) → x < w → y < h
+    → (enhance_of w h pic s m t).answer ≡ accepted foot → clip_one_of s.clip ≡ false → (x y : ℕ) → x < w → y < h
     → get_or (enhance_of w h pic s m t).picture (y * w + x) 0 ≡ rule_grey w h pic s x y
 unfolding enhanced_of
 own_rendering w h pic s m t e one x y l k =
@@ -126,16 +126,16 @@ own_rendering w h pic s m t e one x y l k =
 
 -- at the factor 1.0 enhance changes nothing
 pub own_pixels : (w h : ℕ) (pic : List ℕ) (s : Settings) (m t : List ℕ) {foot : Footer}
-    → enhanced_says (enhance_of w h pic s m t).answer ≡ accepted foot → clip_one_of s.clip ≡ true → (enhance_of w h pic s m t).picture ≡ pic
+    → (enhance_of w h pic s m t).answer ≡ accepted foot → clip_one_of s.clip ≡ true → (enhance_of w h pic s m t).picture ≡ pic
 unfolding enhanced_of
 own_pixels w h pic s m t e one =
     ap (λ (a : EnhanceOut). a.picture) (enhance_done w h pic s m t e) ∙ ap (λ o. cond o pic (render_of w h s (mappings w h pic s) (whole w h) pic)) one
 
 -- ---- a window from what prepare left
 
-module _ (film w h : ℕ) (pic : List ℕ) (s : Settings) (m t n : List ℕ) {r : MapRecord} {foot : Footer} (done : prepared_says (prepare_of film w h pic s m t n).answer ≡ accepted (r, foot)) where
+module _ (film w h : ℕ) (pic : List ℕ) (s : Settings) (m t n : List ℕ) {r : MapRecord} {foot : Footer} (done : (prepare_of film w h pic s m t n).answer ≡ accepted (r, foot)) where
   -- what prepare accepts enhance accepts, with the same footer, where its buffers are long enough
-  pub enhance_agrees : (m₂ t₂ : List ℕ) → entries_of s ≤ length m₂ → bins_of s ≤ length t₂ → enhanced_says (enhance_of w h pic s m₂ t₂).answer ≡ accepted foot
+  pub enhance_agrees : (m₂ t₂ : List ℕ) → entries_of s ≤ length m₂ → bins_of s ≤ length t₂ → (enhance_of w h pic s m₂ t₂).answer ≡ accepted foot
   enhance_agrees m₂ t₂ room scratch =
       table_says (enhance_table w h pic s m₂ t₂)
       ∙ ap₂ says (rows_any w h pic s (length m) (length t) (length m₂) (length t₂) (length n) (prepare_accepts film w h pic s m t n done) room scratch) (prepare_foot film w h pic s m t n done)
@@ -154,9 +154,9 @@ module _ (film w h : ℕ) (pic : List ℕ) (s : Settings) (m t n : List ℕ) {r 
     draw_none = draw_free film w h pic s m t n done win (length out) handed.wide handed.high handed.across handed.down handed.area
 
     -- it accepts a window inside the film, and an output of its area, with the record and the mappings that prepare left
-    pub draw_agrees : drawn_says (draw_of film w h pic s' r win m' out).answer ≡ accepted tt
+    pub draw_agrees : (draw_of film w h pic s' r win m' out).answer ≡ accepted tt
     draw_agrees =
-        ap (λ (x : DrawOut). drawn_says x.answer) draw_same
+        ap (λ (x : DrawOut). x.answer) draw_same
         ∙ table_says (draw_table film w h pic s r win (prepare_of film w h pic s m t n).map out)
         ∙ ap (λ n. says n tt) draw_none
 

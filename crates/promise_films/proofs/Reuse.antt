@@ -22,7 +22,7 @@ use Rattle.film_settings.proofs.Like.{bins_kept, kept_same}
 use Rattle.film_settings.proofs.Records.{record_settings}
 use Rattle.pixel_render.specs.Render.{rect_of}
 use Rattle.film_tiles.specs.Tiles.{mappings, Work, TilesReady}
-use Rattle.film_prepare.specs.Prepare.{prepared_says, PrepareOut, prepare_of, prepared_of}
+use Rattle.film_prepare.specs.Prepare.{PrepareOut, prepare_of, prepared_of}
 use Rattle.film_prepare.proofs.Table.{table_both}
 use Rattle.film_tiles.proofs.Films.{length_mappings, mappings_within}
 use Rattle.film_prepare.proofs.Renders.{laid_front}
@@ -42,7 +42,7 @@ window_greys p w h pic win whole across down g =
 
 -- ---- what prepare left
 
-module _ (film w h : ℕ) (pic : List ℕ) (s : Settings) (m t n : List ℕ) {r : MapRecord} {foot : Footer} (done : prepared_says (prepare_of film w h pic s m t n).answer ≡ accepted (r, foot)) where
+module _ (film w h : ℕ) (pic : List ℕ) (s : Settings) (m t n : List ℕ) {r : MapRecord} {foot : Footer} (done : (prepare_of film w h pic s m t n).answer ≡ accepted (r, foot)) where
   -- at the factor 1.0 the map buffer stays; else it holds the mappings
   pub left_map : (prepare_of film w h pic s m t n).map ≡ cond (clip_one_of s.clip) m (onto m (mappings w h pic s))
   unfolding prepared_of

@@ -6,6 +6,8 @@ use Prim.Native.Nat.{ℕ}
 use mathlib.Core.List.{List}
 use mathlib.Core.Path.{◌≡◌}
 use lib.ListN.{take}
+use Rattle.base_rows.specs.Given.{said}
+use Rattle.base_rows.specs.Refuse.{Says}
 use Rattle.base_rows.specs.Run.{Run, Ran}
 use Rattle.tile_limit.specs.declared.Clip.{Clip}
 use Rattle.tile_limit.specs.declared.Judged.{Judged}
@@ -16,21 +18,16 @@ use Rattle.film_settings.specs.declared.Settings.{Settings}
 use Rattle.film_settings.specs.declared.MapRecord.{MapRecord}
 use Rattle.film_settings.specs.declared.Window.{Window}
 use Rattle.film_settings.specs.Settings.{entries_of, kept_of, kept_record}
-use Rattle.film_prepare.specs.declared.Prepared.{Prepared}
-use Rattle.film_prepare.specs.declared.Enhanced.{Enhanced}
-use Rattle.film_prepare.specs.Prepare.{prepare_leaves, prepare_of, enhance_leaves, enhance_of}
+use Rattle.film_settings.specs.declared.Footer.{Footer}
+use Rattle.film_prepare.specs.Prepare.{prepared_says, prepare_leaves, prepare_of, enhance_leaves, enhance_of}
 use Rattle.film_prepare.proofs.prepare.Kinds as prepare
 use Rattle.film_prepare.proofs.prepare.Reads as prepare-reads
 use Rattle.film_prepare.proofs.enhance.Kinds as enhance
 use Rattle.film_prepare.proofs.enhance.Reads as enhance-reads
-use Rattle.film_draw.specs.declared.Drawn.{Drawn}
 use Rattle.film_draw.specs.Draw.{draw_leaves, draw_of}
 use Rattle.film_draw.proofs.draw.Kinds as draw
 use Rattle.film_draw.proofs.draw.Reads as draw-reads
-use Rattle.pgm_read.specs.declared.Sizes.{Sizes}
-use Rattle.pgm_greys.specs.declared.Turned.{Turned}
-use Rattle.pgm_write.specs.declared.Written.{Written}
-use Rattle.pgm_read.specs.Pgm.{read_of, sizes_of, raster_of}
+use Rattle.pgm_read.specs.Pgm.{sizes_says, read_of, sizes_of, raster_of}
 use Rattle.pgm_greys.specs.Greys.{turned_of, greys_leave}
 use Rattle.pgm_write.specs.Write.{write_of, write_leaves}
 use Rattle.pgm_read.proofs.read_sizes.Kinds as sizes
@@ -53,7 +50,7 @@ pub record PrepareCall : Type 0 where
   pub map : List ℕ
   pub scratch : List ℕ
   pub list : List ℕ
-  pub answer : Prepared
+  pub answer : Says (MapRecord × Footer)
   pub map' : List ℕ
   pub scratch' : List ℕ
   pub list' : List ℕ
@@ -62,7 +59,7 @@ abbrev pub prepare_values : Run prepare.ps prepare.r prepare-reads.Post → Prep
 prepare_values run =
     let (film, (width, (height, (pixels, (settings, (map, (scratch, (list, end)))))))) = run.handed in
     let (_, (_, (_, (_, (_, (map', (scratch', (list', end')))))))) = run.left in
-    record { film = film; width = width; height = height; pixels = pixels.now; settings = settings; map = map.now; scratch = scratch.now; list = list.now; answer = run.answer; map' = map'.now; scratch' = scratch'.now; list' = list'.now }
+    record { film = film; width = width; height = height; pixels = pixels.now; settings = settings; map = map.now; scratch = scratch.now; list = list.now; answer = prepared_says run.answer; map' = map'.now; scratch' = scratch'.now; list' = list'.now }
 
 -- what it is handed
 abbrev pub prepare_arguments : PrepareCall → ℕ × ℕ × ℕ × List ℕ × Settings × List ℕ × List ℕ × List ℕ
@@ -89,7 +86,7 @@ pub record EnhanceCall : Type 0 where
   pub settings : Settings
   pub map : List ℕ
   pub scratch : List ℕ
-  pub answer : Enhanced
+  pub answer : Says Footer
   pub pixels' : List ℕ
   pub map' : List ℕ
   pub scratch' : List ℕ
@@ -98,7 +95,7 @@ abbrev pub enhance_values : Run enhance.ps enhance.r enhance-reads.Post → Enha
 enhance_values run =
     let (width, (height, (pixels, (settings, (map, (scratch, end)))))) = run.handed in
     let (_, (_, (pixels', (_, (map', (scratch', end')))))) = run.left in
-    record { width = width; height = height; pixels = pixels.now; settings = settings; map = map.now; scratch = scratch.now; answer = run.answer; pixels' = pixels'.now; map' = map'.now; scratch' = scratch'.now }
+    record { width = width; height = height; pixels = pixels.now; settings = settings; map = map.now; scratch = scratch.now; answer = said run.answer; pixels' = pixels'.now; map' = map'.now; scratch' = scratch'.now }
 
 -- what it is handed
 abbrev pub enhance_arguments : EnhanceCall → ℕ × ℕ × List ℕ × Settings × List ℕ × List ℕ
@@ -129,14 +126,14 @@ pub record DrawCall : Type 0 where
   pub window : Window
   pub map : List ℕ
   pub out : List ℕ
-  pub answer : Drawn
+  pub answer : Says (Unit {0})
   pub out' : List ℕ
 
 abbrev pub draw_values : Run draw.ps draw.r draw-reads.Post → DrawCall
 draw_values run =
     let (film, (width, (height, (pixels, (settings, (kept, (window, (map, (out, end))))))))) = run.handed in
     let (_, (_, (_, (_, (_, (_, (_, (_, (out', end'))))))))) = run.left in
-    record { film = film; width = width; height = height; pixels = pixels.now; settings = settings; kept = kept; window = window; map = map.now; out = out.now; answer = run.answer; out' = out'.now }
+    record { film = film; width = width; height = height; pixels = pixels.now; settings = settings; kept = kept; window = window; map = map.now; out = out.now; answer = said run.answer; out' = out'.now }
 
 -- what it is handed
 abbrev pub draw_arguments : DrawCall → ℕ × ℕ × ℕ × List ℕ × Settings × MapRecord × Window × List ℕ × List ℕ
@@ -168,10 +165,10 @@ draw_ends ran = rw ran.named ran.run.allowed
 
 pub record SizesCall : Type 0 where
   pub bytes : List ℕ
-  pub answer : Sizes
+  pub answer : Says (ℕ × ℕ × ℕ)
 
 abbrev pub sizes_values : Run sizes.ps sizes.r sizes-reads.Post → SizesCall
-sizes_values run = let (bytes, end) = run.handed in record { bytes = bytes.now; answer = run.answer }
+sizes_values run = let (bytes, end) = run.handed in record { bytes = bytes.now; answer = sizes_says run.answer }
 
 -- read, asked for the sizes, ran with these values
 abbrev pub ReadsSizes : SizesCall → Type 0
@@ -209,14 +206,14 @@ pub record GreysCall : Type 0 where
   pub height : ℕ
   pub maxval : ℕ
   pub target : List ℕ
-  pub answer : Turned
+  pub answer : Says (Unit {0})
   pub target' : List ℕ
 
 abbrev pub greys_values : Run greys.ps greys.r greys-reads.Post → GreysCall
 greys_values run =
     let (bytes, (start, (width, (height, (maxval, (target, end)))))) = run.handed in
     let (_, (_, (_, (_, (_, (target', end')))))) = run.left in
-    record { bytes = bytes.now; start = start; width = width; height = height; maxval = maxval; target = target.now; answer = run.answer; target' = target'.now }
+    record { bytes = bytes.now; start = start; width = width; height = height; maxval = maxval; target = target.now; answer = said run.answer; target' = target'.now }
 
 -- what it is handed
 abbrev pub greys_arguments : GreysCall → List ℕ × ℕ × ℕ × ℕ × ℕ × List ℕ
@@ -237,14 +234,14 @@ pub record WriteCall : Type 0 where
   pub height : ℕ
   pub maxval : ℕ
   pub out : List ℕ
-  pub answer : Written
+  pub answer : Says ℕ
   pub out' : List ℕ
 
 abbrev pub write_values : Run write.ps write.r write-reads.Post → WriteCall
 write_values run =
     let (pixels, (width, (height, (maxval, (out, end))))) = run.handed in
     let (_, (_, (_, (_, (out', end'))))) = run.left in
-    record { pixels = pixels.now; width = width; height = height; maxval = maxval; out = out.now; answer = run.answer; out' = out'.now }
+    record { pixels = pixels.now; width = width; height = height; maxval = maxval; out = out.now; answer = said run.answer; out' = out'.now }
 
 -- what it is handed
 abbrev pub write_arguments : WriteCall → List ℕ × ℕ × ℕ × ℕ × List ℕ

@@ -36,7 +36,7 @@ use Rattle.film_settings.specs.declared.MapRecord.{MapRecord}
 use Rattle.film_settings.specs.declared.Footer.{Footer}
 use Rattle.film_settings.specs.Settings.{bins_of, clip_bad_of, clip_one_of, Tiled}
 use Rattle.film_tiles.specs.Tiles.{tile_of, pixels_in, foot_of, FilmFooterAsks, FooterAsks, Work, TilesReady}
-use Rattle.film_prepare.specs.Prepare.{prepared_says, enhanced_says, prepare_of, enhance_of}
+use Rattle.film_prepare.specs.Prepare.{prepare_of, enhance_of}
 use Rattle.film_tiles.proofs.Footers.{footer_asks, film_asks, footer_off, footer_one, footer_above, foot_is}
 use Rattle.film_tiles.proofs.Tiles.{tile_area, tile_pixels_some}
 use Rattle.film_tiles.proofs.Films.{tile_greys, rect_holds}
@@ -206,28 +206,28 @@ module _ {w h : ℕ} {pic : List ℕ} {s : Settings} {room scratch : ℕ} (work 
 
 -- demand 3, of prepare in our edition: every tile of an accepted film with a factor above one, with its own limit, and the map entries that prepare leaves for it
 pub tiles_sound : (film w h : ℕ) (pic : List ℕ) (s : Settings) (m t n : List ℕ) {r : MapRecord} {foot : Footer} {f : Float}
-    → prepared_says (prepare_of film w h pic s m t n).answer ≡ accepted (r, foot) → ClippingOn s.clip f → s.edition ≡ Ours
+    → (prepare_of film w h pic s m t n).answer ≡ accepted (r, foot) → ClippingOn s.clip f → s.edition ≡ Ours
     → FilmSound w h pic s f (prepare_of film w h pic s m t n).map
 tiles_sound film w h pic s m t n e on ours k l =
     tile_sound (prepare_work film w h pic s m t n e) on ours k l _ (λ i q. own_mapping film w h pic s m t n e (on_not_one on) k i l q)
 
 -- the same of enhance
 pub tiles_sound_enhance : (w h : ℕ) (pic : List ℕ) (s : Settings) (m t : List ℕ) {foot : Footer} {f : Float}
-    → enhanced_says (enhance_of w h pic s m t).answer ≡ accepted foot → ClippingOn s.clip f → s.edition ≡ Ours
+    → (enhance_of w h pic s m t).answer ≡ accepted foot → ClippingOn s.clip f → s.edition ≡ Ours
     → FilmSound w h pic s f (enhance_of w h pic s m t).map
 tiles_sound_enhance w h pic s m t e on ours k l =
     tile_sound (enhance_work w h pic s m t e) on ours k l _ (λ i q. own_mapping_enhance w h pic s m t e (on_not_one on) k i l q)
 
 -- order 8, of prepare in the edition of 1986: "Here these facts stand in for demand 3."
 pub tiles_older : (film w h : ℕ) (pic : List ℕ) (s : Settings) (m t n : List ℕ) {r : MapRecord} {foot : Footer} {f : Float}
-    → prepared_says (prepare_of film w h pic s m t n).answer ≡ accepted (r, foot) → ClippingOn s.clip f → s.edition ≡ Of1986
+    → (prepare_of film w h pic s m t n).answer ≡ accepted (r, foot) → ClippingOn s.clip f → s.edition ≡ Of1986
     → FilmOlder w h pic s f (prepare_of film w h pic s m t n).map
 tiles_older film w h pic s m t n e on other k l =
     tile_older (prepare_work film w h pic s m t n e) on other k l _ (λ i q. own_mapping film w h pic s m t n e (on_not_one on) k i l q)
 
 -- the same of enhance
 pub tiles_older_enhance : (w h : ℕ) (pic : List ℕ) (s : Settings) (m t : List ℕ) {foot : Footer} {f : Float}
-    → enhanced_says (enhance_of w h pic s m t).answer ≡ accepted foot → ClippingOn s.clip f → s.edition ≡ Of1986
+    → (enhance_of w h pic s m t).answer ≡ accepted foot → ClippingOn s.clip f → s.edition ≡ Of1986
     → FilmOlder w h pic s f (enhance_of w h pic s m t).map
 tiles_older_enhance w h pic s m t e on other k l =
     tile_older (enhance_work w h pic s m t e) on other k l _ (λ i q. own_mapping_enhance w h pic s m t e (on_not_one on) k i l q)
@@ -265,13 +265,13 @@ clip_cases {s = s} work = clip_case s.clip work.ready.clip
 -- the footer that prepare hands back: with a factor above one it shows the limit of tile 0, 0, the factor asked and the factor used of that limit,
 -- with clip off and at 1.0 what document 01 says
 pub footer_shows : (film w h : ℕ) (pic : List ℕ) (s : Settings) (m t n : List ℕ) {r : MapRecord} {foot : Footer}
-    → prepared_says (prepare_of film w h pic s m t n).answer ≡ accepted (r, foot) → FooterShows s.clip (pixels_in w h s 0) (bins_of s) foot
+    → (prepare_of film w h pic s m t n).answer ≡ accepted (r, foot) → FooterShows s.clip (pixels_in w h s 0) (bins_of s) foot
 footer_shows film w h pic s m t n e =
     subst (FooterShows s.clip (pixels_in w h s 0) (bins_of s)) (prepare_foot film w h pic s m t n e) (foot_shows (film_asks (prepare_work film w h pic s m t n e).ready))
 
 -- and so does the one of enhance
 pub footer_shows_enhance : (w h : ℕ) (pic : List ℕ) (s : Settings) (m t : List ℕ) {foot : Footer}
-    → enhanced_says (enhance_of w h pic s m t).answer ≡ accepted foot → FooterShows s.clip (pixels_in w h s 0) (bins_of s) foot
+    → (enhance_of w h pic s m t).answer ≡ accepted foot → FooterShows s.clip (pixels_in w h s 0) (bins_of s) foot
 footer_shows_enhance w h pic s m t e =
     subst (FooterShows s.clip (pixels_in w h s 0) (bins_of s)) (enhance_foot w h pic s m t e) (foot_shows (film_asks (enhance_work w h pic s m t e).ready))
 

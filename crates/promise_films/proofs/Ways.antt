@@ -8,18 +8,14 @@ use lib.ListN.{length, get_or, take, drop}
 use Rattle.base_rows.specs.Refuse.{accepted, refused}
 use Rattle.film_settings.specs.declared.Footer.{Footer}
 use Rattle.film_settings.specs.Settings.{bins_of, entries_of, kept_of, clip_one_of}
-use Rattle.film_prepare.specs.Prepare.{prepared_says}
-use Rattle.film_draw.specs.Draw.{drawn_says}
 use Rattle.promise_films.specs.Films.{HandedOn}
 use Rattle.promise_films.proofs.Runs.{PrepareCall, Prepares, EnhanceCall, Enhances, DrawCall, Draws, SizesCall, ReadsSizes, RasterCall, ReadsRaster, GreysCall, Greys, WriteCall, Writes}
-use Rattle.pgm_read.specs.Pgm.{sizes_says}
-use Rattle.pgm_write.specs.Write.{written_says}
 
 -- ---- a record of another film
 
 -- draw says a number above 0, and the output holds what it held
 abbrev pub Refuses : DrawCall → Type 0
-Refuses d = (n : ℕ) × (0 < n) × (drawn_says d.answer ≡ refused n) × (d.out' ≡ d.out)
+Refuses d = (n : ℕ) × (0 < n) × (d.answer ≡ refused n) × (d.out' ≡ d.out)
 
 -- ---- what prepare left
 
@@ -27,7 +23,7 @@ Refuses d = (n : ℕ) × (0 < n) × (drawn_says d.answer ≡ refused n) × (d.ou
 -- the mappings that prepare left, a window inside the film and an output of its area
 pub record HandedToDraw (p : PrepareCall) (foot : Footer) (d : DrawCall) : Type 0 where
   pub prepares : Prepares p
-  pub prepared : prepared_says p.answer ≡ accepted (d.kept, foot)
+  pub prepared : p.answer ≡ accepted (d.kept, foot)
   pub draws : Draws d
   pub film : d.film ≡ p.film
   pub width : d.width ≡ p.width
@@ -39,9 +35,9 @@ pub record HandedToDraw (p : PrepareCall) (foot : Footer) (d : DrawCall) : Type 
 -- and draw accepted d, handed the record that prepare answered, the same pixels and, but at the factor 1.0, the mappings that it left, whatever else
 pub record DrawnFrom (p : PrepareCall) (foot : Footer) (d : DrawCall) : Type 0 where
   pub prepares : Prepares p
-  pub prepared : prepared_says p.answer ≡ accepted (d.kept, foot)
+  pub prepared : p.answer ≡ accepted (d.kept, foot)
   pub draws : Draws d
-  pub drawn : drawn_says d.answer ≡ accepted tt
+  pub drawn : d.answer ≡ accepted tt
   pub pixels : d.pixels ≡ p.pixels
   pub mappings : clip_one_of p.settings.clip ≡ false → take (entries_of p.settings) d.map ≡ take (entries_of p.settings) p.map'
 
@@ -73,10 +69,10 @@ pub record ReadTwice (z : SizesCall) (k : RasterCall) : Type 0 where
 -- and bytes in which the raster stands from the start on
 pub record ReadBack (c : WriteCall) (n : ℕ) (z : SizesCall) (k : RasterCall) (g : GreysCall) : Type 0 where
   pub writes : Writes c
-  pub written : written_says c.answer ≡ accepted n
+  pub written : c.answer ≡ accepted n
   pub reads : ReadTwice z k
   pub file : k.bytes ≡ take n c.out'
   pub turns : Greys g
-  pub sizes : sizes_says z.answer ≡ accepted (g.width, g.height, g.maxval)
+  pub sizes : z.answer ≡ accepted (g.width, g.height, g.maxval)
   pub raster : drop g.start g.bytes ≡ k.part
   pub room : g.width * g.height ≤ length g.target

@@ -14,7 +14,7 @@ use Rattle.film_settings.specs.declared.Footer.{Footer}
 use Rattle.film_settings.specs.Settings.{bins_of, clip_one_of}
 use Rattle.film_tiles.specs.Tiles.{pixels_in, Work}
 use Rattle.film_count.specs.Counting.{raw_counts}
-use Rattle.film_prepare.specs.Prepare.{enhanced_says, EnhanceOut, enhance_of}
+use Rattle.film_prepare.specs.Prepare.{EnhanceOut, enhance_of}
 use Rattle.pixel_rule.specs.Rule.{rule_grey}
 use Rattle.promise_films.specs.Films.{clipped_counts, divides_in, ClippingOn, ClipCase, FooterShows, limit_in, FilmSound, LimitFits, BinsReached}
 use Rattle.promise_films.specs.Older.{FilmOlder}
@@ -25,8 +25,8 @@ use Rattle.promise_films.proofs.Bins.{tiled_reached}
 use Rattle.promise_films.proofs.Runs.{EnhanceCall}
 use Rattle.promise_films.proofs.Ended.{Rendered, rendered_accepted}
 
-module _ (e : EnhanceCall) {foot : Footer} (rendered : Rendered e) (enhanced : enhanced_says e.answer ≡ accepted foot) where
-  done : enhanced_says (enhance_of e.width e.height e.pixels e.settings e.map e.scratch).answer ≡ accepted foot
+module _ (e : EnhanceCall) {foot : Footer} (rendered : Rendered e) (enhanced : e.answer ≡ accepted foot) where
+  done : (enhance_of e.width e.height e.pixels e.settings e.map e.scratch).answer ≡ accepted foot
   done = rendered_accepted e rendered enhanced
 
   -- what its call knows

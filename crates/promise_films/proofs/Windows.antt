@@ -14,10 +14,9 @@ use Rattle.film_settings.specs.declared.Footer.{Footer}
 use Rattle.film_settings.specs.declared.Window.{Window}
 use Rattle.film_settings.specs.Settings.{bins_of, entries_of, record_of, clip_one_of, same_clip_of}
 use Rattle.pixel_render.specs.Render.{render_of, rect_of}
-use Rattle.film_prepare.specs.Prepare.{prepared_says, prepare_of, enhance_of}
-use Rattle.film_draw.specs.declared.Drawn.TheVariants.{Done}
+use Rattle.film_prepare.specs.Prepare.{prepare_of, enhance_of}
 use Rattle.film_record.specs.Held.{Held}
-use Rattle.film_draw.specs.Draw.{drawn_says, DrawOut, draw_leaves, draw_of, DrawReady}
+use Rattle.film_draw.specs.Draw.{DrawOut, draw_leaves, draw_of, DrawReady}
 use Rattle.film_settings.proofs.Clips.{same_clip_one}
 use Rattle.film_settings.proofs.Records.{record_width, record_height, record_settings, record_bins}
 use Rattle.pixel_render.proofs.Laws.{render_fields}
@@ -29,8 +28,8 @@ use Rattle.promise_films.proofs.Accepted.{table_accepted, table_done, prepare_wo
 use Rattle.promise_films.proofs.Rendering.{draw_agrees, drawn_is_enhanced, own_window, drawn_is_film}
 
 -- a window that draw accepted, with the record that prepare made, the pixels as they were then, and the mappings that it left
-module _ (film w h : ℕ) (pic : List ℕ) (s : Settings) (m t n : List ℕ) {r : MapRecord} {foot : Footer} (done : prepared_says (prepare_of film w h pic s m t n).answer ≡ accepted (r, foot))
-    (film' w' h' : ℕ) (s' : Settings) (m' : List ℕ) (win : Window) (out : List ℕ) (drawn : drawn_says (draw_of film' w' h' pic s' r win m' out).answer ≡ accepted tt)
+module _ (film w h : ℕ) (pic : List ℕ) (s : Settings) (m t n : List ℕ) {r : MapRecord} {foot : Footer} (done : (prepare_of film w h pic s m t n).answer ≡ accepted (r, foot))
+    (film' w' h' : ℕ) (s' : Settings) (m' : List ℕ) (win : Window) (out : List ℕ) (drawn : (draw_of film' w' h' pic s' r win m' out).answer ≡ accepted tt)
     (front : clip_one_of s.clip ≡ false → take (entries_of s) m' ≡ take (entries_of s) (prepare_of film w h pic s m t n).map) where
   known : DrawReady film' w' h' pic s' r win m' (length out)
   known = draw_ready film' w' h' pic s' r win m' (length out) (table_accepted (draw_table film' w' h' pic s' r win m' out) drawn).0
@@ -84,7 +83,7 @@ module _ (film w h : ℕ) (pic : List ℕ) (s : Settings) (m t n : List ℕ) {r 
   pub accepted_same : draw_of film' w' h' pic s' r win m' out ≡ draw_of film w h pic s r win m' out
   accepted_same =
       table_done (draw_table film' w' h' pic s' r win m' out) drawn
-      ∙ ap (draw_leaves Done) (drawn_pixels_lem w' h' pic s' win m' ∙ pixels ∙ sym (drawn_pixels_lem w h pic s win m'))
+      ∙ ap (draw_leaves (accepted tt)) (drawn_pixels_lem w' h' pic s' win m' ∙ pixels ∙ sym (drawn_pixels_lem w h pic s win m'))
       ∙ sym (table_done (draw_table film w h pic s r win m' out) (draw_agrees film w h pic s m t n done s m' win out accepted_handed))
     where
       greys : List ℕ

@@ -15,10 +15,10 @@ use Rattle.film_settings.specs.declared.MapRecord.{MapRecord}
 use Rattle.film_settings.specs.declared.Footer.{Footer}
 use Rattle.film_settings.specs.Settings.{bins_of, record_of, clip_one_of}
 use Rattle.film_tiles.specs.Tiles.{foot_of}
-use Rattle.film_prepare.specs.Prepare.{prepared_says, enhanced_says, PrepareOut}
-use Rattle.film_count.specs.Counting.{counts_in, counted_says}
+use Rattle.film_prepare.specs.Prepare.{PrepareOut}
+use Rattle.film_count.specs.Counting.{counts_in}
 use Rattle.film_map.specs.Counts.{map_done_of}
-use Rattle.film_draw.specs.Draw.{drawn_says, DrawOut}
+use Rattle.film_draw.specs.Draw.{DrawOut}
 use Rattle.film_draw.proofs.Tables.{draw_ready}
 use Rattle.promise_films.specs.Fitted.{Fitted, fit_rect, fit_foot}
 use Rattle.promise_films.proofs.Accepted.{draw_table, ended_done, ended_none}
@@ -31,7 +31,7 @@ use Rattle.promise_counts.proofs.Order5.{count_says, map_says, counts_own}
 use Rattle.promise_counts.proofs.Tables.{map_table, counted_tiled, map_told, mapped_asks}
 use Rattle.promise_fitted.specs.Before.{fit_prepare_rows, fit_enhance_rows, fit_draw_rows, fit_count_rows, fit_map_rows, fit_shown, fit_mappings_from, fit_read_text, fit_listing_of}
 use Rattle.promise_fitted.proofs.Tables.{prepare_same, enhance_same, draw_same, count_same, map_same, old_fitted}
-use Rattle.pgm_header.specs.declared.Head.TheVariants.{Found}
+use Rattle.pgm_header.specs.Header.{Found}
 use Rattle.pgm_header.specs.Header.{header_of}
 use Rattle.pgm_samples.specs.Samples.{is_wide, unpacked}
 use Rattle.pgm_read.specs.Pgm.{read_of}
@@ -46,7 +46,7 @@ use Rattle.promise_fitted.proofs.Listing.{picture_same}
 
 -- of a film whose sides are multiples of its grid: prepare says what the old table gives
 pub fitted_prepare_says : {p : PrepareCall} → Prepares p → Fitted p.width p.height p.settings
-    → prepared_says p.answer
+    → p.answer
     ≡ says (first (fit_prepare_rows p.width p.height p.pixels p.settings (length p.map) (length p.scratch) (length p.list)))
     (record_of p.film p.width p.height p.settings, foot_of p.width p.height p.settings)
 fitted_prepare_says {p} ran fitted =
@@ -56,7 +56,7 @@ fitted_prepare_says {p} ran fitted =
 
 -- so does enhance
 pub fitted_enhance_says : {e : EnhanceCall} → Enhances e → Fitted e.width e.height e.settings
-    → enhanced_says e.answer
+    → e.answer
     ≡ says (first (fit_enhance_rows e.width e.height e.pixels e.settings (length e.map) (length e.scratch))) (foot_of e.width e.height e.settings)
 fitted_enhance_says {e} ran fitted =
     enhance_says ran
@@ -64,19 +64,19 @@ fitted_enhance_says {e} ran fitted =
 
 -- draw
 pub fitted_draw_says : {d : DrawCall} → Draws d → Fitted d.width d.height d.settings
-    → drawn_says d.answer ≡ says (first (fit_draw_rows d.film d.width d.height d.pixels d.settings d.kept d.window d.map (length d.out))) tt
+    → d.answer ≡ says (first (fit_draw_rows d.film d.width d.height d.pixels d.settings d.kept d.window d.map (length d.out))) tt
 fitted_draw_says {d} ran fitted =
     draw_says ran ∙ ap (λ n. says n tt) (draw_same d.width d.height d.settings fitted d.film d.pixels d.kept d.window d.map (length d.out))
 
 -- and counting
 pub fitted_count_says : {c : CountCall} → Counts c → Fitted c.width c.height c.settings
-    → counted_says c.answer ≡ says (first (fit_count_rows c.width c.height c.pixels c.settings (length c.counts))) tt
+    → c.answer ≡ says (first (fit_count_rows c.width c.height c.pixels c.settings (length c.counts))) tt
 fitted_count_says {c} ran fitted =
     count_says ran ∙ ap (λ n. says n tt) (count_same c.width c.height c.settings fitted c.pixels (length c.counts))
 
 -- and mapping, where a tile's counts add up to N as it was
 pub fitted_map_says : {d : MapCall} → Maps d → Fitted d.width d.height d.settings
-    → prepared_says d.answer
+    → d.answer
     ≡ says (first (fit_map_rows d.width d.height d.settings d.counts (length d.map) (length d.scratch) (length d.list)))
     (record_of d.film d.width d.height d.settings, foot_of d.width d.height d.settings)
 fitted_map_says {d} ran fitted =
@@ -87,21 +87,21 @@ fitted_map_says {d} ran fitted =
 -- films that the old table let pass are still accepted: prepare
 pub fitted_accepted : {p : PrepareCall} → Prepares p
     → first (fit_prepare_rows p.width p.height p.pixels p.settings (length p.map) (length p.scratch) (length p.list)) ≡ 0
-    → prepared_says p.answer ≡ accepted (record_of p.film p.width p.height p.settings, foot_of p.width p.height p.settings)
+    → p.answer ≡ accepted (record_of p.film p.width p.height p.settings, foot_of p.width p.height p.settings)
 fitted_accepted {p} ran none =
     fitted_prepare_says ran (old_fitted p.width p.height p.settings (length p.pixels) (length p.map) _ none)
     ∙ ap (λ n. says n (record_of p.film p.width p.height p.settings, foot_of p.width p.height p.settings)) none
 
 -- and draw
 pub fitted_draw_accepted : {d : DrawCall} → Draws d
-    → first (fit_draw_rows d.film d.width d.height d.pixels d.settings d.kept d.window d.map (length d.out)) ≡ 0 → drawn_says d.answer ≡ accepted tt
+    → first (fit_draw_rows d.film d.width d.height d.pixels d.settings d.kept d.window d.map (length d.out)) ≡ 0 → d.answer ≡ accepted tt
 fitted_draw_accepted {d} ran none =
     fitted_draw_says ran (old_fitted d.width d.height d.settings (length d.pixels) (length d.map) _ none) ∙ ap (λ n. says n tt) none
 
 -- ---- a window from any map buffer
 
 -- "from the map entries as lent, whoever wrote them": each drawn pixel is the old rule's of these entries
-pub fitted_drawn_any : {d : DrawCall} → Draws d → drawn_says d.answer ≡ accepted tt → Fitted d.width d.height d.settings → clip_one_of d.settings.clip ≡ false
+pub fitted_drawn_any : {d : DrawCall} → Draws d → d.answer ≡ accepted tt → Fitted d.width d.height d.settings → clip_one_of d.settings.clip ≡ false
     → (j i : ℕ) → j < d.window.height → i < d.window.width
     → drawn_grey d i j
     ≡ fit_shown d.width d.height d.settings d.map (d.window.left + i) (d.window.top + j) (get_or d.pixels ((d.window.top + j) * d.width + (d.window.left + i)) 0)
@@ -112,7 +112,7 @@ fitted_drawn_any {d} ran done fitted one j i l k =
 -- ---- counting and mapping
 
 -- each tile's counts are those of the tile as it was
-pub fitted_counted : {c : CountCall} → Counts c → counted_says c.answer ≡ accepted tt → Fitted c.width c.height c.settings → (k : ℕ) → k < c.settings.across * c.settings.down
+pub fitted_counted : {c : CountCall} → Counts c → c.answer ≡ accepted tt → Fitted c.width c.height c.settings → (k : ℕ) → k < c.settings.across * c.settings.down
     → counts_in c.settings c.counts' k
     ≡ counts_of c.settings.min c.settings.max (bins_of c.settings) (greys_of c.pixels c.width (fit_rect c.width c.height c.settings k))
 fitted_counted {c} ran done fitted k l =
@@ -120,7 +120,7 @@ fitted_counted {c} ran done fitted k l =
     ∙ ap (λ r. counts_of c.settings.min c.settings.max (bins_of c.settings) (greys_of c.pixels c.width r)) ((fitted_film (counted_tiled ran done) fitted c.pixels).tiles k)
 
 -- of any counts, the mappings (at the factor 1.0 the map buffer stays) and the footer are those of before
-pub fitted_mapped : {d : MapCall} {r : MapRecord} {foot : Footer} → Maps d → prepared_says d.answer ≡ accepted (r, foot) → Fitted d.width d.height d.settings
+pub fitted_mapped : {d : MapCall} {r : MapRecord} {foot : Footer} → Maps d → d.answer ≡ accepted (r, foot) → Fitted d.width d.height d.settings
     → (d.map' ≡ cond (clip_one_of d.settings.clip) d.map (onto d.map (fit_mappings_from d.width d.height d.settings d.counts)))
     × (foot ≡ fit_foot d.width d.height d.settings)
 unfolding map_done_of

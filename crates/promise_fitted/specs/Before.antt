@@ -19,8 +19,8 @@ use Rattle.film_count.specs.Counting.{counts_in, counts_rows, outside_rows}
 use Rattle.film_map.specs.Counts.{lent_rows}
 use Rattle.film_record.specs.Held.{record_rows, window_rows}
 use Rattle.film_draw.specs.Draw.{pixel_rows}
-use Rattle.pgm_header.specs.declared.Head.{Head}
-use Rattle.pgm_header.specs.declared.Head.TheVariants.{Found, Refused}
+use Rattle.pgm_header.specs.Header.{Head}
+use Rattle.pgm_header.specs.Header.{Found, Refused}
 use Rattle.pgm_header.specs.Header.{header_of}
 use Rattle.pgm_samples.specs.Samples.{is_wide, unpacked, none_above_of}
 use Rattle.pgm_read.specs.Pgm.{read_of}

@@ -8,12 +8,9 @@ use native.Mathlib.Omega.{arith}
 use lib.ListN.{length, take}
 use Rattle.base_lists.specs.Lists.{onto}
 use Rattle.base_lists.proofs.Fills.{take_onto}
-use Rattle.base_rows.specs.Refuse.{Says, accepted}
-use Rattle.pgm_read.specs.Pgm.{sizes_says}
-use Rattle.pgm_greys.specs.declared.Turned.{Turned}
-use Rattle.pgm_greys.specs.declared.Turned.TheVariants as Turned
-use Rattle.pgm_greys.specs.Greys.{turned_says, greys_leave}
-use Rattle.pgm_write.specs.Write.{WriteReady, file_of, written_says, WriteOut, write_leaves, written_of}
+use Rattle.base_rows.specs.Refuse.{Says, accepted, refused}
+use Rattle.pgm_greys.specs.Greys.{greys_leave}
+use Rattle.pgm_write.specs.Write.{WriteReady, file_of, WriteOut, write_leaves, written_of}
 use Rattle.pgm_write.proofs.Tables.{write_asks}
 use Rattle.pgm_plain_read.specs.PlainRead.{plain_read_as}
 use Rattle.pgm_plain_write.specs.PlainWrite.{plain_file_of}
@@ -21,7 +18,6 @@ use Rattle.pgm_plain_write.proofs.Moves as Left
 use Rattle.promise_films.proofs.Files.{written_none, written_count, written_file, film_written}
 use Rattle.promise_films.proofs.Runs.{GreysCall, Greys, greys_ends, WriteCall}
 use Rattle.promise_plain.proofs.Runs.{PlainReadCall, ReadsPlain, plain_read_ends, WritesPlain, plain_write_ends}
-use Rattle.promise_plain.proofs.Outcomes.{sizes_found_said}
 
 -- ---- what either writer accepted, and what it accepts
 
@@ -33,9 +29,9 @@ abbrev pub plain : WriteCall → List ℕ
 plain c = plain_file_of c.pixels c.width c.height c.maxval
 
 module _ (c : WriteCall) (file : List ℕ) (ends : write_leaves c.answer c.out' ≡ written_of c.pixels c.width c.height c.maxval file c.out) where
-  module _ {n : ℕ} (written : written_says c.answer ≡ accepted n) where
-    laid : written_says (written_of c.pixels c.width c.height c.maxval file c.out).answer ≡ accepted n
-    laid = sym (ap (λ (x : WriteOut). written_says x.answer) ends) ∙ written
+  module _ {n : ℕ} (written : c.answer ≡ accepted n) where
+    laid : (written_of c.pixels c.width c.height c.maxval file c.out).answer ≡ accepted n
+    laid = sym (ap (λ (x : WriteOut). x.answer) ends) ∙ written
 
     -- what was written is a film
     pub film_of : WriteReady c.pixels c.width c.height c.maxval
@@ -50,17 +46,17 @@ module _ (c : WriteCall) (file : List ℕ) (ends : write_leaves c.answer c.out' 
     file_of_lem = ap (λ (x : WriteOut). take n x.out) ends ∙ written_file c.pixels c.width c.height c.maxval file c.out laid
 
   -- a film is accepted in an output with room for its file
-  pub takes : WriteReady c.pixels c.width c.height c.maxval → length file ≤ length c.out → written_says c.answer ≡ accepted (length file)
-  takes film room = ap (λ (x : WriteOut). written_says x.answer) ends ∙ (film_written c.pixels c.width c.height c.maxval file c.out film room).0
+  pub takes : WriteReady c.pixels c.width c.height c.maxval → length file ≤ length c.out → c.answer ≡ accepted (length file)
+  takes film room = ap (λ (x : WriteOut). x.answer) ends ∙ (film_written c.pixels c.width c.height c.maxval file c.out film room).0
 
 -- a call of either writer ended with this form of file
 abbrev pub Laid : (List ℕ → ℕ → ℕ → ℕ → List ℕ) → WriteCall → Type 0
 Laid form c = write_leaves c.answer c.out' ≡ written_of c.pixels c.width c.height c.maxval (form c.pixels c.width c.height c.maxval) c.out
 
 -- the film of a file that was written, written in the same form again, is the same bytes
-pub same_again : (form : List ℕ → ℕ → ℕ → ℕ → List ℕ) (a b : WriteCall) {n : ℕ} → Laid form a → written_says a.answer ≡ accepted n → Laid form b
+pub same_again : (form : List ℕ → ℕ → ℕ → ℕ → List ℕ) (a b : WriteCall) {n : ℕ} → Laid form a → a.answer ≡ accepted n → Laid form b
     → (b.width ≡ a.width) × (b.height ≡ a.height) × (b.maxval ≡ a.maxval) → b.pixels ≡ a.pixels → n ≤ length b.out
-    → (written_says b.answer ≡ accepted n) × (take n b.out' ≡ take n a.out')
+    → (b.answer ≡ accepted n) × (take n b.out' ≡ take n a.out')
 same_again form a b {n} first written ends sizes same wide = (said, file_of_lem b _ ends said ∙ file ∙ sym (file_of_lem a _ first written))
   where
     file : form b.pixels b.width b.height b.maxval ≡ form a.pixels a.width a.height a.maxval
@@ -69,7 +65,7 @@ same_again form a b {n} first written ends sizes same wide = (said, file_of_lem 
     count : length (form b.pixels b.width b.height b.maxval) ≡ n
     count = ap length file ∙ count_of a _ first written
 
-    said : written_says b.answer ≡ accepted n
+    said : b.answer ≡ accepted n
     said = takes b _ ends (rw (same, sizes.0, sizes.1, sizes.2) (film_of a _ first written)) (rw count wide) ∙ ap accepted count
 
 -- ---- what either reader accepted
@@ -82,24 +78,18 @@ sizes_same {w} {h} {m} {w'} {h'} {m'} p q =
     (ap (λ (x : ℕ × ℕ × ℕ). x.0) v, ap (λ (x : ℕ × ℕ × ℕ). x.1) v, ap (λ (x : ℕ × ℕ × ℕ). x.2) v)
 
 -- what read_plain left is a film
-pub plain_left : {r : PlainReadCall} {w h m : ℕ} → ReadsPlain r → sizes_says r.answer ≡ accepted (w, h, m) → WriteReady (take (w * h) r.target') w h m
+pub plain_left : {r : PlainReadCall} {w h m : ℕ} → ReadsPlain r → r.answer ≡ accepted (w, h, m) → WriteReady (take (w * h) r.target') w h m
 plain_left {r} {w} {h} {m} ran q =
-    Left.plain_left r.bytes r.target r.target' w h m (sym (plain_read_ends ran) ∙ ap (λ a. plain_read_as a r.target') (sizes_found_said r.answer q))
-
--- that all is done is said of nothing else
-turned_done : (x : Turned) → turned_says x ≡ accepted tt → x ≡ Turned.Done
-unfolding turned_says
-turned_done Turned.Done e = refl
-turned_done (Turned.Refused n) e = absurd (let z : ◌≡◌ {A = ℕ} 0 1 = cc in omega arith)
+    Left.plain_left r.bytes r.target r.target' w h m (sym (plain_read_ends ran) ∙ ap (λ a. plain_read_as a r.target') q)
 
 -- and so is what greys left
-pub raw_left : {g : GreysCall} → Greys g → turned_says g.answer ≡ accepted tt → WriteReady (take (g.width * g.height) g.target') g.width g.height g.maxval
+pub raw_left : {g : GreysCall} → Greys g → g.answer ≡ accepted tt → WriteReady (take (g.width * g.height) g.target') g.width g.height g.maxval
 raw_left {g} ran q =
-    Left.raw_left g.bytes g.start g.target g.target' g.width g.height g.maxval (sym (greys_ends ran) ∙ ap (λ a. greys_leave a g.target') (turned_done g.answer q))
+    Left.raw_left g.bytes g.start g.target g.target' g.width g.height g.maxval (sym (greys_ends ran) ∙ ap (λ a. greys_leave a g.target') q)
 
 -- ---- a film written as plain and read back
 
-module _ {c : WriteCall} {n : ℕ} (ran : WritesPlain c) (written : written_says c.answer ≡ accepted n) where
+module _ {c : WriteCall} {n : ℕ} (ran : WritesPlain c) (written : c.answer ≡ accepted n) where
   pub plain_film : WriteReady c.pixels c.width c.height c.maxval
   plain_film = film_of c (plain c) (plain_write_ends ran) written
 

@@ -8,12 +8,8 @@ use native.Mathlib.Omega.{arith}
 use lib.ListN.{length}
 use Rattle.base_lists.specs.Lists.{onto}
 use Rattle.base_rows.specs.Refuse.{first, Says, accepted, refused, says}
-use Rattle.pgm_header.specs.declared.Head.{Head}
-use Rattle.pgm_header.specs.declared.Head.TheVariants as Head
+use Rattle.pgm_header.specs.Header.{Head}
 use Rattle.pgm_raster.specs.Raster.{head_rows, RasterLimits}
-use Rattle.pgm_read.specs.declared.Sizes.{Sizes}
-use Rattle.pgm_read.specs.declared.Sizes.TheVariants as Sizes
-use Rattle.pgm_read.specs.Pgm.{sizes_says}
 use Rattle.pgm_plain.specs.Plain.{plain_head_of, greys_from}
 use Rattle.pgm_plain.specs.Grammar.{PlainFile}
 use Rattle.pgm_plain.proofs.Heads.{plain_refused_number}
@@ -25,8 +21,7 @@ use Rattle.promise_films.proofs.Accepted.{says_refused, ByTable, table_says, tab
 -- ---- what plain_sizes says
 
 pub sizes_table : (s : List ℕ) {w h m at : ℕ} → plain_head_of s ≡ Head.Found w h m at
-    → ByTable sizes_says (first (head_rows w h m)) (w, h, m) (Sizes.Found w h m) Sizes.Refused (limited_of (plain_head_of s))
-unfolding sizes_says
+    → ByTable (λ (x : Says (ℕ × ℕ × ℕ)). x) (first (head_rows w h m)) (w, h, m) (accepted (w, h, m)) refused (limited_of (plain_head_of s))
 sizes_table s q =
     record {
       when_none = λ z. sym (sizes_found (sym q) refl z);
@@ -38,9 +33,8 @@ sizes_table s q =
 -- ---- what read_plain says
 
 pub plain_table : (s target : List ℕ) {w h m at : ℕ} → plain_head_of s ≡ Head.Found w h m at
-    → ByTable (λ (x : PlainRead). sizes_says x.answer) (first (plain_rows s w h m at (length target))) (w, h, m)
-    (plain_read_as (Sizes.Found w h m) (onto target (greys_from (w * h) m s at))) (λ k. plain_read_as (Sizes.Refused k) target) (plain_of s target)
-unfolding sizes_says
+    → ByTable (λ (x : PlainRead). x.answer) (first (plain_rows s w h m at (length target))) (w, h, m)
+    (plain_read_as (accepted (w, h, m)) (onto target (greys_from (w * h) m s at))) (λ k. plain_read_as (refused k) target) (plain_of s target)
 plain_table s target {w} {h} {m} {at} q =
     record {
       when_none = λ z. sym (read_found s target (sym q) (samples_laid s w h m at target refl z refl));
@@ -52,7 +46,7 @@ plain_table s target {w} {h} {m} {at} q =
 -- ---- a refusal keeps lent memory
 
 -- a refused read leaves the target as it was
-pub read_says_kept : (s target : List ℕ) (n : ℕ) → sizes_says (plain_of s target).answer ≡ refused n → (plain_of s target).target ≡ target
+pub read_says_kept : (s target : List ℕ) (n : ℕ) → (plain_of s target).answer ≡ refused n → (plain_of s target).target ≡ target
 read_says_kept s target n q = go (plain_head_of s) refl
   where
     go : (x : Head) → plain_head_of s ≡ x → (plain_of s target).target ≡ target
@@ -60,8 +54,7 @@ read_says_kept s target n q = go (plain_head_of s) refl
     go (Head.Refused k) e = ap (λ (y : PlainRead). y.target) (sym (read_refused s target (sym e)))
 
 -- and no refusal is 0
-pub read_says_some : (s target : List ℕ) (n : ℕ) → sizes_says (plain_of s target).answer ≡ refused n → 0 < n
-unfolding sizes_says
+pub read_says_some : (s target : List ℕ) (n : ℕ) → (plain_of s target).answer ≡ refused n → 0 < n
 read_says_some s target n q = go (plain_head_of s) refl
   where
     some : (k : ℕ) (v : ℕ × ℕ × ℕ) → says k v ≡ refused n → 0 < n
@@ -75,40 +68,29 @@ read_says_some s target n q = go (plain_head_of s) refl
     go : (x : Head) → plain_head_of s ≡ x → 0 < n
     go (Head.Found w h m at) e = some (first (plain_rows s w h m at (length target))) (w, h, m) (sym (table_says (plain_table s target e)) ∙ q)
     go (Head.Refused k) e =
-        let z : ◌≡◌ {A = Says (ℕ × ℕ × ℕ)} (refused k) (refused n) = ap (λ (y : PlainRead). sizes_says y.answer) (read_refused s target (sym e)) ∙ q in
+        let z : ◌≡◌ {A = Says (ℕ × ℕ × ℕ)} (refused k) (refused n) = ap (λ (y : PlainRead). y.answer) (read_refused s target (sym e)) ∙ q in
         header (plain_refused_number s e) cc
 
 -- ---- what a header that is refused says
 
-pub sizes_other : (s : List ℕ) {k : ℕ} → plain_head_of s ≡ Head.Refused k → sizes_says (limited_of (plain_head_of s)) ≡ refused k
-unfolding sizes_says
-sizes_other s q = ap sizes_says (sym (sizes_refused (sym q)))
+pub sizes_other : (s : List ℕ) {k : ℕ} → plain_head_of s ≡ Head.Refused k → (limited_of (plain_head_of s)) ≡ refused k
+sizes_other s q = (sym (sizes_refused (sym q)))
 
-pub read_other : (s target : List ℕ) {k : ℕ} → plain_head_of s ≡ Head.Refused k → sizes_says (plain_of s target).answer ≡ refused k
-unfolding sizes_says
-read_other s target q = ap (λ (x : PlainRead). sizes_says x.answer) (sym (read_refused s target (sym q)))
+pub read_other : (s target : List ℕ) {k : ℕ} → plain_head_of s ≡ Head.Refused k → (plain_of s target).answer ≡ refused k
+read_other s target q = ap (λ (x : PlainRead). x.answer) (sym (read_refused s target (sym q)))
 
 -- ---- which files are accepted
 
--- sizes that are said are those that were found
-pub sizes_found_said : (x : Sizes) {w h m : ℕ} → sizes_says x ≡ accepted (w, h, m) → x ≡ Sizes.Found w h m
-unfolding sizes_says
-sizes_found_said (Sizes.Found a b d) {w} {h} {m} e =
-    let v : ◌≡◌ {A = ℕ × ℕ × ℕ} (a, b, d) (w, h, m) = cc in
-    rw (ap (λ (x : ℕ × ℕ × ℕ). x.0) v, ap (λ (x : ℕ × ℕ × ℕ). x.1) v, ap (λ (x : ℕ × ℕ × ℕ). x.2) v) refl
-sizes_found_said (Sizes.Refused k) e = absurd (let z : ◌≡◌ {A = ℕ} 0 1 = cc in omega arith)
-
 -- a plain file of the grammar, in the limits of 22 and 23, is read where the target has room
 pub file_read : (s target : List ℕ) {w h m : ℕ} {vs : List ℕ} → PlainFile s w h m vs → RasterLimits w h m → w * h ≤ length target
-    → (sizes_says (plain_of s target).answer ≡ accepted (w, h, m)) × ((plain_of s target).target ≡ onto target vs)
-unfolding sizes_says
+    → ((plain_of s target).answer ≡ accepted (w, h, m)) × ((plain_of s target).target ≡ onto target vs)
 file_read s target {w} {h} {m} {vs} file within room =
     let e = sym (read_complete s target w h m (record { pic = vs; file = file; within = within; fitting = room; laid = refl })) in
-    (ap (λ (x : PlainRead). sizes_says x.answer) e, ap (λ (x : PlainRead). x.target) e)
+    (ap (λ (x : PlainRead). x.answer) e, ap (λ (x : PlainRead). x.target) e)
 
 -- and nothing else is
-pub read_file : (s target : List ℕ) {left : List ℕ} {x : Sizes} {w h m : ℕ} → plain_read_as x left ≡ plain_of s target → sizes_says x ≡ accepted (w, h, m)
+pub read_file : (s target : List ℕ) {left : List ℕ} {x : Says (ℕ × ℕ × ℕ)} {w h m : ℕ} → plain_read_as x left ≡ plain_of s target → x ≡ accepted (w, h, m)
     → (vs : List ℕ) × PlainFile s w h m vs × RasterLimits w h m × (w * h ≤ length target)
 read_file s target {left} {x} {w} {h} {m} ends q =
-    let y = read_sound s target w h m (sym ends ∙ ap (λ a. plain_read_as a left) (sizes_found_said x q)) in
+    let y = read_sound s target w h m (sym ends ∙ ap (λ a. plain_read_as a left) q) in
     (y.pic, y.file, y.within, y.fitting)

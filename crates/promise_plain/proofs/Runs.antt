@@ -3,8 +3,10 @@
 use Prim.Native.Nat.{ℕ}
 use mathlib.Core.List.{List}
 use mathlib.Core.Path.{◌≡◌}
+use Rattle.base_rows.specs.Given.{said}
+use Rattle.base_rows.specs.Refuse.{Says}
+use Rattle.pgm_read.specs.Pgm.{sizes_says}
 use Rattle.base_rows.specs.Run.{Run, Ran}
-use Rattle.pgm_read.specs.declared.Sizes.{Sizes}
 use Rattle.pgm_write.specs.Write.{write_leaves}
 use Rattle.pgm_plain.specs.Plain.{plain_head_of}
 use Rattle.pgm_plain_read.specs.PlainRead.{plain_read_as, plain_of, limited_of}
@@ -20,7 +22,7 @@ use Rattle.promise_films.proofs.Runs.{SizesCall, WriteCall}
 -- ---- plain_sizes, with the values of read asked for the sizes
 
 abbrev pub plain_sizes_values : Run sizes.ps sizes.r sizes-reads.Post → SizesCall
-plain_sizes_values run = let (bytes, end) = run.handed in record { bytes = bytes.now; answer = run.answer }
+plain_sizes_values run = let (bytes, end) = run.handed in record { bytes = bytes.now; answer = sizes_says run.answer }
 
 -- plain_sizes ran with these values
 abbrev pub ReadsPlainSizes : SizesCall → Type 0
@@ -34,14 +36,14 @@ plain_sizes_ends ran = rw ran.named ran.run.allowed
 pub record PlainReadCall : Type 0 where
   pub bytes : List ℕ
   pub target : List ℕ
-  pub answer : Sizes
+  pub answer : Says (ℕ × ℕ × ℕ)
   pub target' : List ℕ
 
 abbrev pub plain_read_values : Run read.ps read.r read-reads.Post → PlainReadCall
 plain_read_values run =
     let (bytes, (target, end)) = run.handed in
     let (_, (target', end')) = run.left in
-    record { bytes = bytes.now; target = target.now; answer = run.answer; target' = target'.now }
+    record { bytes = bytes.now; target = target.now; answer = sizes_says run.answer; target' = target'.now }
 
 -- what it is handed
 abbrev pub plain_read_arguments : PlainReadCall → List ℕ × List ℕ
@@ -60,7 +62,7 @@ abbrev pub plain_write_values : Run write.ps write.r write-reads.Post → WriteC
 plain_write_values run =
     let (pixels, (width, (height, (maxval, (out, end))))) = run.handed in
     let (_, (_, (_, (_, (out', end'))))) = run.left in
-    record { pixels = pixels.now; width = width; height = height; maxval = maxval; out = out.now; answer = run.answer; out' = out'.now }
+    record { pixels = pixels.now; width = width; height = height; maxval = maxval; out = out.now; answer = said run.answer; out' = out'.now }
 
 -- write_plain ran with these values
 abbrev pub WritesPlain : WriteCall → Type 0

@@ -9,7 +9,6 @@ use Rattle.promise_bytes.proofs.Ended.{DrawnFromBytes, draw_bytes_shown, enhance
 use Rattle.promise_reach.proofs.Rendered.{Film, Rendered, by_enhance, by_draw, by_enhance_bytes, by_draw_bytes, by_counts, enhanced_grey, enhances_film, prepares_film, maps_film}
 use Rattle.base_rows.specs.Refuse.{accepted}
 use Rattle.film_settings.specs.declared.Footer.{Footer}
-use Rattle.film_prepare.specs.Prepare.{enhanced_says}
 use Rattle.promise_films.proofs.Runs.{DrawCall, EnhanceCall, PrepareCall, Enhances, enhance_ends}
 use Rattle.promise_films.proofs.Ways.{drawn_grey, DrawnFrom}
 use Rattle.tile_count.specs.declared.Rect.{Rect}
@@ -52,7 +51,7 @@ scratch_stays {f} a b twins i j l differ beyond = marked_stays a b twins (tile_i
 -- ---- call by call
 
 -- "This holds for enhance"
-pub enhanced_local : {e e' : EnhanceCall} {foot foot' : Footer} → Enhances e → enhanced_says e.answer ≡ accepted foot → Enhances e' → enhanced_says e'.answer ≡ accepted foot'
+pub enhanced_local : {e e' : EnhanceCall} {foot foot' : Footer} → Enhances e → e.answer ≡ accepted foot → Enhances e' → e'.answer ≡ accepted foot'
     → (x y : ℕ) → x < e.width → y < e.height → Two (enhances_film e) (enhances_film e') x y → enhanced_grey e x y ≡ enhanced_grey e' x y
 enhanced_local ran done ran' done' x y l k two =
     rendered_local (by_enhance ran done l k) (by_enhance ran' done' (rw two.twins.width l) (rw two.twins.height k)) two
@@ -65,13 +64,13 @@ pub drawn_local : {p p' : PrepareCall} {foot foot' : Footer} {d d' : DrawCall} �
 drawn_local from from' i j i' j' l k l' k' across down two = rendered_local (by_draw from l k) (rw (← across, ← down) (by_draw from' l' k')) two
 
 -- for one film rendered whole and the other drawn
-pub enhanced_drawn_local : {e : EnhanceCall} {p : PrepareCall} {foot foot' : Footer} {d : DrawCall} → Enhances e → enhanced_says e.answer ≡ accepted foot → DrawnFrom p foot' d
+pub enhanced_drawn_local : {e : EnhanceCall} {p : PrepareCall} {foot foot' : Footer} {d : DrawCall} → Enhances e → e.answer ≡ accepted foot → DrawnFrom p foot' d
     → (i j : ℕ) → d.window.left + i < e.width → d.window.top + j < e.height → i < d.window.width → j < d.window.height
     → Two (enhances_film e) (prepares_film p) (d.window.left + i) (d.window.top + j) → enhanced_grey e (d.window.left + i) (d.window.top + j) ≡ drawn_grey d i j
 enhanced_drawn_local ran done from i j l k l' k' two = rendered_local (by_enhance ran done l k) (by_draw from l' k') two
 
 -- for films of bytes
-pub enhanced_bytes_local : {e e' : EnhanceCall} {foot foot' : Footer} → EnhancesBytes e → enhanced_says e.answer ≡ accepted foot → EnhancesBytes e' → enhanced_says e'.answer ≡ accepted foot'
+pub enhanced_bytes_local : {e e' : EnhanceCall} {foot foot' : Footer} → EnhancesBytes e → e.answer ≡ accepted foot → EnhancesBytes e' → e'.answer ≡ accepted foot'
     → (x y : ℕ) → x < e.width → y < e.height → Two (enhances_film e) (enhances_film e') x y → enhanced_grey e x y ≡ enhanced_grey e' x y
 enhanced_bytes_local ran done ran' done' x y l k two =
     rendered_local (by_enhance_bytes ran done l k) (by_enhance_bytes ran' done' (rw two.twins.width l) (rw two.twins.height k)) two
@@ -93,7 +92,7 @@ mapped_local from from' i j i' j' l k l' k' across down two = rendered_local (by
 -- ---- a scratch, call by call
 
 -- enhance
-pub enhanced_stays : {e e' : EnhanceCall} {foot foot' : Footer} → Enhances e → enhanced_says e.answer ≡ accepted foot → Enhances e' → enhanced_says e'.answer ≡ accepted foot'
+pub enhanced_stays : {e e' : EnhanceCall} {foot foot' : Footer} → Enhances e → e.answer ≡ accepted foot → Enhances e' → e'.answer ≡ accepted foot'
     → Twins (enhances_film e) (enhances_film e') → (i j : ℕ) → i < e.settings.across → DifferIn e.width e.height e.pixels e'.pixels (tile_in_lem (enhances_film e) i j)
     → (x y : ℕ) → x < e.width → y < e.height → BeyondTile e.width e.height e.settings i j x y → enhanced_grey e x y ≡ enhanced_grey e' x y
 enhanced_stays ran done ran' done' twins i j in-grid differ x y l k beyond =

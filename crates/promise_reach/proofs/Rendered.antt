@@ -8,7 +8,6 @@ use lib.ListN.{get_or}
 use Rattle.base_rows.specs.Refuse.{accepted}
 use Rattle.film_settings.specs.declared.Settings.{Settings}
 use Rattle.film_settings.specs.declared.Footer.{Footer}
-use Rattle.film_prepare.specs.Prepare.{enhanced_says}
 use Rattle.promise_films.proofs.Runs.{PrepareCall, EnhanceCall, Enhances, DrawCall}
 use Rattle.promise_films.proofs.Ways.{DrawnFrom, drawn_grey}
 use Rattle.promise_bytes.proofs.Runs.{EnhancesBytes}
@@ -40,11 +39,11 @@ enhanced_grey e i j = get_or e.pixels' (j * e.width + i) 0
 
 -- "the rendered grey" g of the pixel in column x and row y of the film f, by each of the ways; a window's pixel in column i and row j is the film's that lies there
 pub data Rendered : Film → ℕ → ℕ → ℕ → Type 0 where
-  by_enhance : {e : EnhanceCall} {foot : Footer} {x y : ℕ} → Enhances e → enhanced_says e.answer ≡ accepted foot → x < e.width → y < e.height
+  by_enhance : {e : EnhanceCall} {foot : Footer} {x y : ℕ} → Enhances e → e.answer ≡ accepted foot → x < e.width → y < e.height
       → Rendered (enhances_film e) x y (enhanced_grey e x y)
   by_draw : {p : PrepareCall} {foot : Footer} {d : DrawCall} {i j : ℕ} → DrawnFrom p foot d → i < d.window.width → j < d.window.height
       → Rendered (prepares_film p) (d.window.left + i) (d.window.top + j) (drawn_grey d i j)
-  by_enhance_bytes : {e : EnhanceCall} {foot : Footer} {x y : ℕ} → EnhancesBytes e → enhanced_says e.answer ≡ accepted foot → x < e.width → y < e.height
+  by_enhance_bytes : {e : EnhanceCall} {foot : Footer} {x y : ℕ} → EnhancesBytes e → e.answer ≡ accepted foot → x < e.width → y < e.height
       → Rendered (enhances_film e) x y (enhanced_grey e x y)
   by_draw_bytes : {p : PrepareCall} {foot : Footer} {d : DrawCall} {i j : ℕ} → DrawnFromBytes p foot d → i < d.window.width → j < d.window.height
       → Rendered (prepares_film p) (d.window.left + i) (d.window.top + j) (drawn_grey d i j)

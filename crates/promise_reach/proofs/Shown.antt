@@ -15,8 +15,6 @@ use Rattle.promise_reach.proofs.Rendered.{Film, enhanced_grey, enhances_film}
 use Rattle.base_rows.specs.Refuse.{accepted}
 use Rattle.film_settings.specs.declared.Settings.{Settings}
 use Rattle.film_settings.specs.declared.Footer.{Footer}
-use Rattle.film_prepare.specs.Prepare.{enhanced_says}
-use Rattle.film_draw.specs.Draw.{drawn_says}
 use Rattle.promise_films.proofs.Whole.{whole_work, whole_as_film, whole_by_rule}
 use Rattle.promise_films.proofs.Runs.{DrawCall, EnhanceCall}
 use Rattle.promise_films.proofs.Ways.{drawn_grey}
@@ -29,7 +27,7 @@ pub record Seen (f : Film) (x y g : ℕ) : Type 0 where
   pub shows : g ≡ shown_grey f.width f.height f.pixels f.settings x y
 
 -- of a film that was rendered whole, whichever call ended as enhance does
-pub whole_seen : (e : EnhanceCall) {foot : Footer} → Whole e → enhanced_says e.answer ≡ accepted foot → {x y : ℕ} → x < e.width → y < e.height
+pub whole_seen : (e : EnhanceCall) {foot : Footer} → Whole e → e.answer ≡ accepted foot → {x y : ℕ} → x < e.width → y < e.height
     → Seen (enhances_film e) x y (enhanced_grey e x y)
 whole_seen e ends done {x} {y} l k =
     record {
@@ -41,7 +39,7 @@ whole_seen e ends done {x} {y} l k =
 
 -- and of one that was drawn, whichever call ended as draw does, from what was made of it
 pub shown_seen : {film w h : ℕ} {pic : List ℕ} {s : Settings} {foot : Footer} {left : List ℕ} {d : DrawCall} → Made film w h pic s d.kept foot left → Shown d
-    → drawn_says d.answer ≡ accepted tt → d.pixels ≡ pic → (clip_one_of s.clip ≡ false → take (entries_of s) d.map ≡ take (entries_of s) left)
+    → d.answer ≡ accepted tt → d.pixels ≡ pic → (clip_one_of s.clip ≡ false → take (entries_of s) d.map ≡ take (entries_of s) left)
     → {i j : ℕ} → i < d.window.width → j < d.window.height → Seen (record { width = w; height = h; settings = s; pixels = pic }) (d.window.left + i) (d.window.top + j) (drawn_grey d i j)
 shown_seen made shown drawn pixels mappings {i} {j} l k =
     let inside = shown_inside made shown drawn pixels mappings in

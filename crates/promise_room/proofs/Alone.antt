@@ -20,7 +20,7 @@ use Rattle.film_settings.proofs.Like.{bins_kept}
 use Rattle.film_settings.proofs.Ready.{shared_both, setting_tiled}
 use Rattle.film_tiles.specs.Tiles.{mappings, spent_entries}
 use Rattle.film_tiles.proofs.Films.{length_mappings}
-use Rattle.film_prepare.specs.Prepare.{PrepareOut, prepared_says, prepare_leaves, prepare_of}
+use Rattle.film_prepare.specs.Prepare.{PrepareOut, prepare_leaves, prepare_of}
 use Rattle.film_prepare.proofs.Table.{table_both}
 use Rattle.film_prepare.proofs.Like.{prepare_kept}
 use Rattle.film_draw.specs.Draw.{draw_leaves, draw_of}
@@ -148,7 +148,7 @@ of_film {A} {f} {number} {w} {h} {pic} {s} call kept of =
 pub record Alone (f : StoredFilm) (p : PrepareCall) (foot : Footer) (d : DrawCall) : Type 0 where
   pub prepares : Prepares p
   pub film : OfFilm f p.film p.width p.height p.pixels p.settings
-  pub prepared : prepared_says p.answer ≡ accepted (d.kept, foot)
+  pub prepared : p.answer ≡ accepted (d.kept, foot)
   pub draws : Draws d
   pub drawn : OfFilm f d.film d.width d.height d.pixels d.settings
   pub map : d.map ≡ p.map'
@@ -160,8 +160,8 @@ module _ {f : StoredFilm} {p : PrepareCall} {foot : Footer} {d : DrawCall} (alon
   ended : prepare_leaves p.answer p.map' p.scratch' p.list' ≡ left
   ended = prepare_ends alone.prepares ∙ of_film (λ n w h pic s. prepare_of n w h pic s p.map p.scratch p.list) (λ n w h pic s. prepare_kept n w h pic s p.map p.scratch p.list) alone.film
 
-  done : prepared_says left.answer ≡ accepted (d.kept, foot)
-  done = ap (λ (z : PrepareOut). prepared_says z.answer) (sym ended) ∙ alone.prepared
+  done : left.answer ≡ accepted (d.kept, foot)
+  done = ap (λ (z : PrepareOut). z.answer) (sym ended) ∙ alone.prepared
 
   left_is : d.map ≡ left.map
   left_is = alone.map ∙ ap (λ (z : PrepareOut). z.map) ended

@@ -18,14 +18,13 @@ use Rattle.film_settings.specs.declared.Footer.{Footer}
 use Rattle.film_settings.specs.Settings.{entries_of, clip_one_of, bins_of, Tiled}
 use Rattle.film_tiles.specs.Tiles.{foot_of, mappings}
 use Rattle.film_tiles.proofs.Films.{length_mappings}
-use Rattle.film_prepare.specs.Prepare.{prepare_rows, enhanced_says}
-use Rattle.film_draw.specs.Draw.{drawn_says}
+use Rattle.film_prepare.specs.Prepare.{prepare_rows}
 use Rattle.film_sets.specs.declared.Room.{Room}
 use Rattle.film_sets.specs.Sets.{set_for_of, held, span_of, among, before, set_of, start_of, part_of, fit_rows, with_set_of, without_set_of, moved_down, set_size, no_set_of, empty_room}
 use Rattle.film_sets.proofs.Moves.{down_front, down_here, down_rest}
 use Rattle.film_sets.proofs.Holds.{number_own, length_held, held_more, held_less, span_less}
 use Rattle.film_sets.proofs.Finds.{span_whole, span_append}
-use Rattle.film_room.specs.Room.{store_rows, stored_says, store_of, SetHeld, show_rows, show_of, drop_rows, dropped_says, drop_of}
+use Rattle.film_room.specs.Room.{store_rows, store_of, SetHeld, show_rows, show_of, drop_rows, drop_of}
 use Rattle.film_room.proofs.Drops.{dropping_among, drop_38, drop_40, drop_moves}
 use Rattle.film_room.proofs.Stores.{store_40, store_free}
 use Rattle.film_room.proofs.Shows.{show_none_11, show_known, show_part, show_kept}
@@ -54,30 +53,30 @@ use Rattle.promise_films.proofs.Made.{handed_done, made_tiled, shown_as_enhanced
 
 -- store says the footer, or the number of the first row that applies
 pub store_says : {c : StoreCall} → Stores c
-    → stored_says c.answer ≡ says (first (store_rows c.room c.film c.width c.height c.pixels c.settings (length c.map) (length c.scratch) (length c.list))) (foot_of c.width c.height c.settings)
+    → c.answer ≡ says (first (store_rows c.room c.film c.width c.height c.pixels c.settings (length c.map) (length c.scratch) (length c.list))) (foot_of c.width c.height c.settings)
 store_says ran = ended_says (store_table _ _ _ _ _ _ _ _ _) (store_ends ran)
 
 -- a draw from the room says that all is done, or the number
 pub show_says : {c : ShowCall} → RoomDraws c
-    → drawn_says c.answer ≡ says (first (show_rows c.room c.film c.width c.height c.pixels c.settings c.window c.map (length c.out))) tt
+    → c.answer ≡ says (first (show_rows c.room c.film c.width c.height c.pixels c.settings c.window c.map (length c.out))) tt
 show_says ran = ended_says (show_table _ _ _ _ _ _ _ _ _) (show_ends ran)
 
 -- and so does a drop
-pub drop_says : {c : DropCall} → Drops c → dropped_says c.answer ≡ says (first (drop_rows c.room c.film (length c.map))) tt
+pub drop_says : {c : DropCall} → Drops c → c.answer ≡ says (first (drop_rows c.room c.film (length c.map))) tt
 drop_says ran = ended_says (drop_table _ _ _) (drop_ends ran)
 
 -- ---- a refusal keeps all that was lent, and the room
 
 -- after a refusal of store the room and all lent memory are as they were
-pub store_refusal_keeps : {c : StoreCall} (n : ℕ) → Stores c → stored_says c.answer ≡ refused n → (c.room' ≡ c.room) × (c.map' ≡ c.map) × (c.scratch' ≡ c.scratch) × (c.list' ≡ c.list)
+pub store_refusal_keeps : {c : StoreCall} (n : ℕ) → Stores c → c.answer ≡ refused n → (c.room' ≡ c.room) × (c.map' ≡ c.map) × (c.scratch' ≡ c.scratch) × (c.list' ≡ c.list)
 store_refusal_keeps n ran q = store_memory (ended_kept (store_table _ _ _ _ _ _ _ _ _) (store_ends ran) q)
 
 -- the output of a draw
-pub show_refusal_keeps : {c : ShowCall} (n : ℕ) → RoomDraws c → drawn_says c.answer ≡ refused n → c.out' ≡ c.out
+pub show_refusal_keeps : {c : ShowCall} (n : ℕ) → RoomDraws c → c.answer ≡ refused n → c.out' ≡ c.out
 show_refusal_keeps n ran q = (draw_both (ended_kept (show_table _ _ _ _ _ _ _ _ _) (show_ends ran) q)).1
 
 -- the room and the buffer of a drop
-pub drop_refusal_keeps : {c : DropCall} (n : ℕ) → Drops c → dropped_says c.answer ≡ refused n → (c.room' ≡ c.room) × (c.map' ≡ c.map)
+pub drop_refusal_keeps : {c : DropCall} (n : ℕ) → Drops c → c.answer ≡ refused n → (c.room' ≡ c.room) × (c.map' ≡ c.map)
 drop_refusal_keeps n ran q = drop_memory (ended_kept (drop_table _ _ _) (drop_ends ran) q)
 
 -- ---- any two outcomes are equal
@@ -98,7 +97,7 @@ drop_determined x y same = drop_parts (same_ends (λ g. drop_of g.0 g.1 g.2) (dr
 -- ---- of any record: which set a draw is drawn from, 40, 38 and no 11
 
 -- a draw that is done: among the sets held is one of this number, with these sizes and settings
-pub room_number : {c : ShowCall} → RoomDraws c → drawn_says c.answer ≡ accepted tt
+pub room_number : {c : ShowCall} → RoomDraws c → c.answer ≡ accepted tt
     → (before c.film (held c.room) < c.room.count) × ((set_of c.film (held c.room)).film ≡ c.film)
     × SetHeld c.width c.height c.settings (set_of c.film (held c.room))
 room_number {c} ran done =
@@ -119,30 +118,30 @@ room_own_entries {c} {d} x y same long part =
 
 module _ {c : ShowCall} (ran : RoomDraws c) where
   -- a draw of a number that is not stored is refused with 38, whatever else is handed to it
-  pub room_not_stored : first (fit_rows c.room (length c.map)) ≡ 0 → among c.film (held c.room) ≡ false → (drawn_says c.answer ≡ refused 38) × (c.out' ≡ c.out)
+  pub room_not_stored : first (fit_rows c.room (length c.map)) ≡ 0 → among c.film (held c.room) ≡ false → (c.answer ≡ refused 38) × (c.out' ≡ c.out)
   room_not_stored fits none = show_told ran (drop_38 c.room c.film (length c.map) fits none) (λ q. omega (arith, q))
 
   -- and with 40 "a room record with over eight sets, a number twice, or sets that end to end exceed the buffer"
-  pub room_wild : first (fit_rows c.room (length c.map)) ≢ 0 → (drawn_says c.answer ≡ refused 40) × (c.out' ≡ c.out)
+  pub room_wild : first (fit_rows c.room (length c.map)) ≢ 0 → (c.answer ≡ refused 40) × (c.out' ≡ c.out)
   room_wild z = show_told ran (drop_40 c.room c.film (length c.map) z) (λ q. omega (arith, q))
 
 -- so is a drop of a number that is not stored
-pub drop_not_stored : {c : DropCall} → Drops c → first (fit_rows c.room (length c.map)) ≡ 0 → among c.film (held c.room) ≡ false → dropped_says c.answer ≡ refused 38
+pub drop_not_stored : {c : DropCall} → Drops c → first (fit_rows c.room (length c.map)) ≡ 0 → among c.film (held c.room) ≡ false → c.answer ≡ refused 38
 drop_not_stored {c} ran fits none = drop_says ran ∙ ap (λ n. says n tt) (sym (drop_38 c.room c.film (length c.map) fits none))
 
 -- a wild record meets 40 in a drop too
-pub drop_wild : {c : DropCall} → Drops c → first (fit_rows c.room (length c.map)) ≢ 0 → dropped_says c.answer ≡ refused 40
+pub drop_wild : {c : DropCall} → Drops c → first (fit_rows c.room (length c.map)) ≢ 0 → c.answer ≡ refused 40
 drop_wild {c} ran z = drop_says ran ∙ ap (λ n. says n tt) (sym (drop_40 c.room c.film (length c.map) z))
 
 -- and in a store
-pub store_wild : {c : StoreCall} → Stores c → first (fit_rows c.room (length c.map)) ≢ 0 → stored_says c.answer ≡ refused 40
+pub store_wild : {c : StoreCall} → Stores c → first (fit_rows c.room (length c.map)) ≢ 0 → c.answer ≡ refused 40
 store_wild {c} ran z =
     store_says ran
     ∙ ap (λ n. says n (foot_of c.width c.height c.settings))
     (sym (store_40 c.room c.film c.width c.height c.pixels c.settings (length c.map) (length c.scratch) (length c.list) z))
 
 -- "a room draw gives no 11"
-pub show_never_11 : {c : ShowCall} → RoomDraws c → drawn_says c.answer ≢ refused 11
+pub show_never_11 : {c : ShowCall} → RoomDraws c → c.answer ≢ refused 11
 show_never_11 {c} ran q =
     first_never 11 (show_rows c.room c.film c.width c.height c.pixels c.settings c.window c.map (length c.out)) refl
     (show_none_11 c.room c.film c.width c.height c.pixels c.settings c.window c.map (length c.out))
@@ -151,7 +150,7 @@ show_never_11 {c} ran q =
 -- ---- of any record: which entries stay, and which are taken
 
 -- a store that is done puts the film's set behind the last in the record; the entries before the set's and those behind it stay as they were
-pub store_leaves_lem : {c : StoreCall} {foot : Footer} → Stores c → stored_says c.answer ≡ accepted foot
+pub store_leaves_lem : {c : StoreCall} {foot : Footer} → Stores c → c.answer ≡ accepted foot
     → (c.room' ≡ with_set_of c.room (set_for_of c.film c.width c.height c.settings))
     × (take (span_of (held c.room)) c.map' ≡ take (span_of (held c.room)) c.map)
     × (drop (span_of (held c.room) + entries_of c.settings) c.map' ≡ drop (span_of (held c.room) + entries_of c.settings) c.map)
@@ -162,7 +161,7 @@ store_leaves_lem {c} ran done =
 
 -- a drop that is done takes the set out of the record. The entries before the set's stay; those of the later sets move down to where it began; and "entries behind the last set
 -- after a drop keep what they held"
-pub drop_leaves_lem : {c : DropCall} → Drops c → dropped_says c.answer ≡ accepted tt → (a b e : ℕ) → a ≡ start_of c.film (held c.room)
+pub drop_leaves_lem : {c : DropCall} → Drops c → c.answer ≡ accepted tt → (a b e : ℕ) → a ≡ start_of c.film (held c.room)
     → b ≡ span_of (take (before c.film (held c.room) + 1) (held c.room)) → e ≡ span_of (held c.room)
     → (c.room' ≡ without_set_of c.room (before c.film (held c.room)))
     × (take a c.map' ≡ take a c.map)
@@ -178,7 +177,7 @@ drop_leaves_lem {c} ran done a b e begins ends last =
     )
 
 -- a store that is done
-module _ {c : StoreCall} {foot : Footer} (ran : Stores c) (done : stored_says c.answer ≡ accepted foot) where
+module _ {c : StoreCall} {foot : Footer} (ran : Stores c) (done : c.answer ≡ accepted foot) where
   -- "A set takes tiles times bins entries", whatever the factor: the sets take as many more. The room record holds eight places, as the type of its array says
   pub store_takes : length c.room.sets ≡ 8 → span_of (held c.room') ≡ span_of (held c.room) + entries_of c.settings
   store_takes eight =
@@ -199,7 +198,7 @@ module _ {c : StoreCall} {foot : Footer} (ran : Stores c) (done : stored_says c.
       ∙ take_onto (drop (span_of (held c.room)) c.map) (mappings c.width c.height c.pixels c.settings) (entries_of c.settings) (length_mappings c.width c.height c.pixels c.settings)
 
 -- a drop that is done frees the set's entries: the sets take as many less, and all behind them is free
-pub drop_frees : {c : DropCall} → Drops c → dropped_says c.answer ≡ accepted tt → span_of (held c.room') + set_size (set_of c.film (held c.room)) ≡ span_of (held c.room)
+pub drop_frees : {c : DropCall} → Drops c → c.answer ≡ accepted tt → span_of (held c.room') + set_size (set_of c.film (held c.room)) ≡ span_of (held c.room)
 drop_frees {c} ran done =
     let known = drop_known ran done in
     let i : ℕ = before c.film (held c.room) in
@@ -229,7 +228,7 @@ room_spans {room} {m} {fs} history = ap span_of (history_kept history).sets ∙ 
 pub room_takes : {room : Room} {m : List ℕ} {fs : List StoredFilm} → History room m fs → (c : StoreCall) → Stores c → c.room ≡ room → c.map ≡ m → length fs < 8
     → among c.film (map film_set fs) ≡ false
     → first (prepare_rows c.width c.height c.pixels c.settings (length m - film_spans fs) (length c.scratch) (length c.list)) ≡ 0
-    → stored_says c.answer ≡ accepted (foot_of c.width c.height c.settings)
+    → c.answer ≡ accepted (foot_of c.width c.height c.settings)
 room_takes {room} {m} {fs} history c ran same-room same_map few new good =
     let none : first (store_rows c.room c.film c.width c.height c.pixels c.settings (length c.map) (length c.scratch) (length c.list)) ≡ 0 =
     rw (same-room, same_map)
@@ -257,10 +256,10 @@ module _ {f : StoredFilm} {p : PrepareCall} {foot : Footer} {d : DrawCall} (alon
 module _ {f : StoredFilm} {c : ShowCall} (from : DrawnFromRoom f c) where
   -- a window inside the film, of a pixel at least, with an output of its area, is drawn
   pub room_accepts : 0 < c.window.width → 0 < c.window.height → c.window.left + c.window.width ≤ f.width → c.window.top + c.window.height ≤ f.height
-      → length c.out ≡ c.window.height * c.window.width → drawn_says c.answer ≡ accepted tt
+      → length c.out ≡ c.window.height * c.window.width → c.answer ≡ accepted tt
   room_accepts wide high across down area = handed_done (room_made from) (room_shown from) (room_handed from wide high across down area)
 
-module _ {f : StoredFilm} {c : ShowCall} (from : DrawnFromRoom f c) (answered : drawn_says c.answer ≡ accepted tt) where
+module _ {f : StoredFilm} {c : ShowCall} (from : DrawnFromRoom f c) (answered : c.answer ≡ accepted tt) where
   -- the film is one that a call accepts, and the window lies inside it
   pub room_inside : Tiled f.width f.height f.settings × (c.window.left + c.window.width ≤ f.width) × (c.window.top + c.window.height ≤ f.height)
   room_inside = let x = shown_inside (room_made from) (room_shown from) answered refl (λ q. refl) in (made_tiled (room_made from), x.0, x.1)
@@ -278,32 +277,32 @@ module _ {f : StoredFilm} {c : ShowCall} (from : DrawnFromRoom f c) (answered : 
   -- and the one in enhance's picture, of the same film in buffers that are long enough, which enhance renders
   pub room_as_enhanced : (e : EnhanceCall) → Enhances e → OfFilm f f.number e.width e.height e.pixels e.settings
       → entries_of f.settings ≤ length e.map → bins_of f.settings ≤ length e.scratch
-      → (enhanced_says e.answer ≡ accepted (foot_of f.width f.height f.settings))
+      → (e.answer ≡ accepted (foot_of f.width f.height f.settings))
       × ((j i : ℕ) → j < c.window.height → i < c.window.width → room_grey c i j ≡ get_or e.pixels' ((c.window.top + j) * f.width + (c.window.left + i)) 0)
   room_as_enhanced e ran of map scratch = shown_as_enhanced (room_made from) (room_shown from) answered refl (λ q. refl) {e = e} (enhance_ends ran) record { width = of.width; height = of.height; pixels = of.pixels; like = of.like; map = map; scratch = scratch }
 
 -- ---- how far a scratch reaches
 
 -- a room draw that is done
-module _ {f : StoredFilm} {c : ShowCall} (from : DrawnFromRoom f c) (done : drawn_says c.answer ≡ accepted tt) (i j : ℕ) (l : i < c.window.width) (k : j < c.window.height) where
+module _ {f : StoredFilm} {c : ShowCall} (from : DrawnFromRoom f c) (done : c.answer ≡ accepted tt) (i j : ℕ) (l : i < c.window.width) (k : j < c.window.height) where
   -- shows the film: by the rule, and at the factor 1.0 its own grey
   pub room_shows : room_grey c i j ≡ shown_grey f.width f.height f.pixels f.settings (c.window.left + i) (c.window.top + j)
   room_shows = (room_seen from done l k).shows
 
 -- "then the rendered grey is the same in both": drawn from two rooms; the pixel in column i and row j of the first window is the one in column i' and row j' of the second
-pub room_local : {f f' : StoredFilm} {c c' : ShowCall} → DrawnFromRoom f c → drawn_says c.answer ≡ accepted tt → DrawnFromRoom f' c' → drawn_says c'.answer ≡ accepted tt → (i j i' j' : ℕ)
+pub room_local : {f f' : StoredFilm} {c c' : ShowCall} → DrawnFromRoom f c → c.answer ≡ accepted tt → DrawnFromRoom f' c' → c'.answer ≡ accepted tt → (i j i' j' : ℕ)
     → i < c.window.width → j < c.window.height → i' < c'.window.width → j' < c'.window.height
     → c'.window.left + i' ≡ c.window.left + i → c'.window.top + j' ≡ c.window.top + j
     → Two (picture_of f) (picture_of f') (c.window.left + i) (c.window.top + j) → room_grey c i j ≡ room_grey c' i' j'
 room_local from done from' done' i j i' j' l k l' k' across down two = seen_local (room_seen from done l k) (rw (← across, ← down) (room_seen from' done' l' k')) two
 
 -- one from a room, the other by whichever way
-pub room_rendered_local : {f : StoredFilm} {p : Film} {c : ShowCall} {g : ℕ} → DrawnFromRoom f c → drawn_says c.answer ≡ accepted tt → (i j : ℕ) → i < c.window.width → j < c.window.height
+pub room_rendered_local : {f : StoredFilm} {p : Film} {c : ShowCall} {g : ℕ} → DrawnFromRoom f c → c.answer ≡ accepted tt → (i j : ℕ) → i < c.window.width → j < c.window.height
     → Rendered p (c.window.left + i) (c.window.top + j) g → Two (picture_of f) p (c.window.left + i) (c.window.top + j) → room_grey c i j ≡ g
 room_rendered_local from done i j l k other two = seen_local (room_seen from done l k) (rendered_seen other) two
 
 -- a scratch: the films differ in the tile in column a and row b alone, and the grey of every pixel beyond the neighbouring tiles' centres is the same in both
-pub room_stays : {f f' : StoredFilm} {c c' : ShowCall} → DrawnFromRoom f c → drawn_says c.answer ≡ accepted tt → DrawnFromRoom f' c' → drawn_says c'.answer ≡ accepted tt → (i j i' j' : ℕ)
+pub room_stays : {f f' : StoredFilm} {c c' : ShowCall} → DrawnFromRoom f c → c.answer ≡ accepted tt → DrawnFromRoom f' c' → c'.answer ≡ accepted tt → (i j i' j' : ℕ)
     → i < c.window.width → j < c.window.height → i' < c'.window.width → j' < c'.window.height
     → c'.window.left + i' ≡ c.window.left + i → c'.window.top + j' ≡ c.window.top + j
     → Twins (picture_of f) (picture_of f') → (a b : ℕ) → a < f.settings.across → DifferIn f.width f.height f.pixels f'.pixels (tile_in_lem (picture_of f) a b)

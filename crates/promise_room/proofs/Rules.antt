@@ -13,8 +13,8 @@ use Rattle.base_rows.specs.Refuse.{first, says, accepted}
 use Rattle.film_settings.specs.Settings.{bins_of, entries_of, record_of, clip_one_of}
 use Rattle.film_tiles.specs.Tiles.{mappings, spent_entries, foot_of}
 use Rattle.film_tiles.proofs.Films.{length_mappings}
-use Rattle.film_prepare.specs.Prepare.{prepare_rows, prepared_says, PrepareOut, prepare_of}
-use Rattle.film_draw.specs.Draw.{drawn_says, DrawOut, draw_leaves, draw_of}
+use Rattle.film_prepare.specs.Prepare.{prepare_rows, PrepareOut, prepare_of}
+use Rattle.film_draw.specs.Draw.{DrawOut, draw_leaves, draw_of}
 use Rattle.promise_films.proofs.Accepted.{table_says, prepare_table}
 use Rattle.promise_films.proofs.Reuse.{left_laid, left_room}
 use Rattle.promise_films.proofs.Runs.{DrawCall}
@@ -75,7 +75,7 @@ module _ {f : StoredFilm} {c : ShowCall} (from : DrawnFromRoom f c) where
   abbrev pub left : PrepareOut
   left = prepare_of f.number f.width f.height f.pixels f.settings m t n
 
-  done : prepared_says left.answer ≡ accepted (record_of f.number f.width f.height f.settings, foot_of f.width f.height f.settings)
+  done : left.answer ≡ accepted (record_of f.number f.width f.height f.settings, foot_of f.width f.height f.settings)
   done =
       table_says (prepare_table f.number f.width f.height f.pixels f.settings m t n)
       ∙ ap (λ n. says n (record_of f.number f.width f.height f.settings, foot_of f.width f.height f.settings))
@@ -118,6 +118,6 @@ abbrev pub picture_of : StoredFilm → Film
 picture_of f = record { width = f.width; height = f.height; settings = f.settings; pixels = f.pixels }
 
 -- a pixel of what a room draw that is done left
-pub room_seen : {f : StoredFilm} {c : ShowCall} → DrawnFromRoom f c → drawn_says c.answer ≡ accepted tt → {i j : ℕ} → i < c.window.width → j < c.window.height
+pub room_seen : {f : StoredFilm} {c : ShowCall} → DrawnFromRoom f c → c.answer ≡ accepted tt → {i j : ℕ} → i < c.window.width → j < c.window.height
     → Seen (picture_of f) (c.window.left + i) (c.window.top + j) (room_grey c i j)
 room_seen from done l k = shown_seen (room_made from) (room_shown from) done refl (λ q. refl) l k

@@ -4,14 +4,14 @@
 use Prim.Native.Nat.{ℕ}
 use mathlib.Core.List.{List}
 use mathlib.Core.Path.{◌≡◌}
+use Rattle.base_rows.specs.Given.{said}
+use Rattle.base_rows.specs.Refuse.{Says}
 use Rattle.base_rows.specs.Run.{Run, Ran}
 use Rattle.film_settings.specs.declared.Settings.{Settings}
+use Rattle.film_settings.specs.declared.Footer.{Footer}
 use Rattle.film_settings.specs.declared.Window.{Window}
-use Rattle.film_draw.specs.declared.Drawn.{Drawn}
 use Rattle.film_draw.specs.Draw.{draw_leaves}
 use Rattle.film_sets.specs.declared.Room.{Room}
-use Rattle.film_room.specs.declared.Stored.{Stored}
-use Rattle.film_room.specs.declared.Dropped.{Dropped}
 use Rattle.film_room.specs.Room.{store_leaves, store_of, show_of, drop_leaves, drop_of}
 use Rattle.film_room.proofs.store.Kinds as store
 use Rattle.film_room.proofs.store.Reads as store-reads
@@ -32,7 +32,7 @@ pub record StoreCall : Type 0 where
   pub map : List ℕ
   pub scratch : List ℕ
   pub list : List ℕ
-  pub answer : Stored
+  pub answer : Says Footer
   pub room' : Room
   pub map' : List ℕ
   pub scratch' : List ℕ
@@ -41,8 +41,8 @@ pub record StoreCall : Type 0 where
 abbrev pub store_values : Run store.ps store.r store-reads.Post → StoreCall
 store_values run =
     let (room, (film, (width, (height, (pixels, (settings, (map, (scratch, (list, end))))))))) = run.handed in
-    let (_, (_, (_, (_, (_, (_, (map', (scratch', (list', end'))))))))) = run.left in
-    record { room = room; film = film; width = width; height = height; pixels = pixels.now; settings = settings; map = map.now; scratch = scratch.now; list = list.now; answer = run.answer.answer; room' = run.answer.room; map' = map'.now; scratch' = scratch'.now; list' = list'.now }
+    let (room', (_, (_, (_, (_, (_, (map', (scratch', (list', end'))))))))) = run.left in
+    record { room = room.now; film = film; width = width; height = height; pixels = pixels.now; settings = settings; map = map.now; scratch = scratch.now; list = list.now; answer = said run.answer; room' = room'.now; map' = map'.now; scratch' = scratch'.now; list' = list'.now }
 
 -- what it is handed
 abbrev pub store_arguments : StoreCall → Room × ℕ × ℕ × ℕ × List ℕ × Settings × List ℕ × List ℕ × List ℕ
@@ -68,14 +68,14 @@ pub record ShowCall : Type 0 where
   pub window : Window
   pub map : List ℕ
   pub out : List ℕ
-  pub answer : Drawn
+  pub answer : Says (Unit {0})
   pub out' : List ℕ
 
 abbrev pub show_values : Run draw.ps draw.r draw-reads.Post → ShowCall
 show_values run =
     let (room, (film, (width, (height, (pixels, (settings, (window, (map, (out, end))))))))) = run.handed in
     let (_, (_, (_, (_, (_, (_, (_, (_, (out', end'))))))))) = run.left in
-    record { room = room; film = film; width = width; height = height; pixels = pixels.now; settings = settings; window = window; map = map.now; out = out.now; answer = run.answer; out' = out'.now }
+    record { room = room.now; film = film; width = width; height = height; pixels = pixels.now; settings = settings; window = window; map = map.now; out = out.now; answer = said run.answer; out' = out'.now }
 
 -- what it is handed
 abbrev pub show_arguments : ShowCall → Room × ℕ × ℕ × ℕ × List ℕ × Settings × Window × List ℕ × List ℕ
@@ -99,15 +99,15 @@ pub record DropCall : Type 0 where
   pub room : Room
   pub film : ℕ
   pub map : List ℕ
-  pub answer : Dropped
+  pub answer : Says (Unit {0})
   pub room' : Room
   pub map' : List ℕ
 
 abbrev pub drop_values : Run drop.ps drop.r drop-reads.Post → DropCall
 drop_values run =
     let (room, (film, (map, end))) = run.handed in
-    let (_, (_, (map', end'))) = run.left in
-    record { room = room; film = film; map = map.now; answer = run.answer.answer; room' = run.answer.room; map' = map'.now }
+    let (room', (_, (map', end'))) = run.left in
+    record { room = room.now; film = film; map = map.now; answer = said run.answer; room' = room'.now; map' = map'.now }
 
 -- what it is handed
 abbrev pub drop_arguments : DropCall → Room × ℕ × List ℕ

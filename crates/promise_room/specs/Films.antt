@@ -1,14 +1,12 @@
 -- Document 02, order 11: the films that are stored in a room and not dropped.
 -- Assumes nothing.
+use Rattle.film_settings.specs.declared.Footer.{Footer}
+use Rattle.base_rows.specs.Refuse.{accepted, refused, Says}
 use Rattle.std.specs.Prelude.{ℕ, cond, List, [], ◌∷◌, ◌++◌, eqb}
 use Rattle.film_settings.specs.declared.Settings.{Settings}
 use Rattle.film_settings.specs.Settings.{entries_of}
 use Rattle.film_sets.specs.declared.Set.{Set}
 use Rattle.film_sets.specs.Sets.{set_for_of}
-use Rattle.film_room.specs.declared.Stored.{Stored}
-use Rattle.film_room.specs.declared.Stored.TheVariants as Stored
-use Rattle.film_room.specs.declared.Dropped.{Dropped}
-use Rattle.film_room.specs.declared.Dropped.TheVariants as Dropped
 
 -- a film as it was handed to store
 pub record StoredFilm : Type 0 where
@@ -30,11 +28,11 @@ without n [] = []
 without n (f ∷ fs) = cond (eqb f.number n) fs (f ∷ without n fs)
 
 -- the films that are stored and not dropped, behind a store
-abbrev pub films_after_store : Stored → StoredFilm → List StoredFilm → List StoredFilm
-films_after_store (Stored.Done foot) f fs = fs ++ (f ∷ [])
-films_after_store (Stored.Refused n) f fs = fs
+abbrev pub films_after_store : Says Footer → StoredFilm → List StoredFilm → List StoredFilm
+films_after_store (accepted foot) f fs = fs ++ (f ∷ [])
+films_after_store (refused n) f fs = fs
 
 -- and behind a drop
-abbrev pub films_after_drop : Dropped → ℕ → List StoredFilm → List StoredFilm
-films_after_drop Dropped.Done n fs = without n fs
-films_after_drop (Dropped.Refused k) n fs = fs
+abbrev pub films_after_drop : Says (Unit {0}) → ℕ → List StoredFilm → List StoredFilm
+films_after_drop (accepted v) n fs = without n fs
+films_after_drop (refused k) n fs = fs

@@ -1,5 +1,4 @@
 // A row: the film rendered into a target of its own, each pixel by the region around it.
-use film_prepare::Enhanced;
 use film_settings::Settings;
 use test_set::kept::Kept;
 use test_set::whole::{Row, at, fitting, word};
@@ -21,10 +20,8 @@ fn pixel_room() -> [u16; 16384] {
 // A scratch of the longest length before the call: twice the most bins, and some entries behind.
 fn scratch_room() -> [u32; 8260] {
     let mut entries = [0u32; 8260];
-    let mut i = 0;
-    while i < 8260 {
+    for i in 0..8260 {
         entries[i] = (i % 1000 * 5 % 1000 + 1) as u32;
-        i += 1;
     }
     entries
 }
@@ -34,9 +31,7 @@ fn called(row: Row, picture: &[u16], target: &mut [u16], scratch: &mut [u32]) ->
     let t = kept::made(row);
     let s: Settings = kept::settings(t);
     let side = word(row, SIDE);
-    let answer: Enhanced = film_around::around(
-        t.width, t.height, picture, side, s, target, scratch,
-    );
+    let answer = film_around::around(t.width, t.height, picture, side, s, target, scratch);
     kept::of_enhanced(at(row, column::NO), t, answer)
 }
 

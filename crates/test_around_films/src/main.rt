@@ -33,10 +33,8 @@ fn taken(line: Line, b: u8) -> Line {
 // Runs all rows.
 fn rows(text: &[u8]) {
     let mut line = row::fresh();
-    let mut i = 0;
-    while i < text.len() {
-        line = taken(line, text[i]);
-        i += 1;
+    for b in text {
+        line = taken(line, *b);
     }
 }
 

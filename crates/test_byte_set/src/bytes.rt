@@ -17,10 +17,8 @@ fn byte(wide: &[u16], i: usize) -> u8 {
 
 // Takes the wide entries as bytes.
 pub(crate) fn taken(wide: &[u16], entries: &mut [u8]) {
-    let mut i = 0;
-    while i < entries.len() {
+    for i in 0..entries.len() {
         entries[i] = byte(wide, i);
-        i += 1;
     }
 }
 

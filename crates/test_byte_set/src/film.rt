@@ -1,7 +1,5 @@
 // The films and the draws of bytes: prepare, draw and enhance on bytes, by the calls themselves or by those for C.
 use crate::bytes;
-use film_draw::Drawn;
-use film_prepare::{Enhanced, Prepared};
 use film_settings::Settings;
 use pixel_grid::Axis;
 use test_set::axes::Axes;
@@ -104,7 +102,7 @@ fn prepared(
         return prepare_c(letter, no, t, picture, map, scratch, list);
     }
     let s: Settings = kept::settings(t);
-    let answer: Prepared = byte_prepare::prepare_bytes(
+    let answer = byte_prepare::prepare_bytes(
         t.film, t.width, t.height, picture, s, map, scratch, list,
     );
     kept::of_prepared(letter, no, t, answer)
@@ -148,7 +146,7 @@ fn enhanced(by_c: bool, row: Row, picture: &mut [u8], map: &mut [u8], scratch: &
         return enhance_c(no, t, picture, map, scratch);
     }
     let s: Settings = kept::settings(t);
-    let answer: Enhanced = byte_prepare::enhance_bytes(t.width, t.height, picture, s, map, scratch);
+    let answer = byte_prepare::enhance_bytes(t.width, t.height, picture, s, map, scratch);
     kept::of_enhanced(no, t, answer)
 }
 
@@ -301,7 +299,7 @@ fn draw_by(
     let s: Settings = kept::settings(t);
     let record = kept::record(k);
     let win = window(drawn);
-    let answer: Drawn = byte_draw::draw_bytes(
+    let answer = byte_draw::draw_bytes(
         word(drawn, column::FILM),
         t.width,
         t.height,

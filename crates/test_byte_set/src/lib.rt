@@ -42,10 +42,8 @@ fn taken(by_c: bool, text: &[u8], line: Line, b: u8, picture: &mut [u8], out: &m
 // Runs all rows, over rooms for the largest picture and the largest output.
 fn rows(by_c: bool, text: &[u8], picture: &mut [u8], out: &mut [u8]) {
     let mut line = row::fresh();
-    let mut i = 0;
-    while i < text.len() {
-        line = taken(by_c, text, line, text[i], picture, out);
-        i += 1;
+    for b in text {
+        line = taken(by_c, text, line, *b, picture, out);
     }
 }
 

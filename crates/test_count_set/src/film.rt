@@ -1,10 +1,9 @@
 // The films and the mappings: counting, mapping and, beside them, prepare, by the calls themselves or by those for C.
 use crate::words;
-use film_count::Counted;
-use film_prepare::Prepared;
 use film_settings::Settings;
 use pixel_grid::Axis;
 use test_set::axes::Axes;
+use test_set::film::drawn_number;
 use test_set::kept::{Eleven, Kept};
 use test_set::whole::{Row, at, fitting, minus, with};
 use test_set::{axes, column, digest, kept, made};
@@ -46,13 +45,6 @@ pub struct Left {
     pub list: u64,
 }
 
-fn counted_number(c: Counted) -> u32 {
-    match c {
-        Counted::Done => 0,
-        Counted::Refused(n) => n,
-    }
-}
-
 // Calls counting for C; answers its number.
 fn count_c(t: Eleven, picture: &[u16], lent: &mut [u32]) -> u32 {
     c_counts::tz_count(
@@ -67,8 +59,7 @@ fn call_count(by_c: bool, row: Row, picture: &[u16], lent: &mut [u32]) -> u32 {
         return count_c(t, picture, lent);
     }
     let s: Settings = kept::settings(t);
-    let answer: Counted = film_count::count_tiles(t.width, t.height, picture, s, lent);
-    counted_number(answer)
+    drawn_number(film_count::count_tiles(t.width, t.height, picture, s, lent))
 }
 
 // The lines of counting: the answer, the digests of picture and counts, and the counts.
@@ -175,9 +166,7 @@ fn call_map(
         return map_c(no, t, lent, map, scratch, list);
     }
     let s: Settings = kept::settings(t);
-    let answer: Prepared = film_map::map_counts(
-        t.film, t.width, t.height, s, lent, map, scratch, list,
-    );
+    let answer = film_map::map_counts(t.film, t.width, t.height, s, lent, map, scratch, list);
     kept::of_prepared(b'P', no, t, answer)
 }
 
@@ -213,9 +202,7 @@ fn call_prepare(
 ) -> Kept {
     let t = kept::made(row);
     let s: Settings = kept::settings(t);
-    let answer: Prepared = film_prepare::prepare(
-        t.film, t.width, t.height, picture, s, map, scratch, list,
-    );
+    let answer = film_prepare::prepare(t.film, t.width, t.height, picture, s, map, scratch, list);
     kept::of_prepared(b'P', at(row, column::NO), t, answer)
 }
 
@@ -352,10 +339,8 @@ fn turns(
     s: &mut [u32],
     l: &mut [u64],
 ) {
-    let mut i = 0;
-    while i < count {
+    for i in 0..count {
         mapped(by_c, turned(row, i), lent, m, s, l);
-        i += 1;
     }
 }
 

@@ -63,10 +63,8 @@ fn taken(
 // Runs all rows, over rooms for the largest picture and the most counts.
 fn rows(by_c: bool, text: &[u8], picture: &mut [u16], counts: &mut [u32]) {
     let mut line = row::fresh();
-    let mut i = 0;
-    while i < text.len() {
-        line = taken(by_c, text, line, text[i], picture, counts);
-        i += 1;
+    for b in text {
+        line = taken(by_c, text, line, *b, picture, counts);
     }
 }
 

@@ -6,10 +6,8 @@ const COUNTS_BASE: u64 = 3000000000;
 
 // Fills the counts before counting: the entries run up again and again.
 pub(crate) fn fill(entries: &mut [u32]) {
-    let mut i = 0;
-    while i < entries.len() {
+    for i in 0..entries.len() {
         entries[i] = low(plus(COUNTS_BASE, rest(i as u64, 1000)));
-        i += 1;
     }
 }
 
@@ -34,10 +32,8 @@ fn share(i: usize, step: u64, more: u64) -> u64 {
 
 // Each entry at a multiple of the step gains a number modulo 2^32.
 pub(crate) fn gain_each(entries: &mut [u32], step: u64, more: u64) {
-    let mut i = 0;
-    while i < entries.len() {
+    for i in 0..entries.len() {
         let part = share(i, step, more);
         gain(entries, i as u64, part);
-        i += 1;
     }
 }

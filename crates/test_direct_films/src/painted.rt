@@ -73,16 +73,10 @@ fn directed(row: Row, picture: &[u16]) -> Left {
 
 // The line K: whether both gave the same picture, where both accepted.
 fn same(no: u64, a: Left, number: u32, digest: u64) -> Text {
-    if a.number != 0 {
+    if a.number != 0 || number != 0 {
         return test_text::blank();
     }
-    if number != 0 {
-        return test_text::blank();
-    }
-    if a.digest != digest {
-        return test_text::one(b'K', no, 0);
-    }
-    test_text::one(b'K', no, 1)
+    test_text::one(b'K', no, if a.digest == digest { 1 } else { 0 })
 }
 
 // Runs a film's row.

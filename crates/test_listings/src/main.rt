@@ -81,11 +81,11 @@ fn lengths() {
 fn largest() {
     let dark = [0u16; 8192];
     let mut narrow = [0u8; 8205];
-    pgm_write::write(&dark, 128, 64, 15, &mut narrow);
+    let _ = pgm_write::write(&dark, 128, 64, 15, &mut narrow);
     show(31, &narrow);
     let bright = [300u16; 8192];
     let mut wide = [0u8; 16398];
-    pgm_write::write(&bright, 64, 128, 300, &mut wide);
+    let _ = pgm_write::write(&bright, 64, 128, 300, &mut wide);
     show(32, &wide);
     show(33, b"P5 3 2731 15 ");
 }

@@ -7,9 +7,6 @@ mod given;
 mod text;
 
 use given::Given;
-use pgm_greys::Turned;
-use pgm_read::Sizes;
-use pgm_write::Written;
 
 // The number of the standard input.
 const STDIN_FILENO: i32 = 0;
@@ -26,8 +23,8 @@ fn samples_of(bytes: usize, maxval: u32) -> usize {
 fn again(file: &[u8], greys: &[u16], width: u32, height: u32, maxval: u32) {
     let mut out = [0u8; 64];
     match pgm_write::write(greys, width, height, maxval, &mut out) {
-        Written::Bytes(n) => text::written(text::first_bytes(&out, n), file),
-        Written::Refused(n) => text::refused(n),
+        Ok(n) => text::written(text::first_bytes(&out, n), file),
+        Err(r) => text::refused(r.number()),
     }
 }
 
@@ -36,12 +33,12 @@ fn film(file: &[u8], width: u32, height: u32, maxval: u32) {
     let mut target = [0u16; 64];
     let raster = pgm_read::read_raster(file);
     match pgm_greys::read_greys(raster, 0, width, height, maxval, &mut target) {
-        Turned::Done => {
+        Ok(()) => {
             let greys = text::first_greys(&target, samples_of(raster.len(), maxval));
             text::plain(greys, width, height, maxval);
             again(file, greys, width, height, maxval);
         }
-        Turned::Refused(n) => text::refused(n),
+        Err(r) => text::refused(r.number()),
     }
 }
 
@@ -49,8 +46,8 @@ fn film(file: &[u8], width: u32, height: u32, maxval: u32) {
 fn as_raw(greys: &[u16], width: u32, height: u32, maxval: u32) {
     let mut out = [0u8; 64];
     match pgm_write::write(greys, width, height, maxval, &mut out) {
-        Written::Bytes(n) => text::raw(text::first_bytes(&out, n)),
-        Written::Refused(n) => text::refused(n),
+        Ok(n) => text::raw(text::first_bytes(&out, n)),
+        Err(r) => text::refused(r.number()),
     }
 }
 
@@ -63,20 +60,20 @@ fn times(width: usize, height: usize) -> usize {
 fn show_plain(file: &[u8]) {
     let mut target = [0u16; 64];
     match pgm_plain_read::read_plain(file, &mut target) {
-        Sizes::Found(width, height, maxval) => {
-            let greys = text::first_greys(&target, times(width as usize, height as usize));
-            text::plain(greys, width, height, maxval);
-            as_raw(greys, width, height, maxval);
+        Ok(s) => {
+            let greys = text::first_greys(&target, times(s.width as usize, s.height as usize));
+            text::plain(greys, s.width, s.height, s.maxval);
+            as_raw(greys, s.width, s.height, s.maxval);
         }
-        Sizes::Refused(n) => text::refused(n),
+        Err(r) => text::refused(r.number()),
     }
 }
 
 // A raw file.
 fn show_raw(file: &[u8]) {
     match pgm_read::read_sizes(file) {
-        Sizes::Found(width, height, maxval) => film(file, width, height, maxval),
-        Sizes::Refused(n) => text::refused(n),
+        Ok(s) => film(file, s.width, s.height, s.maxval),
+        Err(r) => text::refused(r.number()),
     }
 }
 
@@ -112,10 +109,8 @@ fn taken(g: Given, b: u8) -> Given {
 // All files of the input.
 fn all(input: &[u8]) {
     let mut g = given::nothing();
-    let mut i = 0;
-    while i < input.len() {
-        g = taken(g, input[i]);
-        i += 1;
+    for b in input {
+        g = taken(g, *b);
     }
 }
 

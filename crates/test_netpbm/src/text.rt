@@ -47,12 +47,10 @@ fn left_behind(left: u32, width: u32) -> u32 {
 // The rows, a space behind each sample.
 fn rows(greys: &[u16], width: u32) {
     let mut left = width;
-    let mut i = 0;
-    while i < greys.len() {
-        io::print_decimal(STDOUT_FILENO, greys[i] as u64);
+    for grey in greys {
+        io::print_decimal(STDOUT_FILENO, *grey as u64);
         io::write_all(STDOUT_FILENO, b" ");
         left = left_behind(left, width);
-        i += 1;
     }
 }
 
@@ -68,23 +66,8 @@ pub(crate) fn plain(greys: &[u16], width: u32, height: u32, maxval: u32) {
     rows(greys, width);
 }
 
-// Whether the two are the same bytes.
-fn same(first: &[u8], second: &[u8]) -> bool {
-    if first.len() != second.len() {
-        return false;
-    }
-    let mut i = 0;
-    while i < first.len() {
-        if first[i] != second[i] {
-            return false;
-        }
-        i += 1;
-    }
-    true
-}
-
 pub(crate) fn written(bytes: &[u8], file: &[u8]) {
-    if same(bytes, file) {
+    if bytes == file {
         line(b"written again: the same bytes");
         return;
     }
@@ -93,11 +76,9 @@ pub(crate) fn written(bytes: &[u8], file: &[u8]) {
 
 // The bytes as numbers, each behind one blank.
 fn numbers(bytes: &[u8]) {
-    let mut i = 0;
-    while i < bytes.len() {
+    for b in bytes {
         io::write_all(STDOUT_FILENO, b" ");
-        io::print_decimal(STDOUT_FILENO, bytes[i] as u64);
-        i += 1;
+        io::print_decimal(STDOUT_FILENO, *b as u64);
     }
 }
 

@@ -6,8 +6,8 @@ ghost use Rattle.std.specs.Prelude.{◌≡◌, true, ◌/◌, ◌≤◌, length}
 ghost use Rattle.base_lists.specs.Lists.{all};
 ghost use Rattle.base_range.specs.Scan.{within};
 
-use film_prepare::Enhanced;
-use film_settings::{Settings, Window};
+use base_rows::Refusal;
+use film_settings::{Footer, Settings, Window};
 use tile_limit::{Clip, Edition};
 
 // The number of the standard output.
@@ -21,7 +21,7 @@ fn print(name: &[u8], n: u32) {
 }
 
 // What enhance answers for a flat film of 20 by 20, whose tiles have 100 pixels, with 64 bins.
-fn asked(factor: f32) -> Enhanced {
+fn asked(factor: f32) -> Result<Footer, Refusal> {
     let mut picture = [7u16; 400];
     let mut map = [0u16; 256];
     let mut scratch = [0u32; 64];
@@ -37,25 +37,25 @@ fn asked(factor: f32) -> Enhanced {
     film_prepare::enhance(20, 20, &mut picture[..], s, &mut map[..], &mut scratch[..])
 }
 
-fn number(answer: Enhanced) -> u32 {
+fn number(answer: Result<Footer, Refusal>) -> u32 {
     match answer {
-        Enhanced::Done(_) => 0,
-        Enhanced::Refused(n) => n,
+        Ok(_) => 0,
+        Err(r) => r.number(),
     }
 }
 
-fn limit(answer: Enhanced) -> u32 {
+fn limit(answer: Result<Footer, Refusal>) -> u32 {
     match answer {
-        Enhanced::Done(foot) => foot.limit,
-        Enhanced::Refused(_) => 0,
+        Ok(foot) => foot.limit,
+        Err(_) => 0,
     }
 }
 
 // 1 where the factor used is 128 / 100 in f64.
-fn used(answer: Enhanced) -> u32 {
+fn used(answer: Result<Footer, Refusal>) -> u32 {
     match answer {
-        Enhanced::Done(foot) => { if foot.used == 128.0 / 100.0 { 1 } else { 0 } }
-        Enhanced::Refused(_) => 0,
+        Ok(foot) => { if foot.used == 128.0 / 100.0 { 1 } else { 0 } }
+        Err(_) => 0,
     }
 }
 
@@ -79,8 +79,8 @@ fn rendered() -> u32 {
     };
     let answer = film_prepare::enhance(4, 4, &mut picture[..], s, &mut map[..], &mut scratch[..]);
     match answer {
-        Enhanced::Done(_) => wide(picture[10]),
-        Enhanced::Refused(n) => 1000 + n % 1000,
+        Ok(_) => wide(picture[10]),
+        Err(r) => 1000 + r.number() % 1000,
     }
 }
 

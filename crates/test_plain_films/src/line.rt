@@ -28,18 +28,14 @@ pub(crate) fn sizes(letter: u8, no: u32, answer: u32, sizes: [u32; 3]) {
 }
 
 pub(crate) fn greys(entries: &[u16]) {
-    let mut i = 0;
-    while i < entries.len() {
-        field(entries[i] as u64);
-        i += 1;
+    for entry in entries {
+        field(*entry as u64);
     }
 }
 
 pub(crate) fn bytes(entries: &[u8]) {
-    let mut i = 0;
-    while i < entries.len() {
-        field(entries[i] as u64);
-        i += 1;
+    for entry in entries {
+        field(*entry as u64);
     }
 }
 

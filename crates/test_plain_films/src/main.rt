@@ -81,10 +81,8 @@ fn taken(r: Row, b: u8) -> Row {
 // Runs all rows.
 fn all(input: &[u8]) {
     let mut r = row::fresh();
-    let mut i = 0;
-    while i < input.len() {
-        r = taken(r, input[i]);
-        i += 1;
+    for b in input {
+        r = taken(r, *b);
     }
 }
 

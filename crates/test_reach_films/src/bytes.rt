@@ -1,8 +1,6 @@
 // The scratch rows of bytes: prepare then draw, and enhance, on bytes.
 use crate::line::Shown;
 use crate::{line, wide};
-use film_draw::Drawn;
-use film_prepare::Prepared;
 use film_settings::{MapRecord, Settings};
 use test_set::kept::{Eleven, Kept};
 use test_set::whole::{Row, at, fitting};
@@ -18,10 +16,8 @@ fn byte(wide: &[u16], i: usize) -> u8 {
 
 // Takes the wide entries as bytes.
 fn taken(wide: &[u16], entries: &mut [u8]) {
-    let mut i = 0;
-    while i < entries.len() {
+    for i in 0..entries.len() {
         entries[i] = byte(wide, i);
-        i += 1;
     }
 }
 
@@ -49,7 +45,7 @@ fn prepared_in(row: Row, picture: &[u8], map: &mut [u8], scratch: &mut [u32]) ->
     let l = &mut list[0..n];
     let t = kept::made(row);
     let s: Settings = kept::settings(t);
-    let answer: Prepared = byte_prepare::prepare_bytes(
+    let answer = byte_prepare::prepare_bytes(
         t.film, t.width, t.height, picture, s, map, scratch, l,
     );
     kept::of_prepared(0, at(row, column::NO), t, answer)
@@ -81,7 +77,7 @@ fn draw_by(t: Eleven, k: Kept, scratch: Row, picture: &[u8], map: &[u8], out: &m
     let s: Settings = kept::settings(t);
     let record: MapRecord = kept::record(k);
     let win = wide::window(scratch);
-    let answer: Drawn = byte_draw::draw_bytes(
+    let answer = byte_draw::draw_bytes(
         t.film, t.width, t.height, picture, s, record, win, map, out,
     );
     film::drawn_number(answer)

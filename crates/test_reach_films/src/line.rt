@@ -49,13 +49,11 @@ fn shown_line(letter: u8, no: u64, s: Shown) -> Text {
 
 // 1 where both films show the same grey, as draw and as enhance left it, else 0.
 fn same(a: Shown, b: Shown) -> u32 {
-    if a.by_draw != b.by_draw {
-        return 0;
+    if a.by_draw == b.by_draw && a.by_enhance == b.by_enhance {
+        1
+    } else {
+        0
     }
-    if a.by_enhance != b.by_enhance {
-        return 0;
-    }
-    1
 }
 
 // All lines of a scratch: the tiles that the pixel's rule uses, both films, and whether they show the same.

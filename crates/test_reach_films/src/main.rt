@@ -42,10 +42,8 @@ fn taken(text: &[u8], line: Line, b: u8) -> Line {
 // Runs all rows.
 fn rows(text: &[u8]) {
     let mut line = row::fresh();
-    let mut i = 0;
-    while i < text.len() {
-        line = taken(text, line, text[i]);
-        i += 1;
+    for b in text {
+        line = taken(text, line, *b);
     }
 }
 

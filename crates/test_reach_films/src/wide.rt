@@ -1,9 +1,8 @@
 // The scratch rows: prepare then draw, and enhance.
 use crate::line::Shown;
 use crate::{line, place};
-use film_draw::Drawn;
-use film_prepare::Enhanced;
-use film_settings::{MapRecord, Settings, Window};
+use base_rows::Refusal;
+use film_settings::{Footer, MapRecord, Settings, Window};
 use test_set::film::Made;
 use test_set::kept::{Eleven, Kept};
 use test_set::whole::{Row, at, fitting};
@@ -15,10 +14,10 @@ fn room() -> [u16; 4096] {
 }
 
 // What an answer of enhance says: 0 where it accepted.
-pub(crate) fn number(e: Enhanced) -> u32 {
+pub(crate) fn number(e: Result<Footer, Refusal>) -> u32 {
     match e {
-        Enhanced::Done(_) => 0,
-        Enhanced::Refused(n) => n,
+        Ok(_) => 0,
+        Err(r) => r.number(),
     }
 }
 
@@ -53,9 +52,7 @@ fn draw_by(t: Eleven, k: Kept, scratch: Row, picture: &[u16], map: &[u16], out: 
     let s: Settings = kept::settings(t);
     let record: MapRecord = kept::record(k);
     let win = window(scratch);
-    let answer: Drawn = film_draw::draw(
-        t.film, t.width, t.height, picture, s, record, win, map, out,
-    );
+    let answer = film_draw::draw(t.film, t.width, t.height, picture, s, record, win, map, out);
     film::drawn_number(answer)
 }
 

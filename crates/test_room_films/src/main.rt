@@ -105,10 +105,8 @@ fn taken(
 // Runs all rows, over rooms for the largest picture, an output and the largest buffer.
 fn rows(set: &[u8], picture: &mut [u16], out: &mut [u16], map: &mut [u16]) {
     let mut st = state::empty(0);
-    let mut i = 0;
-    while i < set.len() {
-        st = taken(set, st, set[i], picture, out, map);
-        i += 1;
+    for b in set {
+        st = taken(set, st, *b, picture, out, map);
     }
 }
 

@@ -150,10 +150,8 @@ fn kept(st: Station, next: Station, i: usize, number: u64) -> Station {
 pub fn without_film(st: Station, number: u64) -> Station {
     let mut next = st;
     next.stored = 0;
-    let mut i = 0;
-    while i < st.stored {
+    for i in 0..st.stored {
         next = kept(st, next, i, number);
-        i += 1;
     }
     next
 }

@@ -1,7 +1,6 @@
 // Each film that is stored and not dropped, drawn from the room and held to the same film prepared alone.
 use crate::state::Station;
 use crate::{state, step};
-use film_draw::Drawn;
 use film_settings::{MapRecord, Settings, Window};
 use test_set::film::{Made, Shot};
 use test_set::kept::{Eleven, Kept};
@@ -44,9 +43,7 @@ fn draw_alone(t: Eleven, k: Kept, picture: &[u16], map: &[u16], out: &mut [u16])
     let s: Settings = kept::settings(t);
     let record: MapRecord = kept::record(k);
     let win = all_of(t);
-    let answer: Drawn = film_draw::draw(
-        t.film, t.width, t.height, picture, s, record, win, map, out,
-    );
+    let answer = film_draw::draw(t.film, t.width, t.height, picture, s, record, win, map, out);
     film::drawn_number(answer)
 }
 
@@ -73,13 +70,11 @@ fn alone(row: Row, picture: &mut [u16], out: &mut [u16]) -> Shot {
 
 // Whether both answers and both outputs are the same: 1, else 0.
 fn same(a: Shot, b: Shot) -> u32 {
-    if a.number != b.number {
-        return 0;
+    if a.number == b.number && a.digest == b.digest {
+        1
+    } else {
+        0
     }
-    if a.digest != b.digest {
-        return 0;
-    }
-    1
 }
 
 // The line of a film: its number, the answer of the room's draw, and whether it is drawn as if it alone had been prepared.
@@ -115,10 +110,8 @@ fn one(
 
 // All of them, in the order of storing.
 fn films(set: &[u8], no: u64, st: Station, picture: &mut [u16], out: &mut [u16], map: &[u16]) {
-    let mut i = 0;
-    while i < st.stored {
+    for i in 0..st.stored {
         one(set, no, st, i, picture, out, map);
-        i += 1;
     }
 }
 

@@ -1,6 +1,6 @@
 -- What the functions of the film set answer. A row is the list of its numbers, and a number that is not there reads as 0.
 -- Assumes nothing.
-use Rattle.std.specs.Prelude.{ℕ, ◌+◌, ◌-◌, ◌*◌, ◌/◌, ◌%◌, ◌^◌, Bool, cond, ◌&&◌, List, [], ◌∷◌, length, set, replicate, ◌==◌, from_bits, nat_le, nat_lt, slice_index, slice_set, to_bits, Float}
+use Rattle.std.specs.Prelude.{ℕ, ◌+◌, ◌-◌, ◌*◌, ◌/◌, ◌%◌, ◌^◌, Bool, cond, ◌&&◌, List, [], ◌∷◌, length, set, replicate, ◌==◌, from_bits, nat_le, nat_lt, slice_index, slice_set, to_bits, Float, Result, Ok, Err}
 use Rattle.std.specs.Float.{nan, binary32, binary64}
 use Rattle.test_text.specs.declared.Text.{Text}
 use Rattle.test_text.specs.Text.{run, blank_text, field_of, fields_of, hex_field_of, line_start, line_end, line_of, small_of}
@@ -13,13 +13,10 @@ use Rattle.pixel_grid.specs.Grid.{axis_of, no_axis_of}
 use Rattle.film_settings.specs.declared.Settings.{Settings}
 use Rattle.film_settings.specs.declared.MapRecord.{MapRecord}
 use Rattle.film_settings.specs.declared.Window.{Window}
+use Rattle.film_settings.specs.declared.Footer.{Footer}
 use Rattle.film_prepare.specs.declared.Prepared.{Prepared}
-use Rattle.film_prepare.specs.declared.Made.{Made}
-use Rattle.film_prepare.specs.declared.Made.TheVariants as made
-use Rattle.film_prepare.specs.declared.Enhanced.{Enhanced}
-use Rattle.film_prepare.specs.declared.Enhanced.TheVariants as enhanced
-use Rattle.film_draw.specs.declared.Drawn.{Drawn}
-use Rattle.film_draw.specs.declared.Drawn.TheVariants as drawn
+use Rattle.base_rows.specs.declared.Refusal.{Refusal}
+use Rattle.base_rows.specs.Given.{number_of, given}
 use Rattle.test_set.specs.declared.row.Line.{Line}
 use Rattle.test_set.specs.declared.kept.Eleven.{Eleven}
 use Rattle.test_set.specs.declared.kept.Kept.{Kept}
@@ -224,19 +221,15 @@ kept_as number t a = record { number = number; eleven = t; axes = a }
 abbrev pub kept_made : ℕ → Eleven → Kept
 kept_made number t = kept_as number t (made_axes t)
 
--- what is kept of an answer beside its record: that record, or the made one beside the refusal's number
-abbrev pub kept_beside : Eleven → MapRecord → Made → Kept
-kept_beside t r (made.Done foot) = kept_as 0 (flat_of r) (axes_in_of r)
-kept_beside t r (made.Refused n) = kept_made n t
-
--- what is kept of prepare's answer
-abbrev pub kept_prepared : Eleven → Prepared → Kept
-kept_prepared t p = kept_beside t p.kept p.answer
+-- what is kept of prepare's answer: its record, or the made one beside the refusal's number
+abbrev pub kept_prepared : Eleven → Result Prepared Refusal → Kept
+kept_prepared t (Ok p) = kept_as 0 (flat_of p.kept) (axes_in_of p.kept)
+kept_prepared t (Err r) = kept_made (number_of r) t
 
 -- what is kept of enhance's answer
-abbrev pub kept_enhanced : Eleven → Enhanced → Kept
-kept_enhanced t (enhanced.Done foot) = kept_made 0 t
-kept_enhanced t (enhanced.Refused n) = kept_made n t
+abbrev pub kept_enhanced : Eleven → Result Footer Refusal → Kept
+kept_enhanced t (Ok foot) = kept_made 0 t
+kept_enhanced t (Err r) = kept_made (number_of r) t
 
 -- what prepare left, with its list's digest and "`x`, no, the list (small)"
 abbrev pub left_of : ℕ → Kept → List ℕ → Left
@@ -321,9 +314,8 @@ window_of row =
     }
 
 -- draw's number, 0 where it accepted
-abbrev pub drawn_number_of : Drawn → ℕ
-drawn_number_of drawn.Done = 0
-drawn_number_of (drawn.Refused n) = n
+abbrev pub drawn_number_of : Result (Unit {0}) Refusal → ℕ
+drawn_number_of d = given d
 
 -- the column of a record's field in a film's row
 unfoldable pub field_column : ℕ → ℕ

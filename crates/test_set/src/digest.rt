@@ -19,29 +19,25 @@ pub(crate) fn first(entries: &[u16], n: u64) -> u64
     ensures { result ≡ digest_of (take n entries.now) }
 {
     let end = fitting(n, entries.len());
-    let mut h = 7;
-    let mut i = 0;
-    while i < end {
-        h = taken(h, entries[i] as u64);
-        i += 1;
-    }
-    taken(h, end as u64)
+    greys(&entries[..end])
 }
 
 pub fn greys(entries: &[u16]) -> u64
     ensures { result ≡ digest_of entries.now }
 {
-    first(entries, entries.len() as u64)
+    let mut h = 7;
+    for entry in entries {
+        h = taken(h, *entry as u64);
+    }
+    taken(h, entries.len() as u64)
 }
 
 pub fn words(entries: &[u32]) -> u64
     ensures { result ≡ digest_of entries.now }
 {
     let mut h = 7;
-    let mut i = 0;
-    while i < entries.len() {
-        h = taken(h, entries[i] as u64);
-        i += 1;
+    for entry in entries {
+        h = taken(h, *entry as u64);
     }
     taken(h, entries.len() as u64)
 }
@@ -50,10 +46,8 @@ pub fn bytes(entries: &[u8]) -> u64
     ensures { result ≡ digest_of entries.now }
 {
     let mut h = 7;
-    let mut i = 0;
-    while i < entries.len() {
-        h = taken(h, entries[i] as u64);
-        i += 1;
+    for entry in entries {
+        h = taken(h, *entry as u64);
     }
     taken(h, entries.len() as u64)
 }
@@ -62,10 +56,8 @@ pub fn longs(entries: &[u64]) -> u64
     ensures { result ≡ digest_of entries.now }
 {
     let mut h = 7;
-    let mut i = 0;
-    while i < entries.len() {
-        h = taken(h, entries[i]);
-        i += 1;
+    for entry in entries {
+        h = taken(h, *entry);
     }
     taken(h, entries.len() as u64)
 }

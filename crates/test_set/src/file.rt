@@ -5,9 +5,7 @@ ghost use Rattle.test_set.specs.Filmset.{sizes_line_of, laid_line_of};
 use crate::film::Shot;
 use crate::whole::{Row, at, fitting, word};
 use crate::{column, digest, film, made};
-use pgm_greys::Turned;
-use pgm_read::Sizes;
-use pgm_write::Written;
+use base_rows::Refusal;
 use test_text::Text;
 
 // What a target of greys counts up from.
@@ -53,10 +51,8 @@ fn part(bytes: &[u8], start: usize, size: usize) -> &[u8] {
 // The bytes lent to write.
 fn out_room() -> [u8; 20000] {
     let mut entries = [0u8; 20000];
-    let mut i = 0;
-    while i < 20000 {
+    for i in 0..20000 {
         entries[i] = (100 + i % 100) as u8;
-        i += 1;
     }
     entries
 }
@@ -64,11 +60,9 @@ fn out_room() -> [u8; 20000] {
 // The bytes of a file that a row lists from a column on.
 fn row_bytes(row: Row, first: usize) -> [u8; 32] {
     let mut entries = [0u8; 32];
-    let mut i = 0;
-    while i < 32 {
+    for i in 0..32 {
         let place = std::num::wrapping_add_usize(first, i);
         entries[i] = (at(row, place) % 256) as u8;
-        i += 1;
     }
     entries
 }
@@ -89,16 +83,15 @@ fn sizes(by_c: bool, bytes: &[u8]) -> Found {
     if by_c {
         return sizes_c(bytes);
     }
-    let answer = pgm_read::read_sizes(bytes);
-    match answer {
-        Sizes::Found(width, height, maxval) => Found {
+    match pgm_read::read_sizes(bytes) {
+        Ok(found) => Found {
             number: 0,
-            width,
-            height,
-            maxval,
+            width: found.width,
+            height: found.height,
+            maxval: found.maxval,
         },
-        Sizes::Refused(number) => Found {
-            number,
+        Err(r) => Found {
+            number: r.number(),
             width: 0,
             height: 0,
             maxval: 0,
@@ -123,19 +116,12 @@ fn raster(by_c: bool, bytes: &[u8], number: u32) -> &[u8] {
     pgm_read::read_raster(bytes)
 }
 
-fn turned_number(t: Turned) -> u32 {
-    match t {
-        Turned::Done => 0,
-        Turned::Refused(n) => n,
-    }
-}
-
 // Turns a raster into greys; answers the call's number.
 fn turn_by(by_c: bool, bytes: &[u8], start: usize, f: Found, target: &mut [u16]) -> u32 {
     if by_c {
         return c_files::tz_read_greys(bytes, start, f.width, f.height, f.maxval, target);
     }
-    turned_number(pgm_greys::read_greys(bytes, start, f.width, f.height, f.maxval, target))
+    film::drawn_number(pgm_greys::read_greys(bytes, start, f.width, f.height, f.maxval, target))
 }
 
 // The lines of a raster turned into greys: answer, digests and target; and how the front of the target looks.
@@ -253,17 +239,13 @@ fn written_c(row: Row, picture: &[u16], out: &mut [u8]) -> Laid {
     Laid { number, count }
 }
 
-fn written_number(w: Written) -> u32 {
+fn laid_of(w: Result<usize, Refusal>) -> Laid {
     match w {
-        Written::Bytes(_) => 0,
-        Written::Refused(n) => n,
-    }
-}
-
-fn laid_of(w: Written) -> Laid {
-    Laid {
-        number: written_number(w),
-        count: listing_file::laid(w),
+        Ok(count) => Laid { number: 0, count },
+        Err(r) => Laid {
+            number: r.number(),
+            count: 0,
+        },
     }
 }
 

@@ -6,7 +6,7 @@ use crate::axes::Axes;
 use crate::kept::{Eleven, Kept};
 use crate::whole::{Row, at, fitting, low, with, word};
 use crate::{axes, column, digest, kept, made};
-use film_draw::Drawn;
+use base_rows::Refusal;
 use film_settings::Window;
 use pixel_grid::Axis;
 use test_text::Text;
@@ -347,12 +347,12 @@ fn draw_c(drawn: Row, t: Eleven, k: Kept, picture: &[u16], map: &[u16], out: &mu
     )
 }
 
-pub fn drawn_number(d: Drawn) -> u32
+pub fn drawn_number(d: Result<(), Refusal>) -> u32
     ensures { result ≡ drawn_number_of d }
 {
     match d {
-        Drawn::Done => 0,
-        Drawn::Refused(n) => n,
+        Ok(()) => 0,
+        Err(r) => r.number(),
     }
 }
 

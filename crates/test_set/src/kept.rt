@@ -5,8 +5,9 @@ ghost use Rattle.test_set.specs.Filmset.{float_of, eleven_of_lem, clip_of_lem, e
 use crate::axes::Axes;
 use crate::whole::{Row, word};
 use crate::{axes, column};
-use film_prepare::{Enhanced, Made, Prepared};
-use film_settings::{MapRecord, Settings};
+use base_rows::Refusal;
+use film_prepare::Prepared;
+use film_settings::{Footer, MapRecord, Settings};
 use test_text::Text;
 use tile_limit::{Clip, Edition};
 
@@ -299,25 +300,24 @@ pub fn of_c(
 }
 
 // What prepare answered, printed under the letter if that is not 0.
-pub fn of_prepared(letter: u8, no: u64, asked: Eleven, p: Prepared) -> Kept
+pub fn of_prepared(letter: u8, no: u64, asked: Eleven, p: Result<Prepared, Refusal>) -> Kept
     ensures { result ≡ kept_prepared asked p }
 {
-    let answer = p.answer;
-    let record = p.kept;
-    match answer {
-        Made::Done(footer) => {
-            let eleven = flat(record);
-            let axes = axes_in(record);
+    match p {
+        Ok(made) => {
+            let eleven = flat(made.kept);
+            let axes = axes_in(made.kept);
             let k = Kept {
                 number: 0,
                 eleven,
                 axes,
             };
+            let footer = made.footer;
             test_text::print(line(letter, no, k, footer.limit, footer.asked, footer.used));
             k
         }
-        Made::Refused(number) => {
-            let k = of_made(number, asked);
+        Err(r) => {
+            let k = of_made(r.number(), asked);
             test_text::print(line(letter, no, k, 0, 0.0, 0.0));
             k
         }
@@ -325,17 +325,17 @@ pub fn of_prepared(letter: u8, no: u64, asked: Eleven, p: Prepared) -> Kept
 }
 
 // What enhance answered, printed.
-pub fn of_enhanced(no: u64, asked: Eleven, e: Enhanced) -> Kept
+pub fn of_enhanced(no: u64, asked: Eleven, e: Result<Footer, Refusal>) -> Kept
     ensures { result ≡ kept_enhanced asked e }
 {
     match e {
-        Enhanced::Done(footer) => {
+        Ok(footer) => {
             let k = of_made(0, asked);
             test_text::print(line(b'E', no, k, footer.limit, footer.asked, footer.used));
             k
         }
-        Enhanced::Refused(number) => {
-            let k = of_made(number, asked);
+        Err(r) => {
+            let k = of_made(r.number(), asked);
             test_text::print(line(b'E', no, k, 0, 0.0, 0.0));
             k
         }

@@ -127,11 +127,9 @@ pub fn picture(row: Row, entries: &mut [u16])
 {
     let r = rule_of(row);
     let mut g = r.seed;
-    let mut i = 0;
-    while i < entries.len() {
+    for i in 0..entries.len() {
         g = step(g);
         entries[i] = pixel(r, g, i as u64);
-        i += 1;
     }
 }
 
@@ -149,11 +147,9 @@ pub(crate) fn poke(entries: &mut [u16], place: u64, value: u64)
 fn fill(entries: &mut [u16], base: u64, first: u64, pace: u64, span: u64)
     ensures { entries.new ≡ tab (length entries.old) (fill_of base first pace span) }
 {
-    let mut i = 0;
-    while i < entries.len() {
+    for i in 0..entries.len() {
         let way = plus(times(i as u64, pace), first);
         entries[i] = grey(plus(base, rest(way, span)));
-        i += 1;
     }
 }
 
@@ -182,10 +178,8 @@ pub fn scratch() -> [u32; 4200]
     ensures { result ≡ tab 4200 scratch_of }
 {
     let mut entries = [0u32; 4200];
-    let mut i = 0;
-    while i < 4200 {
+    for i in 0..4200 {
         entries[i] = (i % 1000 * 5 % 1000 + 1) as u32;
-        i += 1;
     }
     entries
 }
@@ -195,10 +189,8 @@ pub fn list() -> [u64; 600]
     ensures { result ≡ tab 600 list_entry }
 {
     let mut entries = [0u64; 600];
-    let mut i = 0;
-    while i < 600 {
+    for i in 0..600 {
         entries[i] = 1099511627776 + (i % 1000) as u64;
-        i += 1;
     }
     entries
 }

@@ -110,10 +110,8 @@ pub(crate) fn rows(by_c: bool, text: &[u8], picture: &mut [u16], out: &mut [u16]
     ensures { (length picture.new ≡ length picture.old) × (length out.new ≡ length out.old) }
 {
     let mut line = fresh();
-    let mut i = 0;
-    while i < text.len() {
-        line = taken(by_c, text, line, text[i], picture, out);
-        i += 1;
+    for b in text {
+        line = taken(by_c, text, line, *b, picture, out);
     }
 }
 
@@ -153,10 +151,8 @@ pub fn found(text: &[u8], no: u64) -> Row
     ensures { result ≡ found_row text.now no }
 {
     let mut line = fresh();
-    let mut i = 0;
-    while i < text.len() {
-        line = looked(line, no, text[i]);
-        i += 1;
+    for b in text {
+        line = looked(line, no, *b);
     }
     line.numbers
 }

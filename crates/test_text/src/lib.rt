@@ -44,10 +44,8 @@ fn puts(t: Text, bytes: &[u8]) -> Text
     ensures { result ≡ puts_of t bytes.now }
 {
     let mut line = t;
-    let mut i = 0;
-    while i < bytes.len() {
-        line = put(line, bytes[i]);
-        i += 1;
+    for b in bytes {
+        line = put(line, *b);
     }
     line
 }
@@ -150,10 +148,8 @@ fn fields(t: Text, entries: &[u16]) -> Text
     ensures { result ≡ fields_of t entries.now }
 {
     let mut line = t;
-    let mut i = 0;
-    while i < entries.len() {
-        line = field(line, entries[i] as u64);
-        i += 1;
+    for entry in entries {
+        line = field(line, *entry as u64);
     }
     line
 }
@@ -162,10 +158,8 @@ fn byte_fields(t: Text, entries: &[u8]) -> Text
     ensures { result ≡ fields_of t entries.now }
 {
     let mut line = t;
-    let mut i = 0;
-    while i < entries.len() {
-        line = field(line, entries[i] as u64);
-        i += 1;
+    for entry in entries {
+        line = field(line, *entry as u64);
     }
     line
 }
@@ -174,10 +168,8 @@ pub fn word_fields(t: Text, entries: &[u32]) -> Text
     ensures { result ≡ fields_of t entries.now }
 {
     let mut line = t;
-    let mut i = 0;
-    while i < entries.len() {
-        line = field(line, entries[i] as u64);
-        i += 1;
+    for entry in entries {
+        line = field(line, *entry as u64);
     }
     line
 }
@@ -186,22 +178,18 @@ fn long_fields(t: Text, entries: &[u64]) -> Text
     ensures { result ≡ fields_of t entries.now }
 {
     let mut line = t;
-    let mut i = 0;
-    while i < entries.len() {
-        line = field(line, entries[i]);
-        i += 1;
+    for entry in entries {
+        line = field(line, *entry);
     }
     line
 }
 
 // Whether a buffer of so many entries is listed.
+#[tactic(auto, unfolding(crate::specs::Text::is_small_of))]
 fn is_small(length: usize) -> bool
     ensures { result ≡ is_small_of length }
 {
-    if length == 0 {
-        return false;
-    }
-    length <= 64
+    0 < length && length <= 64
 }
 
 // A small buffer of 1 to 64 entries, listed; blank for any other.
@@ -245,26 +233,14 @@ pub fn small_longs(letter: u8, no: u64, entries: &[u64]) -> Text
 pub fn either(is_first: bool, first: u8, second: u8) -> u8
     ensures { result ≡ cond is_first first second }
 {
-    if is_first {
-        return first;
-    }
-    second
-}
-
-fn least(a: usize, b: usize) -> usize
-    ensures { result ≡ min a b }
-{
-    if a < b {
-        return a;
-    }
-    b
+    if is_first { first } else { second }
 }
 
 // Writes a line to standard output; answers how many bytes it has.
 pub fn print(t: Text) -> usize
     ensures { result ≡ min t.end 1368 }
 {
-    let n = least(t.end, 1368);
+    let n = t.end.min(1368);
     let bytes = t.bytes;
     io::write_all(STDOUT_FILENO, &bytes[..n]);
     n

@@ -18,15 +18,12 @@ pub fn bin_by(grey: u32, min: u32, factor: u32) -> u32
     requires { (min ≤ grey) × (grey ≤ 4095) }
     ensures { result ≡ bin_by_of min factor grey }
 {
-    let t = u32::trailing_zeros(factor ^ 1);
-    if 11 < t {
-        if t < 25 {
-            if (1u32 << t) + 1 == factor {
-                return (grey - min) >> (24 - t);
-            }
-        }
+    let t = (factor ^ 1).trailing_zeros();
+    if 11 < t && t < 25 && (1u32 << t) + 1 == factor {
+        (grey - min) >> (24 - t)
+    } else {
+        ((grey - min) as u64 * factor as u64 / 16777216) as u32
     }
-    ((grey - min) as u64 * factor as u64 / 16777216) as u32
 }
 
 // The same for at most 256 bins, where the product stays in 32 bits: more greys go at once.

@@ -77,14 +77,6 @@ onward_open {l} {all} {looks} {s} {cs} {r} {taken} {step} {ds} {t} b e u n i q m
         subst₂ (λ k x. Onward l all looks s cs r k ds t x) g k
         (onward_zero (length ds - (s + 1)) s (omega (arith, i.bin)) z (λ k hk hl. h.full k (omega arith) hl) a)
 
--- so many looks were taken by then
-pub open_looks : {l : ℕ} {all : List ℕ} {looks s : ℕ} {cs : List ℕ} {r taken : ℕ} {step : ℕ} {ds : List ℕ} {t : ℕ} (b e : ℕ)
-    → Starting l all looks s cs r taken → b ≡ length cs → length ds ≡ length cs → 0 < r → 0 < step → step ≡ max 1 (b / r)
-    → walk l step s cs r ≡ record { counts = ds; rest = t } → 0 < t → Shut l e ds → taken + looks_in l step s cs r + skipped_of b e s t ≤ looks
-open_looks {l} {s = s} {cs = cs} {r = r} {taken = taken} {step = step} {t = t} b e i q m p o st w z h =
-    let n = onward_open b e (next_start_of e s) (taken + looks_in l step s cs r + skipped_of b e s t) i q m p o st w z h refl refl in
-    omega (arith, n.start.looked)
-
 -- ---- the end
 
 -- the walk is over behind the last bin under the limit
@@ -99,20 +91,17 @@ looking_shut {l} {step} {s} {first} {before} {at} {cs} {r} {taken₀} {taken} b 
     let f : looks_in l step at cs r ≡ apart step (b - at) = looks_full l step at cs r o i.some (λ j a c. h.full j (omega arith) c) ∙ ap (λ x. apart step (x - at)) (sym q) in
     y ∙ (ap (λ x. taken + x) (sym f) ∙ i.looked)
 
+-- a start whose walk came to the end, and then the next one: n looks of the walk are at bins from there on, and m are those of the starts that are skipped
+pub onward_walked : {l : ℕ} {all : List ℕ} {looks s : ℕ} {cs : List ℕ} {r taken : ℕ} {step at : ℕ} {ds : List ℕ} {t k e f n m u : ℕ} (b : ℕ)
+    → Starting l all looks s cs r taken → Walking l step s cs r at ds t taken k → b ≡ length cs → 0 < r → 0 < step → step ≡ max 1 (b / r)
+    → Shut l e ds → e ≤ at → n ≡ apart step (b - at) → Shut l f ds → m ≡ skipped_of b f s t → u ≡ next_start_of f s → Onward l all looks s cs r u ds t (k + n + m)
+onward_walked {k = k} {f = f} {n = n} {m = m} {u = u} b i w q p o st h past en g em v =
+    let x = looking_shut b (k + n) w o (q ∙ sym w.long) h past (ap (λ y. k + y) en) in
+    onward_open b f u (k + n + m) i q w.long p o st (walking_shut w h past) w.some g v (omega (arith, x, em))
+
 -- at first it is the end of the bins
 pub shut_first : (l : ℕ) (cs : List ℕ) → Shut l (length cs) cs
 shut_first l cs = record { full = λ i h k. absurd (omega arith); within = omega arith }
-
--- a full bin before the end
-pub shut_less : {l e : ℕ} {cs : List ℕ} → Shut l e cs → l ≤ get_or cs (e - 1) 0 → Shut l (e - 1) cs
-shut_less {l} {e} {cs} h u = record { full = full; within = omega (arith, h.within) }
-  where
-    full : (i : ℕ) → e - 1 ≤ i → i < length cs → l ≤ get_or cs i 0
-    full i a b = go (lt_or_ge i e)
-      where
-        go : (i < e) ⊎ (e ≤ i) → l ≤ get_or cs i 0
-        go (inl x) = let z : i ≡ e - 1 = omega arith in rw z u
-        go (inr x) = h.full i x b
 
 -- a bin before the end gained one
 pub shut_set : {l e : ℕ} {cs ds : List ℕ} (at v : ℕ) → Shut l e cs → at < e → ds ≡ set cs at v → Shut l e ds

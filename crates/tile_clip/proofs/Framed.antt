@@ -4,8 +4,9 @@ use Prim.Native.Nat.{ℕ, zero, suc, ◌+◌, ◌-◌, ◌*◌, ◌/◌, ◌≤�
 use mathlib.Core.List.{List, [], ◌∷◌, ◌++◌, map}
 use mathlib.Core.Path.{◌≡◌, refl, sym, ap, ap₂, ◌∙◌}
 use lib.ListN.{length, length-append, length-map, take}
-use native.Mathlib.Nat.{div-le_self, div-mul-le_self, div-le_of_le-mul, mul_comm, mul-le-mul, add-mul}
+use native.Mathlib.Nat.{div-le_self, div-mul-le_self, div-le_of_le-mul, mul_comm, add-mul}
 use native.Mathlib.Omega.{arith}
+use Rattle.std.proofs.Common.{Some, None}
 use Rattle.base_lists.specs.Lists.{total, tab}
 use Rattle.base_lists.proofs.Tabs.{length_tab, map_append}
 use Rattle.base_lists.proofs.Sums.{total_append, total_tab, sum_const}
@@ -71,9 +72,6 @@ module _ {l b lo : ℕ} {cs : List ℕ} (asks : SpanAsks l b lo cs) {e : ℕ} (i
   pub share_small : e / b ≤ l
   share_small = div-le_of_le-mul b (omega (arith, is, asks.holds, excess_most l cs, mul_comm l b))
 
-  pub share_product : lo * (e / b) ≤ 4096 * 4194304
-  share_product = mul-le-mul {n₁ = lo} {n₂ = 4096} {m₂ = 4194304} (omega (arith, asks.within, asks.few_bins)) share_few
-
   -- what the bins of the list take, and the others
   all_take : total (map (taken l (e / b)) cs) + (b - length cs) * (e / b) ≤ e
   all_take =
@@ -131,9 +129,12 @@ module _ {l b lo : ℕ} {cs : List ℕ} (asks : SpanAsks l b lo cs) {e : ℕ} (i
         ap₂ (λ n x. starts (left l all * n) l 0 x (left l all)) (length_framed 0 b lo cs asks.within) shared_all
         ∙ ap (λ n. starts (n * b) l 0 (framed (e / b) b lo ds) n) left_is
 
-    pub span_left : {es : List ℕ} {h : Handed} → TurnsLeft l b lo (e / b) (r - (b - length cs) * (e / b)) ds es h → SpanLeft l b lo cs es (record { left = h.left; below = lo * (e / b) + h.below })
-    span_left t =
+    pub span_left : {es : List ℕ} {h : Handed} → TurnsLeft l b lo (e / b) (r - (b - length cs) * (e / b)) ds es h → h.left ≡ 0 → SpanLeft l b lo cs es (Some (lo * (e / b) + h.below))
+    span_left t z =
         record {
           size = t.size ∙ long;
-          sums = λ z j v. ap (λ x. total (take (lo + j) x)) clipped_is ∙ t.sums z j (omega (arith, long));
+          sums = λ j v. ap (λ x. total (take (lo + j) x)) clipped_is ∙ t.sums z j (omega (arith, long));
         }
+
+    pub span_none : {es : List ℕ} {h : Handed} → TurnsLeft l b lo (e / b) (r - (b - length cs) * (e / b)) ds es h → SpanLeft l b lo cs es None
+    span_none t = record { size = t.size ∙ long; sums = tt }

@@ -135,10 +135,15 @@ look l step i cs (suc r) s p h = go (lt_or_ge (get_or cs i 0) l)
         rw (gain_over l (get_or cs i 0) u)
         (walk_skip l step i cs r p h u ∙ ap₂ (walk l step (i + step)) (sym (set_own cs i h) ∙ ap (set cs i) e) z)
 
-pub walk_look : (l step i : ℕ) (cs : List ℕ) (r : ℕ) {v m : ℕ} → 0 < r → 0 < step → i < length cs → v ≡ get_or cs i 0 + gain l (get_or cs i 0) → m ≡ r - gain l (get_or cs i 0)
-    → walk l step (i + step) (set cs i v) m ≡ walk l step i cs r
-walk_look l step i cs r s p h ev em = ap₂ (λ x y. walk l step (i + step) (set cs i x) y) ev em ∙ sym (look l step i cs r s p h)
+-- what was to be done at first is still to be done from the next place on; n is what the bin gains
+pub walk_look : (l step i : ℕ) (cs : List ℕ) (r : ℕ) {n : ℕ} {w : Spread} → 0 < r → 0 < step → i < length cs → n ≡ gain l (get_or cs i 0) → walk l step i cs r ≡ w
+    → walk l step (i + step) (set cs i (get_or cs i 0 + n)) (r - n) ≡ w
+walk_look l step i cs r s p h e q = ap (λ n. walk l step (i + step) (set cs i (get_or cs i 0 + n)) (r - n)) e ∙ (sym (look l step i cs r s p h) ∙ q)
 
--- behind the last bin nothing is left to do
-pub walk_past : (l step i : ℕ) (cs : List ℕ) (r : ℕ) → length cs ≤ i → walk l step i cs r ≡ record { counts = cs; rest = r }
-walk_past l step i cs r h = walk_full l step i cs r (λ j p q. absurd (omega arith))
+-- it is done where nothing is left, and behind the last bin
+pub walk_ends : (l step i : ℕ) {cs : List ℕ} {r : ℕ} {w : Spread} → (r ≡ 0) ⊎ (length cs ≤ i) → walk l step i cs r ≡ w → (cs ≡ w.counts) × (r ≡ w.rest)
+walk_ends l step i {cs} {r} h q = let d = sym (go h) ∙ q in (ap (λ v. v.counts) d, ap (λ v. v.rest) d)
+  where
+    go : (r ≡ 0) ⊎ (length cs ≤ i) → walk l step i cs r ≡ record { counts = cs; rest = r }
+    go (inl z) = ap (walk l step i cs) z ∙ (walk_done l step i cs ∙ ap (λ n. record { counts = cs; rest = n }) (sym z))
+    go (inr p) = walk_full l step i cs r (λ j a b. absurd (omega arith))

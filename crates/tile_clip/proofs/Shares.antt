@@ -10,6 +10,8 @@ use native.Mathlib.Nat.{le_of_suc-le-suc, not-suc-le-zero, le_refl, mul-suc, mul
 use native.Mathlib.Numerals.{add-one}
 use native.Mathlib.Omega.{arith}
 use borrow.Author.Tests.{lt-ltb, le-ltb}
+use Rattle.std.specs.List.{sum_by}
+use Rattle.std.proofs.lemmas.List.Recursion.{is_sum_by}
 use Rattle.base_lists.specs.Lists.{total}
 use Rattle.base_lists.proofs.Orders.{lt_or_ge}
 use Rattle.tile_clip.specs.Clip.{excess, share, shared, taken, left, starts, clipped}
@@ -47,17 +49,13 @@ pub cases : (l q c : ℕ) → (l < c) ⊎ (((c ≤ l) × (l < c + q)) ⊎ (c + q
 cases l q c = ⊎_elim inl (λ k. inr (⊎_elim (λ u. inl (k, u)) inr (lt_or_ge l (c + q)))) (lt_or_ge l c)
 
 -- in all three the bin becomes its count and q, and no more than L
-shared_min : (l q c : ℕ) → shared l q c ≡ min l (c + q)
+pub shared_min : (l q c : ℕ) → shared l q c ≡ min l (c + q)
 shared_min l q c = go (cases l q c)
   where
     go : (l < c) ⊎ (((c ≤ l) × (l < c + q)) ⊎ (c + q ≤ l)) → shared l q c ≡ min l (c + q)
     go (inl h) = rw (shared_above l q c h) (omega arith)
     go (inr (inl h)) = rw (shared_upper l q c h.0 h.1) (omega arith)
     go (inr (inr h)) = rw (shared_other l q c h) (omega arith)
-
--- as the code tests it
-pub shared_over : (l q c : ℕ) → l < c + q → shared l q c ≡ l
-shared_over l q c h = omega (arith, shared_min l q c)
 
 -- what a bin becomes and what stood above the limit are what it had and what it takes
 bin_kept : (l q c : ℕ) → shared l q c + (c - l) ≡ c + taken l q c
@@ -105,6 +103,10 @@ excess_none l = refl
 pub excess_bin : (l c : ℕ) (cs : List ℕ) → excess l (c ∷ cs) ≡ c - l + excess l cs
 unfolding excess
 excess_bin l c cs = refl
+
+-- the excess as a sum, as an iterator adds it up
+pub excess_sum : (l : ℕ) (cs : List ℕ) → excess l cs ≡ sum_by (λ c. c - l) cs
+excess_sum l cs = is_sum_by (excess l) (λ c. c - l) (excess_none l) (excess_bin l) cs
 
 -- the excess from a place on: of its bin, and of the bins behind it
 pub excess_next : (l : ℕ) (cs : List ℕ) (i : ℕ) → i < length cs → excess l (drop i cs) ≡ get_or cs i 0 - l + excess l (drop (i + 1) cs)

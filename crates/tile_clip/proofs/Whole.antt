@@ -38,14 +38,6 @@ gain_most l c = go (lt_or_ge c l)
     go (inl h) = rw (gain_under l c h) (omega arith)
     go (inr h) = rw (gain_over l c h) (omega arith)
 
--- a bin that gains stays within the limit
-pub gained_most : (l c : ℕ) → gained l c ≤ max c l
-gained_most l c = go (lt_or_ge c l)
-  where
-    go : (c < l) ⊎ (l ≤ c) → gained l c ≤ max c l
-    go (inl h) = rw (gain_under l c h) (omega arith)
-    go (inr h) = rw (gain_over l c h) (omega arith)
-
 -- no more gain than there are bins
 pub gains_most : (l : ℕ) (cs : List ℕ) → total (map (gain l) cs) ≤ length cs
 unfolding total
@@ -130,13 +122,12 @@ shut_whole {l} {s} {e} {cs} {ys} h shut p =
     grows : (i : ℕ) → get_or cs i 0 ≤ get_or (put_mid s (e - s) cs ys) i 0
     grows i = rw w at (walk_grows l 1 s cs (suc (length cs)) i)
 
--- and the next start
-pub onward_whole : {l : ℕ} {all : List ℕ} {looks s : ℕ} {cs : List ℕ} {r taken e : ℕ} {ys : List ℕ} {n : ℕ} (b f u k : ℕ) → Starting l all looks s cs r taken
-    → b ≡ length cs → b < r → s ≤ e → Shut l e cs → Raised l (take (e - s) (drop s cs)) ys n → Shut l f (put_mid s (e - s) cs ys) → u ≡ next_start_of f s
-    → k ≡ taken + (b - s + skipped_of b f s (r - n))
-    → Onward l all looks s cs r u (put_mid s (e - s) cs ys) (r - n) k
-onward_whole {l} {all} {looks} {s} {cs} {r} {taken} {e} {ys} {n} b f u k i q many h shut p ends v y =
-    onward_open b f u k i q long (omega arith) (omega arith) step w some ends v sum
+-- and the next start, as the code has it: m are the looks of the starts that are skipped
+pub onward_whole : {l : ℕ} {all : List ℕ} {looks s : ℕ} {cs : List ℕ} {r taken e : ℕ} {ys : List ℕ} {n f m u : ℕ} (b : ℕ) → Starting l all looks s cs r taken
+    → b ≡ length cs → b < r → s ≤ e → Shut l e cs → Raised l (take (e - s) (drop s cs)) ys n → Shut l f (put_mid s (e - s) cs ys) → m ≡ skipped_of b f s (r - n)
+    → u ≡ next_start_of f s → Onward l all looks s cs r u (put_mid s (e - s) cs ys) (r - n) (taken + (b - s + m))
+onward_whole {l} {all} {looks} {s} {cs} {r} {taken} {e} {ys} {n} {f} {m} {u} b i q many h shut p ends y v =
+    onward_open b f u (taken + (b - s + m)) i q long (omega arith) (omega arith) step w some ends v sum
   where
     w : walk l 1 s cs r ≡ record { counts = put_mid s (e - s) cs ys; rest = r - n }
     w = walk_whole l s e cs r h shut (omega arith) p
@@ -156,16 +147,8 @@ onward_whole {l} {all} {looks} {s} {cs} {r} {taken} {e} {ys} {n} b f u k i q man
     each : looks_in l 1 s cs r ≡ length cs - s
     each = looks_all l s cs r (rw rest some)
 
-    sum : k ≡ taken + looks_in l 1 s cs r + skipped_of b f s (r - n)
+    sum : taken + (b - s + m) ≡ taken + looks_in l 1 s cs r + skipped_of b f s (r - n)
     sum = omega (arith, y, each, q)
-
--- so many looks were taken by then
-pub whole_looks : {l : ℕ} {all : List ℕ} {looks s : ℕ} {cs : List ℕ} {r taken e : ℕ} {ys : List ℕ} {n : ℕ} (b f : ℕ) → Starting l all looks s cs r taken
-    → b ≡ length cs → b < r → s ≤ e → Shut l e cs → Raised l (take (e - s) (drop s cs)) ys n → Shut l f (put_mid s (e - s) cs ys)
-    → taken + (b - s + skipped_of b f s (r - n)) ≤ looks
-whole_looks {s = s} {r = r} {taken = taken} {n = n} b f i q many h shut p ends =
-    let o = onward_whole b f (next_start_of f s) (taken + (b - s + skipped_of b f s (r - n))) i q many h shut p ends refl refl in
-    omega (arith, o.start.looked)
 
 -- the next start is none behind the end
 pub next_most : (e s : ℕ) → next_start_of e s ≤ e

@@ -1,6 +1,6 @@
 -- Clipping where only some bins in a row hold anything: b bins, of which those before bin `lo` and those behind the list are alike. l is the limit L.
 -- Assumes nothing.
-use Rattle.std.specs.Prelude.{ℕ, ◌+◌, ◌-◌, ◌*◌, ◌/◌, ◌≤◌, ◌<◌, min, max, List, ◌++◌, ◌≡◌, length, take}
+use Rattle.std.specs.Prelude.{ℕ, ◌+◌, ◌-◌, ◌*◌, ◌/◌, ◌≤◌, ◌<◌, min, max, List, ◌++◌, ◌≡◌, length, take, Option, IfSome}
 use Rattle.base_lists.specs.Lists.{total, tab}
 use Rattle.tile_clip.specs.Clip.{Spread, walk, starts, clipped}
 use Rattle.tile_clip.specs.Looks.{apart}
@@ -58,7 +58,7 @@ pub record SpanAsks (l b lo : ℕ) (cs : List ℕ) : Type 0 where
   pub few_pixels : total cs ≤ 4194304
   pub holds : total cs ≤ l * b
 
--- clipping, done where nothing is left: what bins 0 up to one of the list hold together
-pub record SpanLeft (l b lo : ℕ) (cs ds : List ℕ) (h : Handed) : Type 0 where
+-- clipping, done where there is an answer: what bins 0 up to one of the list hold together
+pub record SpanLeft (l b lo : ℕ) (cs ds : List ℕ) (o : Option ℕ) : Type 0 where
   pub size : length ds ≡ length cs
-  pub sums : h.left ≡ 0 → (j : ℕ) → j ≤ length cs → total (take (lo + j) (clipped l (framed 0 b lo cs))) ≡ h.below + total (take j ds)
+  pub sums : IfSome o (λ below. (j : ℕ) → j ≤ length cs → total (take (lo + j) (clipped l (framed 0 b lo cs))) ≡ below + total (take j ds))

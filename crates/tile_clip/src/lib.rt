@@ -15,53 +15,28 @@ pub struct Spent {
     pub looks: u64,
 }
 
-// What of a count stands above the limit.
-fn above(count: u32, limit: u32) -> u32
-    ensures { result ≡ count - limit }
-{
-    if limit < count { count - limit } else { 0 }
-}
-
 // The excess: the sum over bins of what stands above the limit. A tile's counts add up within 32 bits, and no bin is branched on, so that
 // many bins go at once.
 pub fn excess(counts: &[u32], limit: u32) -> u64
     requires { total counts.now ≤ 4194304 }
     ensures { result ≡ excess limit counts.now }
 {
-    let mut over: u32 = 0;
-    let mut i = 0;
-    while i < counts.len() {
-        over += above(counts[i], limit);
-        i += 1;
-    }
+    let over: u32 = counts.iter().map(|count| count.saturating_sub(limit)).sum();
     over as u64
 }
 
-// What a bin becomes by the even share q: its count and q, and no more than the limit.
-fn becomes(count: u32, limit: u32, q: u32) -> u32
-    requires { (count ≤ 4194304) × (q ≤ 4194304) }
-    ensures { result ≡ shared limit q count }
-{
-    let more = count + q;
-    if limit < more { limit } else { more }
-}
-
-// The even share q to every bin; what is left of the excess is the answer. Nothing is lost on the way, so that it is what the bins had less
-// what they have: two sums, where what each bin takes would need branches.
+// The even share q to every bin, up to the limit; what is left of the excess is the answer. Nothing is lost on the way, so that it is what
+// the bins had less what they have: two sums, where what each bin takes would need branches.
 fn share_out(counts: &mut [u32], limit: u32, q: u32) -> u64
     requires { PassAsks limit q (excess limit counts.old) counts.old × (q ≤ 4194304) × (total counts.old ≤ 4194304) }
     ensures { Passed limit q (excess limit counts.old) counts.old counts.new result }
 {
     let mut had: u32 = 0;
     let mut have: u32 = 0;
-    let mut i = 0;
-    while i < counts.len() {
-        let count = counts[i];
-        let more = becomes(count, limit, q);
-        counts[i] = more;
-        had += count;
-        have += more;
-        i += 1;
+    for count in counts.iter_mut() {
+        had += *count;
+        *count = (*count + q).min(limit);
+        have += *count;
     }
     (had - have) as u64
 }
@@ -71,8 +46,7 @@ fn step_of(bins: usize, r: u64) -> usize
     requires { 0 < r }
     ensures { result ≡ max 1 (bins / r) }
 {
-    let spread = bins as u64 / r;
-    if 1 < spread { spread as usize } else { 1 }
+    (bins as u64 / r).max(1) as usize
 }
 
 // The start behind this one: the first bin comes after the last.
@@ -89,22 +63,19 @@ fn open_end(counts: &[u32], limit: u32, end: usize) -> usize
     requires { Shut limit end counts.now }
     ensures { Shut limit result counts.now }
 {
-    let mut e = end;
-    while 0 < e {
-        let last = e - 1;
+    for last in (0..end).rev() {
         if counts[last] < limit {
-            return e;
+            return last + 1;
         }
-        e = last;
     }
-    e
+    0
 }
 
 // What a bin gains where it is looked at: one, if it is under the limit.
 fn gains(count: u32, limit: u32) -> u32
     ensures { result ≡ gain limit count }
 {
-    if count < limit { 1 } else { 0 }
+    u32::from(count < limit)
 }
 
 // One to every bin under the limit; how many gained is the answer. No bin's step hangs on another's, so that many bins go at once.
@@ -113,13 +84,10 @@ fn pass(counts: &mut [u32], limit: u32) -> u64
     ensures { Raised limit counts.old counts.new result }
 {
     let mut sum: u32 = 0;
-    let mut i = 0;
-    while i < counts.len() {
-        let count = counts[i];
-        let more = gains(count, limit);
-        counts[i] = count + more;
+    for count in counts.iter_mut() {
+        let more = gains(*count, limit);
+        *count += more;
         sum += more;
-        i += 1;
     }
     sum as u64
 }
@@ -130,9 +98,10 @@ fn looks_behind(bins: usize, at: usize, step: usize) -> u64
     ensures { result ≡ apart step (bins - at) }
 {
     if at < bins {
-        return ((bins - at + (step - 1)) / step) as u64;
+        (bins - at).div_ceil(step) as u64
+    } else {
+        0
     }
-    0
 }
 
 // The looks of n starts in a row, the last of them at the last bin, that find full bins only. With n = a x step + b, the first b of them
@@ -153,9 +122,10 @@ fn looks_skipped(bins: usize, end: usize, start: usize, r: u64) -> u64
     ensures { result ≡ skipped_of bins end start r }
 {
     if start + 1 < end {
-        return 0;
+        0
+    } else {
+        looks_of_starts(step_of(bins, r), bins - (start + 1))
     }
-    looks_of_starts(step_of(bins, r), bins - (start + 1))
 }
 
 // Where the starts stand: what is left, the next start, where the bins under the limit end, and the looks that were taken.
@@ -242,9 +212,9 @@ pub fn clip(counts: &mut [u32], limit: u32) -> Spent
 
 // What starts left that find only some bins in a row holding anything: of what was to be handed out, and with the bins before them.
 #[derive(Clone, Copy)]
-pub struct Handed {
-    pub left: u64,
-    pub below: u64,
+struct Handed {
+    left: u64,
+    below: u64,
 }
 
 // The walk of one start over some bins in a row, from `at` on; what is left is the answer.
@@ -253,25 +223,15 @@ fn walk_part(counts: &mut [u32], limit: u32, at: usize, step: usize, left: u64) 
     ensures { (counts.new ≡ (walk limit step at counts.old left).counts) × (result ≡ (walk limit step at counts.old left).rest) }
 {
     let mut r = left;
-    let mut i = at;
-    while i < counts.len() {
-        let count = counts[i];
-        let more = gains(count, limit);
-        counts[i] = count + more;
+    for i in (at..counts.len()).step_by(step) {
+        let more = gains(counts[i], limit);
+        counts[i] += more;
         r -= more as u64;
         if r == 0 {
-            return 0;
+            break;
         }
-        i += step;
     }
     r
-}
-
-// What is left of a where up to b are taken from it.
-fn less(a: u64, b: u64) -> u64
-    ensures { result ≡ a - b }
-{
-    if b < a { a - b } else { 0 }
 }
 
 // The walk of one start where all bins before the part and behind it are under the limit: of those it meets each takes one, so that they
@@ -294,7 +254,7 @@ fn turn(part: &mut [u32], limit: u32, bins: usize, lo: usize, start: usize, left
     let on = at + step * (looks_behind(size, at, step) as usize) - size;
     let above = looks_behind(bins - (lo + size), on, step);
     Handed {
-        left: less(rest, above),
+        left: rest.saturating_sub(above),
         below: met,
     }
 }
@@ -314,15 +274,13 @@ fn turns(
 {
     let mut r = left;
     let mut below: u64 = 0;
-    let mut start: usize = 0;
-    while start < most {
+    for start in 0..most {
         if r == 0 {
-            return Handed { left: 0, below };
+            break;
         }
         let handed = turn(part, limit, bins, lo, start, r);
         r = handed.left;
         below += handed.below;
-        start += 1;
     }
     Handed { left: r, below }
 }
@@ -332,13 +290,12 @@ fn open_starts(limit: u32, q: u32, bins: usize) -> usize
     requires { (q ≤ limit) × (0 < bins) × (bins ≤ 4096) }
     ensures { result ≡ min (limit - q) (bins - 1) }
 {
-    let room = (limit - q) as usize;
-    if room < bins { room } else { bins - 1 }
+    ((limit - q) as usize).min(bins - 1)
 }
 
-// Clips counts of which only the bins of the part, from bin `lo` on, hold anything, as far as the others stay under the limit. Where
-// something is left, they did not, and the part is as it came out.
-pub fn clip_span(part: &mut [u32], limit: u32, bins: usize, lo: usize) -> Handed
+// Clips counts of which only the bins of the part, from bin `lo` on, hold anything, and gives what the bins before the part hold then. There
+// is no answer where something is left, as the other bins did not stay under the limit; the part is as it came out.
+pub fn clip_span(part: &mut [u32], limit: u32, bins: usize, lo: usize) -> Option<u64>
     requires { SpanAsks limit bins lo part.old }
     ensures { SpanLeft limit bins lo part.old part.new result }
 {
@@ -348,8 +305,9 @@ pub fn clip_span(part: &mut [u32], limit: u32, bins: usize, lo: usize) -> Handed
     let left = share_out(part, limit, q as u32) - empty * q;
     let most = open_starts(limit, q as u32, bins);
     let handed = turns(part, limit, bins, lo, most, q as u32, left);
-    Handed {
-        left: handed.left,
-        below: lo as u64 * q + handed.below,
+    if handed.left == 0 {
+        Some(lo as u64 * q + handed.below)
+    } else {
+        None
     }
 }

@@ -79,13 +79,6 @@ level_largest c cs h = largest_from c c cs (levels_none c cs h)
 
 -- ---- the raised counts
 
--- a bin below P, and any other
-pub raised_under : (c p x : ℕ) → x < p → raised c p x ≡ x + (c - p)
-raised_under c p x u = rw (lt-ltb x p u) refl
-
-pub raised_over : (c p x : ℕ) → p ≤ x → raised c p x ≡ c
-raised_over c p x u = rw (le-ltb x p u) refl
-
 -- what a bin becomes, and what stood above P, are its count and C - P
 raised_kept : (c p x : ℕ) → p ≤ c → raised c p x + (x - p) ≡ x + (c - p)
 raised_kept c p x l = go (lt_or_ge x p)

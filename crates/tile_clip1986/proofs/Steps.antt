@@ -15,7 +15,7 @@ use borrow.Author.Tests.{le-leb, lt-leb}
 use Rattle.base_lists.specs.Lists.{total}
 use Rattle.base_lists.proofs.Orders.{lt_or_ge}
 use Rattle.tile_clip.specs.Clip.{excess}
-use Rattle.tile_clip.proofs.Shares.{excess_none, excess_bin, excess_most}
+use Rattle.tile_clip.proofs.Shares.{excess_none, excess_bin, excess_next, excess_end, excess_most}
 use Rattle.tile_clip1986.specs.Older.{levels, level_of, reaching, reach, OlderAsks, DescendAsks, Lowered}
 use Rattle.tile_clip1986.proofs.Levels.{excess_all, level_is}
 
@@ -32,13 +32,6 @@ reach_end p [] (suc i) h = refl
 reach_end p (c ∷ cs) zero h = absurd (not-suc-le-zero h)
 reach_end p (c ∷ cs) (suc i) h = reach_end p cs i (le_of_suc-le-suc h)
 
--- a bin that stands at p or above, and one that does not
-pub reaching_at : (p x : ℕ) → p ≤ x → reaching p x ≡ 1
-reaching_at p x u = rw (le-leb p x u) refl
-
-pub reaching_under : (p x : ℕ) → x < p → reaching p x ≡ 0
-reaching_under p x u = rw (lt-leb p x u) refl
-
 pub reaching_most : (p x : ℕ) → reaching p x ≤ 1
 reaching_most p x = go (leb p x)
   where
@@ -50,6 +43,9 @@ pub reach_most : (p : ℕ) (cs : List ℕ) → reach p cs ≤ length cs
 unfolding reach
 reach_most p [] = le_refl 0
 reach_most p (c ∷ cs) = omega (arith, reaching_most p c, reach_most p cs)
+
+-- what both sums are from a place on, and at most
+pub ruleset looking = (excess_next, excess_end, excess_most, reach_next, reach_end, reach_most)
 
 -- ---- a step
 
@@ -145,10 +141,6 @@ module _ {c p : ℕ} {cs : List ℕ} (asks : OlderAsks c cs) (l : p ≤ c) {o ro
   pub descended : {r : ℕ} → r ≡ p - (o - room + (b - k) - 1) / (b - k) → Lowered c cs p r
   descended e = rw (e, eo, er, eb, ek) (step_lowers c p cs l asks.holds missing)
 
--- p levels: it stays
-pub lower_stays : {c p : ℕ} {cs : List ℕ} → excess p cs ≤ length cs * (c - p) → Lowered c cs p p
-lower_stays {c} {p} {cs} e = record { most = le_refl p; stays = λ z. le-leb (excess p cs) (length cs * (c - p)) e; none = λ q a b. absurd (omega arith) }
-
 -- ---- the search
 
 -- no number above p up to C levels, and q is a step from p
@@ -156,17 +148,6 @@ pub record Sought (c : ℕ) (cs : List ℕ) (p q : ℕ) : Type 0 where
   pub most : p ≤ c
   pub above : (x : ℕ) → p < x → x ≤ c → levels c cs x ≡ false
   pub step : Lowered c cs p q
-
-pub sought_first : {c q : ℕ} {cs : List ℕ} → Lowered c cs c q → Sought c cs c q
-sought_first {c} s = record { most = le_refl c; above = λ x a b. absurd (omega arith); step = s }
-
-pub sought_next : {c p q r : ℕ} {cs : List ℕ} → Sought c cs p q → Lowered c cs q r → Sought c cs q r
-sought_next {c} {p} {q} {r} {cs} i s =
-    record { most = omega (arith, i.most, i.step.most); above = λ x a b. at x a b (lt_or_ge p x); step = s }
-  where
-    at : (x : ℕ) → q < x → x ≤ c → (p < x) ⊎ (x ≤ p) → levels c cs x ≡ false
-    at x a b (inl u) = i.above x u b
-    at x a b (inr u) = i.step.none x a u
 
 pub sought_end : {c p q : ℕ} {cs : List ℕ} → Sought c cs p q → p ≤ q → p ≡ level_of c cs
 sought_end {c} {p} {q} {cs} i h = sym (level_is c p cs i.most (i.step.stays h) i.above)

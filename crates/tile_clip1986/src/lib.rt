@@ -6,20 +6,6 @@ ghost use Rattle.base_lists.specs.Lists.{total};
 ghost use Rattle.tile_clip.specs.Clip.{excess};
 ghost use Rattle.tile_clip1986.specs.Older.{level_of, raised, older, reaching, reach, OlderAsks, DescendAsks, Lowered, LiftAsks};
 
-// What of a count stands above a level.
-fn above(count: u32, level: u32) -> u32
-    ensures { result ≡ count - level }
-{
-    if level < count { count - level } else { 0 }
-}
-
-// Whether a count stands at a level or above, as a number.
-fn reaches(count: u32, level: u32) -> u32
-    ensures { result ≡ reaching level count }
-{
-    if level <= count { 1 } else { 0 }
-}
-
 // What stands above a level, and how many bins reach it.
 #[derive(Clone, Copy)]
 struct Seen {
@@ -27,18 +13,17 @@ struct Seen {
     reached: u32,
 }
 
+// Both of a level, in one go over the bins.
+#[tactic(auto, using(crate::proofs::Steps::looking))]
 fn look(counts: &[u32], level: u32) -> Seen
     requires { (total counts.now ≤ 4194304) × (length counts.now ≤ 4096) }
     ensures { (result.over ≡ excess level counts.now) × (result.reached ≡ reach level counts.now) }
 {
     let mut over: u32 = 0;
     let mut reached: u32 = 0;
-    let mut i = 0;
-    while i < counts.len() {
-        let count = counts[i];
-        over += above(count, level);
-        reached += reaches(count, level);
-        i += 1;
+    for count in counts {
+        over += count.saturating_sub(level);
+        reached += u32::from(level <= *count);
     }
     Seen { over, reached }
 }
@@ -49,7 +34,7 @@ fn descend(level: u32, over: u64, room: u64, bins: u64, reached: u64) -> u32
     ensures { result ≡ level - (over - room + (bins - reached) - 1) / (bins - reached) }
 {
     let others = bins - reached;
-    let step = (over - room + others - 1) / others;
+    let step = (over - room).div_ceil(others);
     level - step as u32
 }
 
@@ -64,9 +49,10 @@ fn lower(counts: &[u32], limit: u32, level: u32) -> u32
     let over = here.over as u64;
     let room = bins * ((limit - level) as u64);
     if over <= room {
-        return level;
+        level
+    } else {
+        descend(level, over, room, bins, here.reached as u64)
     }
-    descend(level, over, room, bins, here.reached as u64)
 }
 
 // P, the largest whole number from 0 to C for which what stands above it is at most B x (C - P), looked for from C down.
@@ -89,9 +75,10 @@ fn becomes(count: u32, limit: u32, p: u32) -> u32
     ensures { result ≡ raised limit p count }
 {
     if count < p {
-        return count + (limit - p);
+        count + (limit - p)
+    } else {
+        limit
     }
-    limit
 }
 
 // Every bin raised; the new total is the answer.
@@ -100,12 +87,9 @@ fn lift(counts: &mut [u32], limit: u32, p: u32) -> u32
     ensures { (counts.new ≡ map (raised limit p) counts.old) × (result ≡ total (map (raised limit p) counts.old)) }
 {
     let mut sum: u32 = 0;
-    let mut i = 0;
-    while i < counts.len() {
-        let next = becomes(counts[i], limit, p);
-        counts[i] = next;
-        sum += next;
-        i += 1;
+    for count in counts.iter_mut() {
+        *count = becomes(*count, limit, p);
+        sum += *count;
     }
     sum
 }

@@ -1,6 +1,6 @@
 -- Laws of four counts that are added up: what `count_four`, `count_quarters` and `count_rows` do to them.
 -- Assumes nothing.
-use Prim.Native.Nat.{ℕ, ◌+◌, ◌-◌, ◌*◌, ◌≤◌, ◌<◌}
+use Prim.Native.Nat.{ℕ, ◌+◌, ◌-◌, ◌≤◌, ◌<◌}
 use mathlib.Core.Bool.{true}
 use mathlib.Core.List.{List, [], ◌∷◌, ◌++◌, map}
 use mathlib.Core.Path.{◌≡◌, refl, sym, ap, subst, ◌∙◌}
@@ -17,8 +17,9 @@ use Rattle.tile_count.specs.declared.Rect.{Rect}
 use Rattle.base_range.specs.Scan.{within}
 use Rattle.tile_bin.specs.Binning.{bin_of, factor_of}
 use Rattle.tile_count.specs.Tally.{greys_of, counts_of, added_of, four_at, CountRowAsks, FourAsks, FourAdded, CountRectAsks, CountRowsAsks, AddUpAsks}
+use Rattle.tile_count.proofs.Cuts.{passed, part_more, part_room, part_at}
 use Rattle.tile_count.proofs.Counts.{get_or_added, length_added}
-use Rattle.tile_count.proofs.Greys.{row_of, rows_whole, rows_room, length_greys, inside_part, row_all}
+use Rattle.tile_count.proofs.Greys.{row_of, rows_whole, rows_room, length_greys, row_all}
 
 pub four_none : (lo hi n : ℕ) (a b c d : List ℕ) → FourAdded [] lo hi n a b c d a b c d
 unfolding times
@@ -38,8 +39,8 @@ four_more {vs} {ws} {lo} {hi} {n} f g =
 -- ---- one row
 
 -- before the first grey
-pub four_start : (row : List ℕ) (lo hi n : ℕ) (a b c d : List ℕ) → FourAdded (take 0 row) lo hi n a b c d a b c d
-four_start row lo hi n a b c d = four_none lo hi n a b c d
+pub four_start : (row : List ℕ) (lo hi n : ℕ) (a b c d : List ℕ) (x : ℕ) → x ≡ 0 → FourAdded (take x row) lo hi n a b c d a b c d
+four_start row lo hi n a b c d x e = subst (λ t. FourAdded (take t row) lo hi n a b c d a b c d) (sym e) (four_none lo hi n a b c d)
 
 -- all that were to be passed
 pub four_end : (row : List ℕ) {lo hi n : ℕ} (x to : ℕ) {a₀ b₀ c₀ d₀ a b c d : List ℕ} → FourAdded (take x row) lo hi n a₀ b₀ c₀ d₀ a b c d → x ≡ to → FourAdded (take to row) lo hi n a₀ b₀ c₀ d₀ a b c d
@@ -93,28 +94,40 @@ module _ {row : List ℕ} {lo hi n factor : ℕ} {a₀ b₀ c₀ d₀ : List ℕ
         );
       }
 
-  module _ (l : x + 3 < length row) where
+  -- four that were cut off from what is left
+  module _ {rest : List ℕ} (is : x ≡ passed row rest) (left : rest ≡ drop (passed row rest) row) (four rest' : List ℕ) (cut : rest ≡ four ++ rest') (size : length four ≡ 4) where
+    room : x + 3 < length row
+    room = omega (arith, is, part_more row left four rest' cut, part_room row left four rest' cut, size)
+
+    at : (i : ℕ) → i < 4 → get_or four i 0 ≡ get_or row (x + i) 0
+    at i h = part_at row left four rest' cut 0 i (omega (arith, size)) ∙ ap (λ n. get_or row (n + i) 0) (sym is)
+
     -- what one of the next four asks of its count
-    next_of : (z : List ℕ) (i : ℕ) → x ≤ i → i ≤ x + 3 → n ≤ length z → ((k : ℕ) → get_or z k 0 ≤ four_at a b c d k) → CountRowAsks (get_or row i 0 ∷ []) lo hi n factor z
-    next_of z i p q h le = more_asks (get_or row i 0 ∷ []) z (all_one (within lo hi) (all_at (within lo hi) row asks.greys i 0 (omega arith))) (omega arith) h le
+    next_of : (z : List ℕ) (i : ℕ) → i < 4 → n ≤ length z → ((k : ℕ) → get_or z k 0 ≤ four_at a b c d k) → CountRowAsks (get_or four i 0 ∷ []) lo hi n factor z
+    next_of z i p h le = more_asks (get_or four i 0 ∷ []) z (all_one (within lo hi) (rw (at i p) (all_at (within lo hi) row asks.greys (x + i) 0 (omega (arith, room))))) (omega (arith, room)) h le
 
-    pub first_asks : CountRowAsks (get_or row x 0 ∷ []) lo hi n factor a
-    first_asks = next_of a x (omega arith) (omega arith) (omega (arith, so.lengtha, asks.rooma)) (λ k. omega arith)
+    pub first_asks : CountRowAsks (get_or four 0 0 ∷ []) lo hi n factor a
+    first_asks = next_of a 0 (omega arith) (omega (arith, so.lengtha, asks.rooma)) (λ k. omega arith)
 
-    pub second_asks : CountRowAsks (get_or row (x + 1) 0 ∷ []) lo hi n factor b
-    second_asks = next_of b (x + 1) (omega arith) (omega arith) (omega (arith, so.lengthb, asks.roomb)) (λ k. omega arith)
+    pub second_asks : CountRowAsks (get_or four 1 0 ∷ []) lo hi n factor b
+    second_asks = next_of b 1 (omega arith) (omega (arith, so.lengthb, asks.roomb)) (λ k. omega arith)
 
-    pub third_asks : CountRowAsks (get_or row (x + 2) 0 ∷ []) lo hi n factor c
-    third_asks = next_of c (x + 2) (omega arith) (omega arith) (omega (arith, so.lengthc, asks.roomc)) (λ k. omega arith)
+    pub third_asks : CountRowAsks (get_or four 2 0 ∷ []) lo hi n factor c
+    third_asks = next_of c 2 (omega arith) (omega (arith, so.lengthc, asks.roomc)) (λ k. omega arith)
 
-    pub fourth_asks : CountRowAsks (get_or row (x + 3) 0 ∷ []) lo hi n factor d
-    fourth_asks = next_of d (x + 3) (omega arith) (omega arith) (omega (arith, so.lengthd, asks.roomd)) (λ k. omega arith)
+    pub fourth_asks : CountRowAsks (get_or four 3 0 ∷ []) lo hi n factor d
+    fourth_asks = next_of d 3 (omega arith) (omega (arith, so.lengthd, asks.roomd)) (λ k. omega arith)
+
+    -- a number of one of them
+    one_at : (k i j : ℕ) → i < 4 → x + i ≡ j → times k (map (bin_of lo hi n) (get_or four i 0 ∷ [])) ≡ times k (map (bin_of lo hi n) (get_or row j 0 ∷ []))
+    one_at k i j p e = ap (λ v. times k (map (bin_of lo hi n) (v ∷ []))) (at i p ∙ ap (λ m. get_or row m 0) e)
 
     -- four greys more
-    pub four_next : {a' b' c' d' : List ℕ} → a' ≡ added_of lo hi n a (get_or row x 0 ∷ []) → b' ≡ added_of lo hi n b (get_or row (x + 1) 0 ∷ [])
-        → c' ≡ added_of lo hi n c (get_or row (x + 2) 0 ∷ []) → d' ≡ added_of lo hi n d (get_or row (x + 3) 0 ∷ [])
-        → FourAdded (take (x + 4) row) lo hi n a₀ b₀ c₀ d₀ a' b' c' d'
+    pub four_next : {a' b' c' d' : List ℕ} → a' ≡ added_of lo hi n a (get_or four 0 0 ∷ []) → b' ≡ added_of lo hi n b (get_or four 1 0 ∷ [])
+        → c' ≡ added_of lo hi n c (get_or four 2 0 ∷ []) → d' ≡ added_of lo hi n d (get_or four 3 0 ∷ [])
+        → FourAdded (take (passed row rest') row) lo hi n a₀ b₀ c₀ d₀ a' b' c' d'
     four_next {a'} {b'} {c'} {d'} p q r s =
+        subst (λ m. FourAdded (take m row) lo hi n a₀ b₀ c₀ d₀ a' b' c' d') to
         record {
           lengtha = ap length p ∙ length_added lo hi n a _ first_asks.room ∙ so.lengtha;
           lengthb = ap length q ∙ length_added lo hi n b _ second_asks.room ∙ so.lengthb;
@@ -123,17 +136,24 @@ module _ {row : List ℕ} {lo hi n factor : ℕ} {a₀ b₀ c₀ d₀ : List ℕ
           sum = λ k h. omega (
             arith,
             ap (λ z. get_or z k 0) p,
-            get_or_added lo hi n a (get_or row x 0 ∷ []) k h,
+            get_or_added lo hi n a (get_or four 0 0 ∷ []) k h,
             ap (λ z. get_or z k 0) q,
-            get_or_added lo hi n b (get_or row (x + 1) 0 ∷ []) k h,
+            get_or_added lo hi n b (get_or four 1 0 ∷ []) k h,
             ap (λ z. get_or z k 0) r,
-            get_or_added lo hi n c (get_or row (x + 2) 0 ∷ []) k h,
+            get_or_added lo hi n c (get_or four 2 0 ∷ []) k h,
             ap (λ z. get_or z k 0) s,
-            get_or_added lo hi n d (get_or row (x + 3) 0 ∷ []) k h,
+            get_or_added lo hi n d (get_or four 3 0 ∷ []) k h,
             so.sum k h,
-            times_four (bin_of lo hi n) k row x l,
+            times_four (bin_of lo hi n) k row x room,
+            one_at k 0 x (omega arith) (omega arith),
+            one_at k 1 (x + 1) (omega arith) refl,
+            one_at k 2 (x + 2) (omega arith) refl,
+            one_at k 3 (x + 3) (omega arith) refl,
           );
         }
+      where
+        to : x + 4 ≡ passed row rest'
+        to = omega (arith, is, part_more row left four rest' cut, size)
 
   module _ (l : x ≤ length row) where
     -- what the rest of the row asks of the first count
@@ -161,11 +181,11 @@ module _ {pic : List ℕ} {stride : ℕ} {r : Rect} {lo hi n factor : ℕ} {a₀
   unfolding joined
   rows_none = four_none lo hi n a₀ b₀ c₀ d₀
 
-  module _ {a b c d : List ℕ} (y : ℕ) (so : FourAdded (joined y (row_of pic stride r)) lo hi n a₀ b₀ c₀ d₀ a b c d) (h : y < r.height) where
+  module _ {a b c d : List ℕ} (y : ℕ) (so : FourAdded (joined y (row_of pic stride r)) lo hi n a₀ b₀ c₀ d₀ a b c d) (h : y < r.height) {row : List ℕ} (q : row ≡ row_of pic stride r y) where
     -- what the next row asks
-    pub rows_asks : FourAsks (take ((r.top + y) * stride + r.left + r.width - ((r.top + y) * stride + r.left)) (drop ((r.top + y) * stride + r.left) pic)) lo hi n factor a b c d
+    pub rows_asks : FourAsks row lo hi n factor a b c d
     rows_asks =
-        rw (inside_part pic stride r asks.asks.inside y h)
+        rw q
         record {
           by = asks.by;
           most = asks.asks.scale.most;
@@ -186,9 +206,9 @@ module _ {pic : List ℕ} {stride : ℕ} {r : Rect} {lo hi n factor : ℕ} {a₀
         }
 
     -- one row more
-    pub rows_more : {a' b' c' d' : List ℕ} → FourAdded (take ((r.top + y) * stride + r.left + r.width - ((r.top + y) * stride + r.left)) (drop ((r.top + y) * stride + r.left) pic)) lo hi n a b c d a' b' c' d'
+    pub rows_more : {a' b' c' d' : List ℕ} → FourAdded row lo hi n a b c d a' b' c' d'
         → FourAdded (joined (y + 1) (row_of pic stride r)) lo hi n a₀ b₀ c₀ d₀ a' b' c' d'
-    rows_more {a'} {b'} {c'} {d'} g = subst (λ t. FourAdded t lo hi n a₀ b₀ c₀ d₀ a' b' c' d') (sym (joined_suc y (row_of pic stride r))) (four_more so (subst (λ t. FourAdded t lo hi n a b c d a' b' c' d') (inside_part pic stride r asks.asks.inside y h) g))
+    rows_more {a'} {b'} {c'} {d'} g = subst (λ t. FourAdded t lo hi n a₀ b₀ c₀ d₀ a' b' c' d') (sym (joined_suc y (row_of pic stride r))) (four_more so (subst (λ t. FourAdded t lo hi n a b c d a' b' c' d') q g))
 
   pub rows_all : {a b c d : List ℕ} (y : ℕ) → FourAdded (joined y (row_of pic stride r)) lo hi n a₀ b₀ c₀ d₀ a b c d → y ≤ r.height → r.height ≤ y → FourAdded (greys_of pic stride r) lo hi n a₀ b₀ c₀ d₀ a b c d
   rows_all {a} {b} {c} {d} y so h l = subst (λ t. FourAdded t lo hi n a₀ b₀ c₀ d₀ a b c d) (rows_whole pic stride r y h l) so

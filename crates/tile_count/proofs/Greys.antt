@@ -2,9 +2,10 @@
 -- Assumes nothing.
 use Prim.Native.Nat.{ℕ, zero, suc, ◌+◌, ◌-◌, ◌*◌, ◌≤◌, ◌<◌}
 use mathlib.Core.Bool.{Bool, true}
-use mathlib.Core.List.{List}
+use mathlib.Core.List.{List, map}
 use mathlib.Core.Path.{◌≡◌, refl, sym, ap, ap₂, ◌∙◌}
-use lib.ListN.{length, take, drop, get_or}
+use lib.ListN.{length, take, drop, get_or, length-map}
+use Rattle.std.specs.List.{take-map, drop-map}
 use native.Mathlib.Nat.{mul_comm, suc-mul, zero-mul, mul-le-mul_right, le-mul_of_pos_right, le_trans}
 use native.Mathlib.Omega.{arith}
 use Rattle.base_lists.specs.Lists.{tab, joined, all}
@@ -98,6 +99,25 @@ part_row pic stride r across down y h =
 pub inside_part : (pic : List ℕ) (stride : ℕ) (r : Rect) → Inside (length pic) stride r → (y : ℕ) → y < r.height
     → take ((r.top + y) * stride + r.left + r.width - ((r.top + y) * stride + r.left)) (drop ((r.top + y) * stride + r.left) pic) ≡ row_of pic stride r y
 inside_part pic stride r inside y h = part_row pic stride r inside.across inside.down y h
+
+-- the row by its width alone
+pub inside_row : (pic : List ℕ) (stride : ℕ) (r : Rect) → Inside (length pic) stride r → (y : ℕ) → y < r.height
+    → take r.width (drop ((r.top + y) * stride + r.left) pic) ≡ row_of pic stride r y
+inside_row pic stride r inside y h =
+    let a : ℕ = (r.top + y) * stride + r.left in
+    let w : r.width ≡ a + r.width - a = omega arith in
+    ap (λ k. take k (drop a pic)) w ∙ inside_part pic stride r inside y h
+
+-- ---- of a picture whose greys stand for numbers
+
+module _ {A : Type 0} (f : A → ℕ) (pic : List A) (stride : ℕ) (r : Rect) (inside : Inside (length (map f pic)) stride r) where
+  pub inside_mapped : Inside (length pic) stride r
+  inside_mapped = rw (sym (length-map pic f)) inside
+
+  pub row_mapped : (y : ℕ) → y < r.height → {row : List A} → row ≡ take r.width (drop ((r.top + y) * stride + r.left) pic) → map f row ≡ row_of (map f pic) stride r y
+  row_mapped y h e =
+      let a : ℕ = (r.top + y) * stride + r.left in
+      ap (map f) e ∙ sym (take-map f r.width (drop a pic)) ∙ ap (take r.width) (sym (drop-map f a pic)) ∙ inside_row (map f pic) stride r inside y h
 
 -- ---- what the greys speak of
 

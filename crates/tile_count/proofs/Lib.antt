@@ -1,4 +1,5 @@
 pub mod Counts
+pub mod Cuts
 pub mod Rows
 pub mod Fours
 pub mod Ways

@@ -35,11 +35,10 @@ pub rows_end : (lo hi b : ℕ) (pic : List ℕ) (stride : ℕ) (r : Rect) (cs₀
 rows_end lo hi b pic stride r cs₀ y e h l = e ∙ ap (added_of lo hi b cs₀) (rows_whole pic stride r y h l)
 
 -- what a row's counting asks
-pub row_asks : {pic : List ℕ} {stride : ℕ} {r : Rect} {lo hi b factor : ℕ} {cs₀ cs : List ℕ} → AddAsks pic stride r lo hi b factor cs₀ → (y : ℕ)
-    → cs ≡ added_of lo hi b cs₀ (joined y (row_of pic stride r)) → y < r.height
-    → CountRowAsks (take ((r.top + y) * stride + r.left + r.width - ((r.top + y) * stride + r.left)) (drop ((r.top + y) * stride + r.left) pic)) lo hi b factor cs
-row_asks {pic} {stride} {r} {lo} {hi} {b} {factor} {cs₀} {cs} adds y e h =
-    rw (inside_part pic stride r adds.asks.inside y h)
+pub row_asked : {pic : List ℕ} {stride : ℕ} {r : Rect} {lo hi b factor : ℕ} {cs₀ cs : List ℕ} → AddAsks pic stride r lo hi b factor cs₀ → (y : ℕ)
+    → cs ≡ added_of lo hi b cs₀ (joined y (row_of pic stride r)) → y < r.height → {row : List ℕ} → row ≡ row_of pic stride r y → CountRowAsks row lo hi b factor cs
+row_asked {pic} {stride} {r} {lo} {hi} {b} {factor} {cs₀} {cs} adds y e h q =
+    rw q
     record {
       by = adds.by;
       most = adds.asks.scale.most;
@@ -54,6 +53,12 @@ row_asks {pic} {stride} {r} {lo} {hi} {b} {factor} {cs₀} {cs} adds y e h =
         adds.fits k l,
       );
     }
+
+-- of a part of the picture
+pub row_asks : {pic : List ℕ} {stride : ℕ} {r : Rect} {lo hi b factor : ℕ} {cs₀ cs : List ℕ} → AddAsks pic stride r lo hi b factor cs₀ → (y : ℕ)
+    → cs ≡ added_of lo hi b cs₀ (joined y (row_of pic stride r)) → y < r.height
+    → CountRowAsks (take ((r.top + y) * stride + r.left + r.width - ((r.top + y) * stride + r.left)) (drop ((r.top + y) * stride + r.left) pic)) lo hi b factor cs
+row_asks {pic} {stride} {r} adds y e h = row_asked adds y e h (inside_part pic stride r adds.asks.inside y h)
 
 -- ---- the whole rectangle, from cleared counts
 

@@ -7,6 +7,7 @@ use mathlib.Core.Logic.{⊎_elim}
 use mathlib.Core.Path.{◌≡◌, refl, sym, ap, ap₂, subst, ◌∙◌}
 use lib.Dec.{eqb, ltb}
 use lib.ListN.{length, take, drop, get_or, set, replicate, get_or-replicate, length-replicate, length-set, length-map, length-take}
+use Rattle.std.proofs.lemmas.List.{get_or-map}
 use lib.Seq.{take-add, take_all, take-suc}
 use native.Mathlib.Nat.{eq-or-lt_of_le, le_of_suc-le-suc, not-suc-le-zero}
 use native.Mathlib.Numerals.{add-one}
@@ -26,7 +27,8 @@ use Rattle.tile_bin.proofs.Bins.{bin_below, bin_by, bin_power}
 use Rattle.tile_count.specs.declared.Rect.{Rect}
 use Rattle.tile_count.specs.declared.Binning.{Binning}
 use Rattle.tile_count.specs.Tally.{greys_of, counts_of, bin_in, place_in, eight_at, is_place, Grows, BinAsks, PlacesAsks, AtAsks, LineAsks, WaysAdded, PartAsks, AddWaysAsks, CountRectAsks, CountWaysAsks}
-use Rattle.tile_count.proofs.Greys.{row_of, rows_whole, rows_room, length_greys, inside_part, row_all}
+use Rattle.tile_count.proofs.Cuts.{passed, part_more, part_room, part_is}
+use Rattle.tile_count.proofs.Greys.{row_of, rows_whole, rows_room, length_greys, row_all}
 
 -- ---- the place of a grey
 
@@ -56,6 +58,10 @@ module _ {b : Binning} {v : ℕ} (asks : BinAsks b v) where
 -- what the next grey of a row asks
 pub next_grey : {row : List ℕ} {b : Binning} {room : ℕ} → PlacesAsks row b room → (x : ℕ) → x < length row → BinAsks b (get_or row x 0)
 next_grey {row} {b} asks x l = record { binning = asks.binning; grey = all_at (within b.min b.max) row asks.greys x 0 l }
+
+-- the number that a grey of a row stands for
+pub grey_at : {A : Type 0} (f : A → ℕ) (row : List A) {x : ℕ} {a : A} {v : ℕ} → x < length row → a ≡ get_or row x a → v ≡ f a → v ≡ get_or (map f row) x 0
+grey_at f row {x} {a} l q e = e ∙ ap f q ∙ sym (get_or-map f row x a 0 l)
 
 -- the whole row
 pub places_end : (b : Binning) (row d : List ℕ) {line : List ℕ} {x : ℕ} → line ≡ filled (λ i. place_in b (get_or row i 0)) d x → x ≤ length row → length row ≤ x → line ≡ onto d (map (place_in b) row)
@@ -151,10 +157,6 @@ pub front_end : (t : List ℕ) (k j : ℕ) → j ≤ 8 → 8 ≤ j → front_at 
 unfolding front_at eight_at
 front_end t k j h l = let e : j ≡ 8 = omega arith in ap (λ n. sum n (λ i. get_or t (k * 8 + i) 0)) e
 
--- what adding up the bins before the last asks
-pub fewer_ways : {n : ℕ} {t : List ℕ} → AddWaysAsks n t → (k : ℕ) → k < n → AddWaysAsks (k + 1) t
-fewer_ways asks k l = record { enough = omega (arith, asks.enough); fits = λ i h. asks.fits i (omega arith) }
-
 -- ---- bins added one behind the other
 
 pub ways_none : (t : List ℕ) → WaysAdded [] t t
@@ -184,6 +186,16 @@ module _ (g : ℕ → ℕ) (vs : List ℕ) {t₀ t : List ℕ} (x e : ℕ) (l : 
   pub part_grows : {n : ℕ} → Grows t₀ n → length vs ≤ n → e ≤ length vs → Grows t (length (take (e - x) (drop x vs)))
   part_grows fits h k =
       grows_more fits so (length (take (e - x) (drop x vs))) (omega (arith, length-map (take x vs) g, length-take x vs, length-take (e - x) (drop x vs)))
+
+-- before the first
+pub part_start : (g : ℕ → ℕ) (vs t : List ℕ) (x : ℕ) → x ≡ 0 → WaysAdded (map g (take x vs)) t t
+part_start g vs t x e = subst (λ n. WaysAdded (map g (take n vs)) t t) (sym e) (ways_none t)
+
+-- where a part was cut off from what is left
+module _ (g : ℕ → ℕ) (vs : List ℕ) {rest : List ℕ} (part rest' : List ℕ) (left : rest ≡ drop (passed vs rest) vs) (cut : rest ≡ part ++ rest') where
+  pub cut_next : {t₀ t t' : List ℕ} → WaysAdded (map g (take (passed vs rest) vs)) t₀ t → WaysAdded (map g part) t t' → WaysAdded (map g (take (passed vs rest') vs)) t₀ t'
+  cut_next {t₀} {t} {t'} so more =
+      part_next g vs (passed vs rest) (passed vs rest') (omega (arith, part_more vs left part rest' cut)) so (subst (λ s. WaysAdded (map g s) t t') (part_is vs left part rest' cut) more)
 
 -- up to the end
 pub part_to : (g : ℕ → ℕ) (vs : List ℕ) {t₀ t : List ℕ} (x to : ℕ) → WaysAdded (map g (take x vs)) t₀ t → x ≡ to → WaysAdded (map g (take to vs)) t₀ t
@@ -219,6 +231,13 @@ module _ {line t₀ : List ℕ} (asks : LineAsks line t₀) {t : List ℕ} (x : 
         fits = part_grows (λ p. p / 8) line x e l so asks.fits (omega arith) h;
       }
 
+  -- what a turn that was cut off asks
+  pub turn_asks : {rest : List ℕ} (turn rest' : List ℕ) → x ≡ passed line rest → rest ≡ drop x line → rest ≡ turn ++ rest' → LineAsks turn t
+  turn_asks {rest} turn rest' e left cut =
+      let behind : rest ≡ drop (passed line rest) line = left ∙ ap (λ n. drop n line) e in
+      let is : turn ≡ take (passed line rest' - x) (drop x line) = part_is line behind turn rest' cut ∙ ap (λ n. take (passed line rest' - n) (drop n line)) (sym e) in
+      rw is (part_asks (passed line rest') (omega (arith, part_more line behind turn rest' cut)) (part_room line behind turn rest' cut))
+
 -- ---- the greys of a row
 
 -- a bin's place has the bin's number, and begins eight entries
@@ -227,10 +246,6 @@ eighths b [] = refl
 eighths b (v ∷ vs) = let e : place_in b v / 8 ≡ bin_in b v = omega arith in ap₂ (λ x xs. x ∷ xs) e (eighths b vs)
 
 module _ {row : List ℕ} {b : Binning} {t : List ℕ} (asks : PartAsks row b t) where
-  -- what laying their places into a line asks
-  pub places_asks : {room : ℕ} → length row ≤ room → PlacesAsks row b room
-  places_asks h = record { binning = asks.binning; greys = asks.greys; enough = h }
-
   grey_place : (v : ℕ) → within b.min b.max v ≡ true → is_place (length t) (place_in b v) ≡ true
   grey_place v h =
       and_both
@@ -239,16 +254,16 @@ module _ {row : List ℕ} {b : Binning} {t : List ℕ} (asks : PartAsks row b t)
       (eq-eqb (place_in b v % 8) 0 (omega arith))
       (lt-ltb (place_in b v + 7) (length t) (omega (arith, bin_below b.min b.max b.bins v h asks.binning.some, asks.enough)))
 
-  module _ (d : List ℕ) {line : List ℕ} (e : line ≡ onto d (map (place_in b) row)) where
+  module _ (d : List ℕ) {line : List ℕ} (e : line ≡ onto d (map (place_in b) row)) (n : ℕ) (wide : length row ≡ n) where
     -- the front of the line has them
-    front : take (length row) line ≡ map (place_in b) row
-    front = ap (take (length row)) e ∙ take_onto d (map (place_in b) row) (length row) (length-map row (place_in b))
+    front : take n line ≡ map (place_in b) row
+    front = ap (take n) e ∙ take_onto d (map (place_in b) row) n (length-map row (place_in b) ∙ wide)
 
-    pub front_size : length row ≡ length (take (length row) line)
-    front_size = sym (ap length front ∙ length-map row (place_in b))
+    pub front_size : n ≡ length (take n line)
+    front_size = sym (ap length front ∙ length-map row (place_in b) ∙ wide)
 
     -- what adding them asks
-    pub front_asks : LineAsks (take (length row) line) t
+    pub front_asks : LineAsks (take n line) t
     front_asks =
         rw front
         record {
@@ -257,7 +272,7 @@ module _ {row : List ℕ} {b : Binning} {t : List ℕ} (asks : PartAsks row b t)
         }
 
     -- and what it comes to
-    pub front_added : {t' : List ℕ} → WaysAdded (map (λ p. p / 8) (take (length row) line)) t t' → WaysAdded (map (bin_in b) row) t t'
+    pub front_added : {t' : List ℕ} → WaysAdded (map (λ p. p / 8) (take n line)) t t' → WaysAdded (map (bin_in b) row) t t'
     front_added {t'} so = subst (λ s. WaysAdded s t t') (ap (map (λ p. p / 8)) front ∙ eighths b row) so
 
   -- what the greys from x to e ask
@@ -270,6 +285,11 @@ module _ {row : List ℕ} {b : Binning} {t : List ℕ} (asks : PartAsks row b t)
         fits = part_grows (bin_in b) row x e l so asks.fits (omega arith) h;
       }
 
+  -- where they were cut off from what is left
+  pub cut_part : {t' : List ℕ} {rest : List ℕ} (part rest' : List ℕ) → rest ≡ drop (passed row rest) row → rest ≡ part ++ rest' → WaysAdded (map (bin_in b) (take (passed row rest) row)) t t' → PartAsks part b t'
+  cut_part {rest = rest} part rest' left cut so =
+      rw (part_is row left part rest' cut) (row_part (passed row rest) (passed row rest') (omega (arith, part_more row left part rest' cut)) (part_room row left part rest' cut) so)
+
 -- ---- row by row
 
 module _ {pic : List ℕ} {stride : ℕ} {r : Rect} {b : Binning} {t₀ : List ℕ} (asks : CountWaysAsks pic stride r b t₀) where
@@ -277,11 +297,11 @@ module _ {pic : List ℕ} {stride : ℕ} {r : Rect} {b : Binning} {t₀ : List �
   unfolding joined
   ways_first = ways_none t₀
 
-  module _ {t : List ℕ} (y : ℕ) (so : WaysAdded (map (bin_in b) (joined y (row_of pic stride r))) t₀ t) (h : y < r.height) where
+  module _ {t : List ℕ} (y : ℕ) (so : WaysAdded (map (bin_in b) (joined y (row_of pic stride r))) t₀ t) (h : y < r.height) {row : List ℕ} (q : row ≡ row_of pic stride r y) where
     -- what the next row asks
-    pub ways_row_asks : PartAsks (take ((r.top + y) * stride + r.left + r.width - ((r.top + y) * stride + r.left)) (drop ((r.top + y) * stride + r.left) pic)) b t
+    pub ways_row_asks : PartAsks row b t
     ways_row_asks =
-        rw (inside_part pic stride r asks.asks.inside y h)
+        rw q
         record {
           binning = record { by = asks.by; most = asks.asks.scale.most; some = omega (arith, asks.asks.scale.some); few = asks.asks.enough };
           greys = row_all (within b.min b.max) pic stride r asks.asks.greys y h;
@@ -290,13 +310,13 @@ module _ {pic : List ℕ} {stride : ℕ} {r : Rect} {b : Binning} {t₀ : List �
         }
 
     -- one row more
-    pub ways_next : {t' : List ℕ} → WaysAdded (map (bin_in b) (take ((r.top + y) * stride + r.left + r.width - ((r.top + y) * stride + r.left)) (drop ((r.top + y) * stride + r.left) pic))) t t'
+    pub ways_next : {t' : List ℕ} → WaysAdded (map (bin_in b) row) t t'
         → WaysAdded (map (bin_in b) (joined (y + 1) (row_of pic stride r))) t₀ t'
     ways_next {t'} g =
         subst
         (λ s. WaysAdded s t₀ t')
         (sym (map_append (bin_in b) (joined y (row_of pic stride r)) (row_of pic stride r y)) ∙ ap (map (bin_in b)) (sym (joined_suc y (row_of pic stride r))))
-        (ways_more so (subst (λ s. WaysAdded (map (bin_in b) s) t t') (inside_part pic stride r asks.asks.inside y h) g))
+        (ways_more so (subst (λ s. WaysAdded (map (bin_in b) s) t t') q g))
 
   pub ways_all : {t : List ℕ} (y : ℕ) → WaysAdded (map (bin_in b) (joined y (row_of pic stride r))) t₀ t → y ≤ r.height → r.height ≤ y → WaysAdded (map (bin_in b) (greys_of pic stride r)) t₀ t
   ways_all {t} y so h l = subst (λ s. WaysAdded (map (bin_in b) s) t₀ t) (rows_whole pic stride r y h l) so

@@ -1,10 +1,10 @@
 // The counts of a rectangle of a picture.
 #![tactic(auto)]
 
-ghost use Rattle.std.specs.Prelude.{◌≡◌, [], ◌∷◌, map, ◌+◌, ◌-◌, ◌/◌, ◌%◌, ◌^◌, ◌≤◌, ◌<◌, length, take};
+ghost use Rattle.std.specs.Prelude.{◌≡◌, ℕ, [], ◌∷◌, map, ◌+◌, ◌-◌, ◌*◌, ◌/◌, ◌%◌, ◌^◌, ◌≤◌, ◌<◌, length, take, drop};
 ghost use Rattle.base_lists.specs.Lists.{onto, filled};
 ghost use Rattle.tile_bin.specs.Binning.{factor_of};
-ghost use Rattle.tile_count.specs.Tally.{greys_of, counts_of, added_of, four_at, bin_in, place_in, eight_at, CountRowAsks, FourAsks, FourAdded, BinAsks, PlacesAsks, AtAsks, LineAsks, WaysAdded, PartAsks, CountRectAsks, AddAsks, CountRowsAsks, AddUpAsks, CountWaysAsks, AddWaysAsks};
+ghost use Rattle.tile_count.specs.Tally.{greys_of, counts_of, added_of, four_at, bin_in, place_in, eight_at, CountRowAsks, FourAsks, FourAdded, BinAsks, PlacesAsks, AtAsks, LineAsks, WaysAdded, PartAsks, CountRectAsks, AddAsks, CountRowsAsks, AddUpAsks, CountWaysAsks, AddWaysAsks, Inside};
 
 // A rectangle of a picture: a tile is one.
 #[derive(Clone, Copy)]
@@ -24,98 +24,101 @@ pub struct Binning {
     pub factor: u32,
 }
 
-// Adds one grey to the counts; the factor is that of the range and the bins.
-fn count_one(grey: u32, min: u32, max: u32, bins: u32, factor: u32, counts: &mut [u32])
-    requires { CountRowAsks (grey ∷ []) min max bins factor counts.old }
-    ensures { counts.new ≡ added_of min max bins counts.old (grey ∷ []) }
+// A grey as a film holds it: in 16 bits, or in a byte.
+pub trait Grey: Copy {
+    ghost value: { Self → ℕ };
+
+    fn value(self) -> u16
+        ensures { result ≡ value self };
+}
+
+impl Grey for u16 {
+    ghost value = { λ v. v };
+
+    fn value(self) -> u16 {
+        self
+    }
+}
+
+impl Grey for u8 {
+    ghost value = { λ v. v };
+
+    fn value(self) -> u16 {
+        u16::from(self)
+    }
+}
+
+// The part of a picture that is row y of a rectangle.
+pub fn row_at<T>(picture: &[T], stride: usize, rect: Rect, y: usize) -> &[T]
+    requires { Inside (length picture.now) stride rect × (y < rect.height) }
+    ensures { result.now ≡ take rect.width (drop ((rect.top + y) * stride + rect.left) picture.now) }
 {
-    let k = tile_bin::bin_by(grey, min, factor) as usize;
+    let from = (rect.top + y) * stride + rect.left;
+    let to = from + rect.width;
+    &picture[from..to]
+}
+
+// Adds one grey to the counts.
+fn count_one(grey: u16, by: Binning, counts: &mut [u32])
+    requires { CountRowAsks (grey ∷ []) by.min by.max by.bins by.factor counts.old }
+    ensures { counts.new ≡ added_of by.min by.max by.bins counts.old (grey ∷ []) }
+{
+    let k = tile_bin::bin_by(grey as u32, by.min, by.factor) as usize;
     counts[k] += 1;
 }
 
 // Adds the greys of one row to the counts.
-pub fn count_row(row: &[u16], min: u32, max: u32, bins: u32, factor: u32, counts: &mut [u32])
-    requires { CountRowAsks row.now min max bins factor counts.old }
-    ensures { counts.new ≡ added_of min max bins counts.old row.now }
+pub fn count_row(row: &[u16], by: Binning, counts: &mut [u32])
+    requires { CountRowAsks row.now by.min by.max by.bins by.factor counts.old }
+    ensures { counts.new ≡ added_of by.min by.max by.bins counts.old row.now }
 {
-    let mut x = 0;
-    while x < row.len() {
-        count_one(row[x] as u32, min, max, bins, factor, counts);
-        x += 1;
+    for grey in row {
+        count_one(*grey, by, counts);
     }
 }
 
 // Adds the greys of a rectangle to the counts, row by row.
-fn count_plain(
-    picture: &[u16],
-    stride: usize,
-    rect: Rect,
-    min: u32,
-    max: u32,
-    bins: u32,
-    factor: u32,
-    counts: &mut [u32],
-)
-    requires { AddAsks picture.now stride rect min max bins factor counts.old }
-    ensures { counts.new ≡ added_of min max bins counts.old (greys_of picture.now stride rect) }
+pub fn count_plain(picture: &[u16], stride: usize, rect: Rect, by: Binning, counts: &mut [u32])
+    requires { AddAsks picture.now stride rect by.min by.max by.bins by.factor counts.old }
+    ensures { counts.new ≡ added_of by.min by.max by.bins counts.old (greys_of picture.now stride rect) }
 {
-    let mut y = 0;
-    while y < rect.height {
-        let a = (rect.top + y) * stride + rect.left;
-        let e = a + rect.width;
-        count_row(&picture[a..e], min, max, bins, factor, counts);
-        y += 1;
+    for y in 0..rect.height {
+        count_row(row_at(picture, stride, rect, y), by, counts);
     }
 }
 
-// Adds the first `to` greys of a row to four counts, four neighbours at a time and one to each: a count that grows need not wait for the pixel before it, which grew another.
-fn count_four(
-    row: &[u16],
-    to: usize,
-    min: u32,
-    max: u32,
-    bins: u32,
-    factor: u32,
-    a: &mut [u32],
-    b: &mut [u32],
-    c: &mut [u32],
-    d: &mut [u32],
-)
-    requires { FourAsks row.now min max bins factor a.old b.old c.old d.old × (to ≤ length row.now) × (to % 4 ≡ 0) }
-    ensures { FourAdded (take to row.now) min max bins a.old b.old c.old d.old a.new b.new c.new d.new }
+// Adds the greys of a row to four counts, four neighbours at a time and one to each, but for what is left over at its end: a count that grows need not wait for the pixel before it, which grew another. All four are read before the first is counted, so that they are read at once.
+fn count_four(row: &[u16], by: Binning, a: &mut [u32], b: &mut [u32], c: &mut [u32], d: &mut [u32])
+    requires { FourAsks row.now by.min by.max by.bins by.factor a.old b.old c.old d.old }
+    ensures { FourAdded (take (length row.now / 4 * 4) row.now) by.min by.max by.bins a.old b.old c.old d.old a.new b.new c.new d.new }
 {
-    let mut x = 0;
-    while x < to {
-        let s = row[x] as u32;
-        let t = row[x + 1] as u32;
-        let u = row[x + 2] as u32;
-        let v = row[x + 3] as u32;
-        count_one(s, min, max, bins, factor, a);
-        count_one(t, min, max, bins, factor, b);
-        count_one(u, min, max, bins, factor, c);
-        count_one(v, min, max, bins, factor, d);
-        x += 4;
+    for four in row.chunks_exact(4) {
+        let s = four[0];
+        let t = four[1];
+        let u = four[2];
+        let v = four[3];
+        count_one(s, by, a);
+        count_one(t, by, b);
+        count_one(u, by, c);
+        count_one(v, by, d);
     }
 }
 
 // Adds the greys of one row to four counts: each fourth grey to each of them, and what is left over to the first.
 fn count_quarters(
     row: &[u16],
-    min: u32,
-    max: u32,
-    bins: u32,
-    factor: u32,
+    by: Binning,
     a: &mut [u32],
     b: &mut [u32],
     c: &mut [u32],
     d: &mut [u32],
 )
-    requires { FourAsks row.now min max bins factor a.old b.old c.old d.old }
-    ensures { FourAdded row.now min max bins a.old b.old c.old d.old a.new b.new c.new d.new }
+    requires { FourAsks row.now by.min by.max by.bins by.factor a.old b.old c.old d.old }
+    ensures { FourAdded row.now by.min by.max by.bins a.old b.old c.old d.old a.new b.new c.new d.new }
 {
     let t = row.len() / 4 * 4;
-    count_four(row, t, min, max, bins, factor, a, b, c, d);
-    count_row(&row[t..], min, max, bins, factor, a);
+    count_four(row, by, a, b, c, d);
+    count_row(&row[t..], by, a);
 }
 
 // Adds the greys of a rectangle to four counts, row by row.
@@ -123,24 +126,17 @@ fn count_rows(
     picture: &[u16],
     stride: usize,
     rect: Rect,
-    min: u32,
-    max: u32,
-    bins: u32,
-    factor: u32,
+    by: Binning,
     a: &mut [u32],
     b: &mut [u32],
     c: &mut [u32],
     d: &mut [u32],
 )
-    requires { CountRowsAsks picture.now stride rect min max bins factor a.old b.old c.old d.old }
-    ensures { FourAdded (greys_of picture.now stride rect) min max bins a.old b.old c.old d.old a.new b.new c.new d.new }
+    requires { CountRowsAsks picture.now stride rect by.min by.max by.bins by.factor a.old b.old c.old d.old }
+    ensures { FourAdded (greys_of picture.now stride rect) by.min by.max by.bins a.old b.old c.old d.old a.new b.new c.new d.new }
 {
-    let mut y = 0;
-    while y < rect.height {
-        let from = (rect.top + y) * stride + rect.left;
-        let to = from + rect.width;
-        count_quarters(&picture[from..to], min, max, bins, factor, a, b, c, d);
-        y += 1;
+    for y in 0..rect.height {
+        count_quarters(row_at(picture, stride, rect, y), by, a, b, c, d);
     }
 }
 
@@ -149,59 +145,28 @@ fn add_up(a: &[u32], b: &[u32], c: &[u32], d: &[u32], bins: usize, counts: &mut 
     requires { AddUpAsks a.now b.now c.now d.now bins (length counts.old) }
     ensures { counts.new ≡ filled (four_at a.now b.now c.now d.now) counts.old bins }
 {
-    let mut k = 0;
-    while k < bins {
+    for k in 0..bins {
         counts[k] = a[k] + b[k] + c[k] + d[k];
-        k += 1;
     }
 }
 
-// The counts of a rectangle, for at most 1024 bins: four counts, which are added up at the end. Each has 16 entries more than bins, so that a bin's own four never lie a page apart: a processor takes those for the same at first.
-fn count_four_wide(
+// The counts of a rectangle: four counts of N entries, which are added up at the end. N is 16 more than the bins at least, so that a bin's own four never lie a page apart: a processor takes those for the same at first.
+fn count_four_in<const N: usize>(
     picture: &[u16],
     stride: usize,
     rect: Rect,
-    min: u32,
-    max: u32,
-    bins: u32,
-    factor: u32,
+    by: Binning,
     counts: &mut [u32],
 )
-    requires { CountRectAsks picture.now stride rect min max bins (length counts.old) × (factor ≡ factor_of min max bins) × (bins ≤ 1024) }
-    ensures { counts.new ≡ onto counts.old (counts_of min max bins (greys_of picture.now stride rect)) }
+    requires { CountRectAsks picture.now stride rect by.min by.max by.bins (length counts.old) × (by.factor ≡ factor_of by.min by.max by.bins) × (by.bins + 16 ≤ N) × (N ≤ 4112) }
+    ensures { counts.new ≡ onto counts.old (counts_of by.min by.max by.bins (greys_of picture.now stride rect)) }
 {
-    let mut a = [0u32; 1040];
-    let mut b = [0u32; 1040];
-    let mut c = [0u32; 1040];
-    let mut d = [0u32; 1040];
-    count_rows(
-        picture, stride, rect, min, max, bins, factor, &mut a, &mut b, &mut c, &mut d,
-    );
-    add_up(&a, &b, &c, &d, bins as usize, counts);
-}
-
-// The same for any number of bins. The larger the four counts, the longer they take to clear: so there are two sizes.
-fn count_four_widest(
-    picture: &[u16],
-    stride: usize,
-    rect: Rect,
-    min: u32,
-    max: u32,
-    bins: u32,
-    factor: u32,
-    counts: &mut [u32],
-)
-    requires { CountRectAsks picture.now stride rect min max bins (length counts.old) × (factor ≡ factor_of min max bins) × (bins ≤ 4096) }
-    ensures { counts.new ≡ onto counts.old (counts_of min max bins (greys_of picture.now stride rect)) }
-{
-    let mut a = [0u32; 4112];
-    let mut b = [0u32; 4112];
-    let mut c = [0u32; 4112];
-    let mut d = [0u32; 4112];
-    count_rows(
-        picture, stride, rect, min, max, bins, factor, &mut a, &mut b, &mut c, &mut d,
-    );
-    add_up(&a, &b, &c, &d, bins as usize, counts);
+    let mut a = [0u32; N];
+    let mut b = [0u32; N];
+    let mut c = [0u32; N];
+    let mut d = [0u32; N];
+    count_rows(picture, stride, rect, by, &mut a, &mut b, &mut c, &mut d);
+    add_up(&a, &b, &c, &d, by.bins as usize, counts);
 }
 
 // The shift that gives a grey's bin, where one does: the factor is then 2^(24 - shift) + 1, and each bin has 2^shift greys. Else 16.
@@ -209,14 +174,11 @@ pub fn even_shift(factor: u32) -> u16
     ensures { result < 13 → 2 ^ (24 - result) + 1 ≡ factor }
 {
     let t = u32::trailing_zeros(factor ^ 1);
-    if 11 < t {
-        if t < 25 {
-            if (1u32 << t) + 1 == factor {
-                return (24 - t) as u16;
-            }
-        }
+    if 11 < t && t < 25 && (1u32 << t) + 1 == factor {
+        (24 - t) as u16
+    } else {
+        16
     }
-    16
 }
 
 // With at most 256 bins a table has eight counts of each bin, its ways, side by side. The place of a grey is the first of its bin's eight entries; here by such a shift. The numbers stay in 16 bits, so that most greys go at once.
@@ -238,40 +200,36 @@ pub fn place_by(grey: u32, by: Binning) -> u16
 }
 
 // Lays the places of a row's greys into a line, where a shift gives them.
-fn places_even(row: &[u16], by: Binning, shift: u16, line: &mut [u16])
-    requires { PlacesAsks row.now by (length line.old) × (shift < 13) × (2 ^ (24 - shift) + 1 ≡ by.factor) }
-    ensures { line.new ≡ onto line.old (map (place_in by) row.now) }
+fn places_even<T: Grey>(row: &[T], by: Binning, shift: u16, line: &mut [u16])
+    requires { PlacesAsks (map T.value row.now) by (length line.old) × (shift < 13) × (2 ^ (24 - shift) + 1 ≡ by.factor) }
+    ensures { line.new ≡ onto line.old (map (place_in by) (map T.value row.now)) }
 {
-    let mut x = 0;
-    while x < row.len() {
-        line[x] = place_even(row[x], by, shift);
-        x += 1;
+    for (x, grey) in row.iter().enumerate() {
+        line[x] = place_even(grey.value(), by, shift);
     }
 }
 
 // The same by the factor.
-fn places_by(row: &[u16], by: Binning, line: &mut [u16])
-    requires { PlacesAsks row.now by (length line.old) }
-    ensures { line.new ≡ onto line.old (map (place_in by) row.now) }
+fn places_by<T: Grey>(row: &[T], by: Binning, line: &mut [u16])
+    requires { PlacesAsks (map T.value row.now) by (length line.old) }
+    ensures { line.new ≡ onto line.old (map (place_in by) (map T.value row.now)) }
 {
-    let mut x = 0;
-    while x < row.len() {
-        line[x] = place_by(row[x] as u32, by);
-        x += 1;
+    for (x, grey) in row.iter().enumerate() {
+        line[x] = place_by(grey.value() as u32, by);
     }
 }
 
 // Lays the places of a row's greys into a line: by a shift, or by the factor.
-fn places(row: &[u16], by: Binning, line: &mut [u16])
-    requires { PlacesAsks row.now by (length line.old) }
-    ensures { line.new ≡ onto line.old (map (place_in by) row.now) }
+fn places<T: Grey>(row: &[T], by: Binning, line: &mut [u16])
+    requires { PlacesAsks (map T.value row.now) by (length line.old) }
+    ensures { line.new ≡ onto line.old (map (place_in by) (map T.value row.now)) }
 {
     let shift = even_shift(by.factor);
     if shift < 13 {
         places_even(row, by, shift, line);
-        return;
+    } else {
+        places_by(row, by, line);
     }
-    places_by(row, by, line);
 }
 
 // Adds one to a count: the way's of those that begin at the place.
@@ -288,23 +246,18 @@ fn count_turn(line: &[u16], table: &mut [u32])
     requires { LineAsks line.now table.old × (length line.now ≤ 8) }
     ensures { WaysAdded (map (λ p. p / 8) line.now) table.old table.new }
 {
-    let mut j = 0;
-    while j < line.len() {
-        count_at(line[j] as usize, j, table);
-        j += 1;
+    for (way, place) in line.iter().enumerate() {
+        count_at(*place as usize, way, table);
     }
 }
 
-// Adds the first `to` places of a line, eight neighbours at a time.
-fn count_turns(line: &[u16], to: usize, table: &mut [u32])
-    requires { LineAsks line.now table.old × (to ≤ length line.now) × (to % 8 ≡ 0) }
-    ensures { WaysAdded (map (λ p. p / 8) (take to line.now)) table.old table.new }
+// Adds the places of a line, eight neighbours at a time, but for what is left over at its end.
+fn count_turns(line: &[u16], table: &mut [u32])
+    requires { LineAsks line.now table.old }
+    ensures { WaysAdded (map (λ p. p / 8) (take (length line.now / 8 * 8) line.now)) table.old table.new }
 {
-    let mut x = 0;
-    while x < to {
-        let e = x + 8;
-        count_turn(&line[x..e], table);
-        x = e;
+    for turn in line.chunks_exact(8) {
+        count_turn(turn, table);
     }
 }
 
@@ -314,62 +267,44 @@ pub fn count_line(line: &[u16], table: &mut [u32])
     ensures { WaysAdded (map (λ p. p / 8) line.now) table.old table.new }
 {
     let t = line.len() / 8 * 8;
-    count_turns(line, t, table);
+    count_turns(line, table);
     count_turn(&line[t..], table);
 }
 
 // Adds the greys of a part of a row that is no longer than the line.
-fn count_part(row: &[u16], by: Binning, line: &mut [u16], table: &mut [u32])
-    requires { PartAsks row.now by table.old × (length row.now ≤ length line.old) }
-    ensures { WaysAdded (map (bin_in by) row.now) table.old table.new }
+fn count_part<T: Grey>(row: &[T], by: Binning, line: &mut [u16], table: &mut [u32])
+    requires { PartAsks (map T.value row.now) by table.old × (length row.now ≤ length line.old) }
+    ensures { WaysAdded (map (bin_in by) (map T.value row.now)) table.old table.new }
 {
     let wide = row.len();
     places(row, by, line);
     count_line(&line[..wide], table);
 }
 
-// Where a part of at most `most` entries ends that begins at x.
-pub fn part_end(x: usize, size: usize, most: usize) -> usize
-    requires { (x < size) × (0 < most) }
-    ensures { (x < result) × (result ≤ size) × (result - x ≤ most) }
-{
-    if size - x <= most {
-        return size;
-    }
-    x + most
-}
-
 // Adds the greys of a row, part by part.
-fn count_parts(row: &[u16], by: Binning, line: &mut [u16], table: &mut [u32])
-    requires { PartAsks row.now by table.old × (0 < length line.old) }
-    ensures { WaysAdded (map (bin_in by) row.now) table.old table.new }
+fn count_parts<T: Grey>(row: &[T], by: Binning, line: &mut [u16], table: &mut [u32])
+    requires { PartAsks (map T.value row.now) by table.old × (0 < length line.old) }
+    ensures { WaysAdded (map (bin_in by) (map T.value row.now)) table.old table.new }
 {
-    let mut x = 0;
-    while x < row.len() {
-        let e = part_end(x, row.len(), line.len());
-        count_part(&row[x..e], by, line, table);
-        x = e;
+    for part in row.chunks(line.len()) {
+        count_part(part, by, line, table);
     }
 }
 
 // Adds the greys of a rectangle to the ways, row by row.
-fn count_ways(
-    picture: &[u16],
+fn count_ways<T: Grey>(
+    picture: &[T],
     stride: usize,
     rect: Rect,
     by: Binning,
     line: &mut [u16],
     table: &mut [u32],
 )
-    requires { CountWaysAsks picture.now stride rect by table.old × (0 < length line.old) }
-    ensures { WaysAdded (map (bin_in by) (greys_of picture.now stride rect)) table.old table.new }
+    requires { CountWaysAsks (map T.value picture.now) stride rect by table.old × (0 < length line.old) }
+    ensures { WaysAdded (map (bin_in by) (greys_of (map T.value picture.now) stride rect)) table.old table.new }
 {
-    let mut y = 0;
-    while y < rect.height {
-        let from = (rect.top + y) * stride + rect.left;
-        let to = from + rect.width;
-        count_parts(&picture[from..to], by, line, table);
-        y += 1;
+    for y in 0..rect.height {
+        count_parts(row_at(picture, stride, rect, y), by, line, table);
     }
 }
 
@@ -378,11 +313,9 @@ fn eight_sum(table: &[u32], k: usize) -> u32
     requires { AddWaysAsks (k + 1) table.now }
     ensures { result ≡ eight_at table.now k }
 {
-    let mut sum = 0u32;
-    let mut j = 0;
-    while j < 8 {
+    let mut sum = 0;
+    for j in 0..8 {
         sum += table[k * 8 + j];
-        j += 1;
     }
     sum
 }
@@ -392,17 +325,21 @@ pub fn add_ways(table: &[u32], bins: usize, counts: &mut [u32])
     requires { AddWaysAsks bins table.now × (bins ≤ length counts.old) }
     ensures { counts.new ≡ filled (eight_at table.now) counts.old bins }
 {
-    let mut k = 0;
-    while k < bins {
+    for k in 0..bins {
         counts[k] = eight_sum(table, k);
-        k += 1;
     }
 }
 
 // The counts of a rectangle, for at most 256 bins: by eight ways, which are added up at the end.
-fn count_eight_ways(picture: &[u16], stride: usize, rect: Rect, by: Binning, counts: &mut [u32])
-    requires { CountRectAsks picture.now stride rect by.min by.max by.bins (length counts.old) × (by.factor ≡ factor_of by.min by.max by.bins) × (by.bins ≤ 256) }
-    ensures { counts.new ≡ onto counts.old (counts_of by.min by.max by.bins (greys_of picture.now stride rect)) }
+pub fn count_eight_ways<T: Grey>(
+    picture: &[T],
+    stride: usize,
+    rect: Rect,
+    by: Binning,
+    counts: &mut [u32],
+)
+    requires { CountRectAsks (map T.value picture.now) stride rect by.min by.max by.bins (length counts.old) × (by.factor ≡ factor_of by.min by.max by.bins) × (by.bins ≤ 256) }
+    ensures { counts.new ≡ onto counts.old (counts_of by.min by.max by.bins (greys_of (map T.value picture.now) stride rect)) }
 {
     let mut line = [0u16; 512];
     let mut table = [0u32; 2048];
@@ -410,7 +347,7 @@ fn count_eight_ways(picture: &[u16], stride: usize, rect: Rect, by: Binning, cou
     add_ways(&table, by.bins as usize, counts);
 }
 
-// The counts of a rectangle of a picture `stride` pixels wide, in the first `bins` entries; entries behind keep their contents. Where a bin has fewer than four pixels, four counts cost more to clear and to add up than they gain.
+// The counts of a rectangle of a picture `stride` pixels wide, in the first `bins` entries; entries behind keep their contents. Where a bin has fewer than four pixels, four counts cost more to clear and to add up than they gain; the larger the four, the longer they take to clear, so there are two sizes.
 pub fn count(
     picture: &[u16],
     stride: usize,
@@ -424,24 +361,20 @@ pub fn count(
     ensures { counts.new ≡ onto counts.old (counts_of min max bins (greys_of picture.now stride rect)) }
 {
     let factor = tile_bin::bin_factor(min, max, bins);
+    let by = Binning {
+        min,
+        max,
+        bins,
+        factor,
+    };
     if bins <= 256 {
-        let by = Binning {
-            min: min,
-            max: max,
-            bins: bins,
-            factor: factor,
-        };
         count_eight_ways(picture, stride, rect, by, counts);
-        return;
-    }
-    if rect.width * rect.height / 4 < (bins as usize) {
+    } else if rect.width * rect.height / 4 < bins as usize {
         base_lists::clear(counts, bins as usize);
-        count_plain(picture, stride, rect, min, max, bins, factor, counts);
-        return;
+        count_plain(picture, stride, rect, by, counts);
+    } else if bins <= 1024 {
+        count_four_in::<1040>(picture, stride, rect, by, counts);
+    } else {
+        count_four_in::<4112>(picture, stride, rect, by, counts);
     }
-    if bins <= 1024 {
-        count_four_wide(picture, stride, rect, min, max, bins, factor, counts);
-        return;
-    }
-    count_four_widest(picture, stride, rect, min, max, bins, factor, counts);
 }

@@ -5,14 +5,14 @@ ghost use Rattle.std.specs.Prelude.{◌≡◌};
 ghost use Rattle.tile_limit.specs.Limit.{judge_of, floored_of, limit_of, used_of, LimitAsks, UsedAsks};
 
 // The clip setting is one of two: off, or a factor carried as f32.
-#[derive(Clone, Copy)]
+#[derive(Clone, Copy, Debug, PartialEq)]
 pub enum Clip {
     Off,
     Factor(f32),
 }
 
 // Whose clip rule is followed: ours, or that of the report of 1986.
-#[derive(Clone, Copy)]
+#[derive(Clone, Copy, Debug, PartialEq, Eq)]
 pub enum Edition {
     Ours,
     Of1986,
@@ -34,15 +34,13 @@ pub fn judge(clip: Clip) -> Judged
     match clip {
         Clip::Off => Judged::Off,
         Clip::Factor(f) => {
-            if 1.0 <= f {
-                if f <= 1024.0 {
-                    if f == 1.0 {
-                        return Judged::One;
-                    }
-                    return Judged::Above(f);
-                }
+            if !(1.0 <= f && f <= 1024.0) {
+                Judged::Refused
+            } else if f == 1.0 {
+                Judged::One
+            } else {
+                Judged::Above(f)
             }
-            Judged::Refused
         }
     }
 }
@@ -57,23 +55,18 @@ fn floored(factor: f32, pixels: u32, bins: u32) -> u32
     let digits = bits % 8388608 + 8388608;
     let whole = (digits << (exponent - 127)) * (pixels as u64);
     let floor = whole / ((bins as u64) * 8388608);
-    if floor == 0 {
-        return 1;
-    }
-    floor as u32
+    floor.max(1) as u32
 }
 
 // The limit L of a tile of `pixels` pixels: that, or pixels / bins rounded up where this is larger. So the bins always hold the tile.
+#[tactic(auto, unfolding(crate::specs::Limit::limit_of))]
 pub fn limit(factor: f32, pixels: u32, bins: u32) -> u32
     requires { LimitAsks factor pixels bins }
     ensures { result ≡ limit_of factor pixels bins }
 {
     let floor = floored(factor, pixels, bins);
     let least = (pixels + (bins - 1)) / bins;
-    if floor < least {
-        return least;
-    }
-    floor
+    floor.max(least)
 }
 
 // The factor that the limit really stands for: L x B and N, each cast exactly, divided once.

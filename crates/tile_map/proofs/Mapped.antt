@@ -3,7 +3,7 @@
 use Prim.Native.Nat.{ℕ, ◌+◌, ◌-◌, ◌*◌, ◌/◌, ◌≤◌, ◌<◌}
 use mathlib.Core.Bool.{true}
 use mathlib.Core.List.{List}
-use mathlib.Core.Path.{◌≡◌, refl, sym, ap, ◌∙◌}
+use mathlib.Core.Path.{◌≡◌, refl, ap, ◌∙◌}
 use lib.ListN.{length, take, get_or}
 use lib.Seq.{take-length}
 use native.Mathlib.Nat.{mul-le-mul, mul-le-mul_right, mul-add, mul-one, mul_comm, mul-div_right, le-div_iff_mul-le, div-lt_iff_lt-mul, div-mul-le_self, lt-div-mul-add, div-le_of_le-mul, le_trans, add-mul}
@@ -14,7 +14,7 @@ use Rattle.base_lists.proofs.Tallies.{total_next, total_next_le, total_take_le, 
 use Rattle.base_lists.proofs.Alls.{all_tab}
 use Rattle.base_lists.proofs.Inverses.{ratio, by_ratio}
 use Rattle.base_range.specs.Scan.{within}
-use Rattle.tile_map.specs.Tile.{mapped_of, mapping_of}
+use Rattle.tile_map.specs.Tile.{mapped_of, mapping_of, MapBinsAsks}
 use Rattle.base_range.proofs.Spans.{within_both}
 
 -- a quotient never falls as the dividend grows
@@ -54,16 +54,39 @@ scale_room s n r h m k =
 
 -- ---- one mapped value
 
--- the running sum with bin k's own count
-pub mapped_next : (lo hi n : ℕ) (cs : List ℕ) {s : ℕ} (k : ℕ) → k < length cs → s ≡ total (take k cs)
-    → lo + (s + get_or cs k 0) * (hi - lo) / n ≡ mapped_of lo hi n cs k
-unfolding mapped_of
-mapped_next lo hi n cs {s} k h e = ap (λ t. lo + t * (hi - lo) / n) (ap (λ t. t + get_or cs k 0) e ∙ sym (total_next cs k h))
-
 -- the sum up to bin k and with it
 pub mapped_through : (lo hi : ℕ) (cs : List ℕ) (k : ℕ) {s n t : ℕ} → s ≡ total (take (k + 1) cs) → n ≡ t → lo + s * (hi - lo) / n ≡ mapped_of lo hi t cs k
 unfolding mapped_of
 mapped_through lo hi cs k e q = rw (e, q) refl
+
+-- a turn of `map`: s is the running sum before bin k
+module _ {cs : List ℕ} {n lo hi room k s : ℕ} (asks : MapBinsAsks cs n lo hi room) (e : s ≡ total (take k cs)) (l : k < length cs) where
+  abbrev with_own : ℕ
+  with_own = s + get_or cs k 0
+
+  -- the sum with bin k's own count
+  pub turn_sum : with_own ≡ total (take (k + 1) cs)
+  turn_sum = omega (arith, total_next cs k l)
+
+  -- is at most N
+  pub turn_few : with_own ≤ n
+  turn_few = omega (arith, turn_sum, total_take_le (k + 1) cs, asks.sum)
+
+  -- its product with the factor stays in 64 bits
+  pub turn_room : with_own * ratio 35184372088832 (hi - lo) n ≤ 144080003707965440
+  turn_room = scale_room _ _ _ turn_few asks.few (omega (arith, asks.most))
+
+  -- and gives the quotient
+  turn_part : with_own * ratio 35184372088832 (hi - lo) n / 35184372088832 ≡ with_own * (hi - lo) / n
+  turn_part = scale_part _ _ _ asks.some turn_few asks.few
+
+  -- which is at most R
+  pub turn_most : with_own * ratio 35184372088832 (hi - lo) n / 35184372088832 ≤ hi - lo
+  turn_most = omega (arith, turn_part, part_le _ _ (hi - lo) turn_few)
+
+  -- the mapped value of bin k
+  pub turn_value : lo + with_own * ratio 35184372088832 (hi - lo) n / 35184372088832 ≡ mapped_of lo hi n cs k
+  turn_value = ap (λ t. lo + t) turn_part ∙ mapped_through lo hi cs k turn_sum refl
 
 -- never below Min
 pub mapped_low : (lo hi n : ℕ) (cs : List ℕ) (k : ℕ) → lo ≤ mapped_of lo hi n cs k

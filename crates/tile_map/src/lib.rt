@@ -17,13 +17,10 @@ pub fn map(counts: &[u32], pixels: u32, min: u32, max: u32, out: &mut [u16])
 {
     let range = (max - min) as u64;
     let scale = range * 35184372088832 / (pixels as u64) + 1;
-    let mut sum: u64 = 0;
-    let mut k = 0;
-    while k < counts.len() {
-        let through = sum + counts[k] as u64;
-        out[k] = (min + (through * scale / 35184372088832) as u32) as u16;
-        sum = through;
-        k += 1;
+    let mut sum = 0u64;
+    for (k, count) in counts.iter().enumerate() {
+        sum += *count as u64;
+        out[k] = (min + (sum * scale / 35184372088832) as u32) as u16;
     }
 }
 
@@ -50,17 +47,14 @@ fn clip_in(edition: Edition, pixels: u32, most: u32, counts: &mut [u32]) -> Clip
         Edition::Of1986 => {
             let excess = tile_clip::excess(counts, most);
             let over = tile_clip1986::raise(counts, most);
-            let looks = 0;
-            Clipped {
-                over,
-                spent: Spent { excess, looks },
-            }
+            let spent = Spent { excess, looks: 0 };
+            Clipped { over, spent }
         }
     }
 }
 
 // The counts clipped by the clip setting; with clip off the raw counts stay, and nothing is taken.
-fn clip_by(clip: Clip, pixels: u32, counts: &mut [u32], edition: Edition) -> Clipped
+pub fn clip_by(clip: Clip, pixels: u32, counts: &mut [u32], edition: Edition) -> Clipped
     requires { ClipByAsks clip pixels counts.old }
     ensures { ByClipped edition clip pixels counts.old counts.new result }
 {
@@ -93,8 +87,7 @@ pub fn from_counts(
     ensures { FromMapped edition clip pixels min max counts.old counts.new out.old out.new result }
 {
     let clipped = clip_by(clip, pixels, counts, edition);
-    let whole = clipped.over;
-    map(counts, whole, min, max, out);
+    map(counts, clipped.over, min, max, out);
     clipped.spent
 }
 
@@ -115,14 +108,13 @@ pub fn mapping(
     ensures { TileMapped min max bins edition clip (greys_of picture.now stride rect) scratch.old scratch.new out.old out.new result }
 {
     let pixels = (rect.width * rect.height) as u32;
-    let entries = bins as usize;
     tile_count::count(picture, stride, rect, min, max, bins, scratch);
     from_counts(
         clip,
         pixels,
         min,
         max,
-        &mut scratch[..entries],
+        &mut scratch[..bins as usize],
         out,
         edition,
     )

@@ -1,13 +1,13 @@
 -- The turns of `take_one`, `take_row` and `take_rect`: what a grey, each grey of a row, and each row of a rectangle does to the counts.
 -- Assumes nothing.
-use Prim.Native.Nat.{ℕ, zero, suc, ◌+◌, ◌-◌, ◌*◌, ◌≤◌, ◌<◌}
+use Prim.Native.Nat.{ℕ, zero, suc, ◌+◌, ◌-◌, ◌≤◌, ◌<◌}
 use mathlib.Core.Logic.{◌⊎◌, inl, inr}
 use Rattle.base_lists.proofs.Orders.{lt_or_ge}
 use mathlib.Core.Bool.{true}
 use mathlib.Core.List.{List, [], ◌∷◌, ◌++◌, map}
 use mathlib.Core.Path.{◌≡◌, sym, ap, ap₂, ◌∙◌}
 use lib.ListN.{length, take, drop, get_or, set, take-append-drop}
-use lib.Seq.{take-suc, take_all, drop-cons}
+use lib.Seq.{take-suc, drop-cons}
 use native.Mathlib.Numerals.{add-one}
 use native.Mathlib.Omega.{arith}
 use Rattle.base_lists.specs.Lists.{joined, times}
@@ -21,7 +21,7 @@ use Rattle.tile_bin.specs.Binning.{bin_of, bin_by_of}
 use Rattle.tile_bin.proofs.Bins.{bin_below, bin_by}
 use Rattle.tile_count.specs.declared.Rect.{Rect}
 use Rattle.tile_count.specs.Tally.{greys_of}
-use Rattle.tile_count.proofs.Greys.{row_of, rows_whole, inside_part, row_all, greys_rows}
+use Rattle.tile_count.proofs.Greys.{row_of, rows_whole, row_all, greys_rows}
 use Rattle.tile_slide.specs.Slide.{taken_of, TakeAsks, TakeRectAsks}
 use Rattle.tile_slide.proofs.Taken.{length_taken, get_or_taken, taken_none, taken_one, taken_taken}
 
@@ -90,10 +90,6 @@ module _ {row : List ℕ} {lo hi b factor : ℕ} {cs₀ : List ℕ} (asks : Take
       ∙ taken_taken lo hi b cs₀ (take x row) (get_or row x 0 ∷ [])
       ∙ ap (taken_of lo hi b cs₀) (sym (rw add-one (take-suc row x 0 l)))
 
--- the whole row
-pub row_end : (lo hi b : ℕ) (cs₀ row : List ℕ) {cs : List ℕ} {x : ℕ} → cs ≡ taken_of lo hi b cs₀ (take x row) → length row ≤ x → cs ≡ taken_of lo hi b cs₀ row
-row_end lo hi b cs₀ row {cs} {x} e h = e ∙ ap (taken_of lo hi b cs₀) (take_all x row h)
-
 -- ---- a rectangle
 
 -- before the first row
@@ -131,10 +127,9 @@ joined_times g k f y (suc n) h = go (lt_or_ge y n) (joined_times g k f y n)
 
 -- what a row asks
 pub row_asks : {pic : List ℕ} {stride : ℕ} {r : Rect} {lo hi b factor : ℕ} {cs₀ cs : List ℕ} → TakeRectAsks pic stride r lo hi b factor cs₀ → (y : ℕ)
-    → cs ≡ taken_of lo hi b cs₀ (joined y (row_of pic stride r)) → y < r.height
-    → TakeAsks (take ((r.top + y) * stride + r.left + r.width - ((r.top + y) * stride + r.left)) (drop ((r.top + y) * stride + r.left) pic)) lo hi b factor cs
-row_asks {pic} {stride} {r} {lo} {hi} {b} {factor} {cs₀} {cs} takes y e h =
-    rw (inside_part pic stride r takes.inside y h)
+    → cs ≡ taken_of lo hi b cs₀ (joined y (row_of pic stride r)) → y < r.height → {row : List ℕ} → row ≡ row_of pic stride r y → TakeAsks row lo hi b factor cs
+row_asks {pic} {stride} {r} {lo} {hi} {b} {factor} {cs₀} {cs} takes y e h q =
+    rw q
     record {
       by = takes.asks.by;
       most = takes.asks.most;

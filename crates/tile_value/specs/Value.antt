@@ -1,13 +1,12 @@
 -- Document 01, "From pixels to mappings", rules 2 to 5, for one bin: the counts clipped, and the mapped value of that bin alone.
 -- lo and hi are Min and Max, n the pixels N, k the bin.
 -- Assumes nothing.
-use Rattle.std.specs.Prelude.{ℕ, ◌+◌, ◌≤◌, ◌<◌, true, List, ◌≡◌, length}
+use Rattle.std.specs.Prelude.{ℕ, ◌+◌, ◌≤◌, ◌<◌, List, ◌≡◌, length, Option, IfSome}
 use Rattle.tile_limit.specs.declared.Clip.{Clip}
 use Rattle.tile_limit.specs.declared.Edition.{Edition}
 use Rattle.tile_clip.specs.Clip.{clipped}
 use Rattle.tile_clip.specs.Spans.{framed}
 use Rattle.tile_map.specs.Tile.{clipped_by, divided_by, mapped_of, ClipInAsks, ClipByAsks}
-use Rattle.tile_value.specs.declared.Found.{Found}
 
 -- what `value` asks: the counts of n pixels, a clip setting whose limit has room for them, and one of the bins
 pub record ValueAsks (clip : Clip) (n lo hi k : ℕ) (counts : List ℕ) : Type 0 where
@@ -35,9 +34,9 @@ pub record LimitedAsks (most n lo hi k b at : ℕ) (cs : List ℕ) : Type 0 wher
   pub last : k < at + length cs
 
 -- what it answers, if it does
-pub record LimitedGiven (most n lo hi k b at : ℕ) (cs ds : List ℕ) (f : Found) : Type 0 where
+pub record LimitedGiven (most n lo hi k b at : ℕ) (cs ds : List ℕ) (f : Option ℕ) : Type 0 where
   pub size : length ds ≡ length cs
-  pub value : f.known ≡ true → f.value ≡ mapped_of lo hi n (clipped most (framed 0 b at cs)) k
+  pub value : IfSome f (λ v. v ≡ mapped_of lo hi n (clipped most (framed 0 b at cs)) k)
 
 -- what a setting asks
 pub record SpanValueAsks (clip : Clip) (n lo hi k b at : ℕ) (cs : List ℕ) : Type 0 where
@@ -47,6 +46,6 @@ pub record SpanValueAsks (clip : Clip) (n lo hi k b at : ℕ) (cs : List ℕ) : 
   pub last : k < at + length cs
 
 -- and answers, if it does: what `value` answers for all bins
-pub record SpanValueGiven (e : Edition) (clip : Clip) (n lo hi k b at : ℕ) (cs ds : List ℕ) (f : Found) : Type 0 where
+pub record SpanValueGiven (e : Edition) (clip : Clip) (n lo hi k b at : ℕ) (cs ds : List ℕ) (f : Option ℕ) : Type 0 where
   pub size : length ds ≡ length cs
-  pub value : f.known ≡ true → f.value ≡ mapped_of lo hi (divided_by e clip n (framed 0 b at cs)) (clipped_by e clip n (framed 0 b at cs)) k
+  pub value : IfSome f (λ v. v ≡ mapped_of lo hi (divided_by e clip n (framed 0 b at cs)) (clipped_by e clip n (framed 0 b at cs)) k)

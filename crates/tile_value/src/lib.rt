@@ -4,50 +4,18 @@
 ghost use Rattle.std.specs.Prelude.{◌≡◌, ◌+◌, ◌≤◌, ◌<◌, length, take};
 ghost use Rattle.base_lists.specs.Lists.{total};
 ghost use Rattle.tile_limit.specs.declared.Edition.TheVariants.{Ours};
-ghost use Rattle.tile_map.specs.Tile.{clipped_in, clipped_by, divided_in, divided_by, ClipInAsks, ClipByAsks};
 ghost use Rattle.tile_value.specs.Value.{ValueAsks, ValueGiven, LimitedAsks, LimitedGiven, SpanValueAsks, SpanValueGiven};
 
 use tile_limit::{Clip, Edition};
-
-// The counts clipped at a limit by an edition's rule; the answer is what their mapping divides by.
-fn clip_in(edition: Edition, pixels: u32, most: u32, counts: &mut [u32]) -> u32
-    requires { ClipInAsks pixels most counts.old }
-    ensures { (counts.new ≡ clipped_in edition most counts.old) × (result ≡ divided_in edition pixels (clipped_in edition most counts.old)) }
-{
-    match edition {
-        Edition::Ours => {
-            tile_clip::clip(counts, most);
-            pixels
-        }
-        Edition::Of1986 => tile_clip1986::raise(counts, most),
-    }
-}
-
-// The counts clipped by the clip setting; with clip off the raw counts stay.
-fn clip_by(clip: Clip, pixels: u32, counts: &mut [u32], edition: Edition) -> u32
-    requires { ClipByAsks clip pixels counts.old }
-    ensures { (counts.new ≡ clipped_by edition clip pixels counts.old) × (result ≡ divided_by edition clip pixels counts.old) }
-{
-    match clip {
-        Clip::Off => pixels,
-        Clip::Factor(factor) => {
-            let most = tile_limit::limit(factor, pixels, counts.len() as u32);
-            clip_in(edition, pixels, most, counts)
-        }
-    }
-}
 
 // The sum of the counts of bins 0 to k.
 pub fn through(counts: &[u32], k: usize) -> u64
     requires { (k < length counts.now) × (total counts.now ≤ 4198400) }
     ensures { result ≡ total (take (k + 1) counts.now) }
 {
-    let end = k + 1;
-    let mut sum: u64 = 0;
-    let mut i = 0;
-    while i < end {
-        sum += counts[i] as u64;
-        i += 1;
+    let mut sum = 0u64;
+    for count in &counts[..=k] {
+        sum += *count as u64;
     }
     sum
 }
@@ -65,17 +33,10 @@ pub fn value(
     requires { ValueAsks clip pixels min max k counts.old }
     ensures { ValueGiven edition clip pixels min max k counts.old counts.new result }
 {
-    let whole = clip_by(clip, pixels, counts, edition);
+    let clipped = tile_map::clip_by(clip, pixels, counts, edition);
     let sum = through(&counts[..], k);
     let range = (max - min) as u64;
-    min + (sum * range / (whole as u64)) as u32
-}
-
-// The mapped value of a bin, if it is known.
-#[derive(Clone, Copy)]
-pub struct Found {
-    pub known: bool,
-    pub value: u32,
+    min + (sum * range / (clipped.over as u64)) as u32
 }
 
 // The mapped value of bin k at a limit in our edition, where only the bins of the part, from bin `at` on, hold anything. It is not known
@@ -89,23 +50,16 @@ fn value_limited(
     bins: usize,
     at: usize,
     part: &mut [u32],
-) -> Found
+) -> Option<u32>
     requires { LimitedAsks most pixels min max k bins at part.old }
     ensures { LimitedGiven most pixels min max k bins at part.old part.new result }
 {
-    let handed = tile_clip::clip_span(part, most, bins, at);
-    if handed.left != 0 {
-        return Found {
-            known: false,
-            value: 0,
-        };
-    }
-    let sum = handed.below + through(&part[..], k - at);
+    let Some(below) = tile_clip::clip_span(part, most, bins, at) else {
+        return None;
+    };
+    let sum = below + through(&part[..], k - at);
     let range = (max - min) as u64;
-    Found {
-        known: true,
-        value: min + (sum * range / (pixels as u64)) as u32,
-    }
+    Some(min + (sum * range / (pixels as u64)) as u32)
 }
 
 // The same by the clip setting. With clip off there is nothing to pass over but a sum.
@@ -118,15 +72,12 @@ fn value_ours(
     bins: usize,
     at: usize,
     part: &mut [u32],
-) -> Found
+) -> Option<u32>
     requires { SpanValueAsks clip pixels min max k bins at part.old }
     ensures { SpanValueGiven Ours clip pixels min max k bins at part.old part.new result }
 {
     match clip {
-        Clip::Off => Found {
-            known: false,
-            value: 0,
-        },
+        Clip::Off => None,
         Clip::Factor(factor) => {
             let most = tile_limit::limit(factor, pixels, bins as u32);
             value_limited(most, pixels, min, max, k, bins, at, part)
@@ -146,15 +97,12 @@ pub fn value_span(
     at: usize,
     part: &mut [u32],
     edition: Edition,
-) -> Found
+) -> Option<u32>
     requires { SpanValueAsks clip pixels min max k bins at part.old }
     ensures { SpanValueGiven edition clip pixels min max k bins at part.old part.new result }
 {
     match edition {
         Edition::Ours => value_ours(clip, pixels, min, max, k, bins, at, part),
-        Edition::Of1986 => Found {
-            known: false,
-            value: 0,
-        },
+        Edition::Of1986 => None,
     }
 }

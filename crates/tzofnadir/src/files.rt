@@ -1,13 +1,13 @@
 // The calls on PGM files: those of `c_files`, under the names that C sees.
 ghost use Rattle.std.specs.Prelude.{◌≡◌, length};
-ghost use Rattle.pgm_read.specs.Pgm.{read_of, sizes_of, sizes_says};
+ghost use Rattle.pgm_read.specs.Pgm.{read_of, sizes_of};
 ghost use Rattle.pgm_greys.specs.Greys.{turned_of};
 ghost use Rattle.pgm_write.specs.Write.{write_of};
 ghost use Rattle.c_flat.specs.Files.{answered, flat_sizes, flat_raster, flat_greys, written_as, flat_written};
 
 #[unsafe(no_mangle)]
 pub extern "C" fn tz_read_sizes(bytes: &[u8], sizes: &mut [u32; 3]) -> u32
-    ensures { answered result sizes.new ≡ flat_sizes (sizes_says (sizes_of (read_of bytes.now))) sizes.old }
+    ensures { answered result sizes.new ≡ flat_sizes (sizes_of (read_of bytes.now)) sizes.old }
 {
     c_files::tz_read_sizes(bytes, sizes)
 }

@@ -1,6 +1,5 @@
 // The calls on plain PGM files: those of `c_plain`, under the names that C sees.
 ghost use Rattle.std.specs.Prelude.{◌≡◌};
-ghost use Rattle.pgm_read.specs.Pgm.{sizes_says};
 ghost use Rattle.c_flat.specs.Files.{answered, flat_sizes, written_as, flat_written};
 ghost use Rattle.pgm_plain.specs.Plain.{plain_head_of};
 ghost use Rattle.pgm_plain_read.specs.PlainRead.{plain_of, limited_of};
@@ -9,7 +8,7 @@ ghost use Rattle.c_plain.specs.Flat.{read_as, flat_read};
 
 #[unsafe(no_mangle)]
 pub extern "C" fn tz_plain_sizes(bytes: &[u8], sizes: &mut [u32; 3]) -> u32
-    ensures { answered result sizes.new ≡ flat_sizes (sizes_says (limited_of (plain_head_of bytes.now))) sizes.old }
+    ensures { answered result sizes.new ≡ flat_sizes (limited_of (plain_head_of bytes.now)) sizes.old }
 {
     c_plain::tz_plain_sizes(bytes, sizes)
 }

@@ -1,15 +1,6 @@
-use mathlib.Core.Path.{refl}
-use lib.ListN.{length-set}
-use borrow.Author.Rules.{rules}
-use Rattle.base_lists.proofs.Fills.{filled_none, filled_step, filled_end}
+use lib.Seq.{length-take-le}
+use Rattle.base_lists.proofs.Fills.{filled_same}
 use Rattle.base_lists.proofs.clear.Goals as goal
 
-pub loop-i-init : goal.loop-i-init
-loop-i-init c = (search rules, search rules, refl, filled_none _ _)
-
-pub loop-i-preserved : goal.loop-i-preserved
-loop-i-preserved c =
-    (search rules, search rules, rw length-set (search rules), filled_step _ _ c.loop-i.invariant.3 (search rules) refl)
-
 pub returns : goal.returns
-returns c = filled_end _ _ c.loop-i.invariant.3 (search rules) (search rules)
+returns c = filled_same 0 _ (c.fill.ensures.after (λ y e. e)) (length-take-le c.args.n c.args.s.now c.requires)

@@ -1,15 +1,9 @@
-use mathlib.Core.Path.{refl, ◌∙◌}
-use lib.ListN.{length-set}
-use borrow.Author.Rules.{rules}
-use Rattle.base_lists.proofs.Fills.{filled_none, filled_step, filled_end, filled_copy}
+use mathlib.Core.Path.{ap}
+use mathlib.Core.List.{◌++◌}
+use lib.ListN.{length, drop}
+use Rattle.base_lists.specs.Lists.{onto}
 use Rattle.base_lists.proofs.copy.Goals as goal
 
-pub loop-i-init : goal.loop-i-init
-loop-i-init c = (search rules, search rules, refl, filled_none _ _)
-
-pub loop-i-preserved : goal.loop-i-preserved
-loop-i-preserved c =
-    (search rules, search rules, rw length-set (search rules), filled_step _ _ c.loop-i.invariant.3 (search rules) refl)
-
 pub returns : goal.returns
-returns c = filled_end _ _ c.loop-i.invariant.3 (search rules) (search rules) ∙ filled_copy _ _
+unfolding onto
+returns g c = ap (λ t. t ++ drop (length c.args.src.now) c.args.dst.now) c.copy_from_slice.ensures.after

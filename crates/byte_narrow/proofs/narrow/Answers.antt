@@ -9,7 +9,7 @@ use Rattle.byte_narrow.specs.Narrow.{is_byte}
 use Rattle.byte_narrow.proofs.narrow.Goals as goal
 
 pub loop-k-init : goal.loop-k-init
-loop-k-init c = (search rules, search rules, refl, filled_none _ _)
+loop-k-init c = (search rules, refl, filled_none _ _)
 
 pub overflow_cast-dst : goal.overflow_cast-dst
 overflow_cast-dst c =
@@ -17,7 +17,7 @@ overflow_cast-dst c =
 
 pub loop-k-preserved : goal.loop-k-preserved
 loop-k-preserved c =
-    (search rules, search rules, rw length-set (search rules), filled_step _ _ c.loop-k.invariant.3 (search rules) refl)
+    (search rules, rw length-set (search rules), filled_step _ _ c.loop-k.invariant.2 (search rules) refl)
 
 pub returns : goal.returns
-returns c = filled_end _ _ c.loop-k.invariant.3 (search rules) (search rules) ∙ filled_copy _ _
+returns c = filled_end _ _ c.loop-k.invariant.2 (search rules) (search rules) ∙ filled_copy _ _

@@ -12,28 +12,25 @@ pub overflow_cast-tiles : goal.overflow_cast-tiles
 overflow_cast-tiles c = omega (arith, tiles_most c.requires.film.film.work.ready.tiled)
 
 pub loop-k-init : goal.loop-k-init
-loop-k-init c = (search rules, laid_first, listed_first)
+loop-k-init c = (laid_first, listed_first)
 
 pub map_tile-spent-requires : goal.map_tile-spent-requires
-map_tile-spent-requires c = laid_bytes c.requires.film c.loop-k.invariant.1 (search rules)
+map_tile-spent-requires c = laid_bytes c.requires.film c.loop-k.invariant.0 (search rules)
 
 pub put_spent-requires : goal.put_spent-requires
-put_spent-requires c = listed_asks c.loop-k.invariant.2 (search rules) (tiles_most c.requires.film.film.work.ready.tiled) c.requires.pairs
-
-pub overflow_add-k : goal.overflow_add-k
-overflow_add-k c = omega (arith, tiles_most c.requires.film.film.work.ready.tiled)
+put_spent-requires c = listed_asks c.loop-k.invariant.1 (search rules) (tiles_most c.requires.film.film.work.ready.tiled) c.requires.pairs
 
 pub loop-k-preserved : goal.loop-k-preserved
-loop-k-preserved c = (search rules, laid_next (wide_tiles c.requires.film) c.loop-k.invariant.1 c.map_tile-spent.ensures, listed_next c.loop-k.invariant.2 c.map_tile-spent.ensures.spent c.put_spent.ensures)
+loop-k-preserved c = (laid_next (wide_tiles c.requires.film) c.loop-k.invariant.0 c.map_tile-spent.ensures, listed_next c.loop-k.invariant.1 c.map_tile-spent.ensures.spent c.put_spent.ensures)
 
 pub clear-requires : goal.clear-requires
-clear-requires c = omega (arith, c.bins-each.ensures, c.loop-k.invariant.1.size, c.requires.film.film.work.bins)
+clear-requires c = omega (arith, c.bins-each.ensures, c.loop-k.invariant.0.size, c.requires.film.film.work.bins)
 
 pub shape_of-map : goal.shape_of-map
-shape_of-map c = laid_length (wide_tiles c.requires.film) c.loop-k.invariant.1 (search rules)
+shape_of-map c = laid_length (wide_tiles c.requires.film) c.loop-k.invariant.0 (search rules)
 
 pub shape_of-list : goal.shape_of-list
-shape_of-list c = listed_length c.loop-k.invariant.2 (search rules) c.requires.pairs
+shape_of-list c = listed_length c.loop-k.invariant.1 (search rules) c.requires.pairs
 
 pub returns : goal.returns
-returns c = laid_end (wide_tiles c.requires.film) c.loop-k.invariant.1 c.loop-k.invariant.2 (search rules) (search rules) c.bins-each.ensures c.clear.ensures
+returns c = laid_end (wide_tiles c.requires.film) c.loop-k.invariant.0 c.loop-k.invariant.1 (search rules) (search rules) c.bins-each.ensures c.clear.ensures

@@ -2,8 +2,8 @@
 use Rattle.c_engines.proofs.Handed.{painted_done, painted_refused}
 use Rattle.c_engines.proofs.tz_direct.Goals as goal
 
-pub returns-in-Done : goal.returns-in-Done
-returns-in-Done c = rw (← c.settings_from-s.ensures) (painted_done _ _ c.direct-answer.ensures c.in-Done.is c.put_footer.ensures)
+pub returns-in-Ok : goal.returns-in-Ok
+returns-in-Ok c = rw (← c.settings_from-s.ensures) (painted_done _ _ c.direct.ensures c.in-Ok.is c.put_footer.ensures)
 
-pub returns-in-Refused : goal.returns-in-Refused
-returns-in-Refused c = rw (← c.settings_from-s.ensures) (painted_refused _ _ c.direct-answer.ensures c.in-Refused.is)
+pub returns-in-Err : goal.returns-in-Err
+returns-in-Err c = rw (← c.settings_from-s.ensures) (painted_refused _ _ c.direct.ensures c.in-Err.is c.number.ensures)

@@ -7,10 +7,10 @@ use Rattle.c_files.proofs.tz_read_raster.Goals as goal
 pub overflow_sub-part : goal.overflow_sub-part
 overflow_sub-part c =
     let s = c.args.bytes.now in
-    raster_size (read_of s) s c.read_sizes-answer.ensures c.in-Found.is c.read_raster-raster.ensures.0
+    raster_size (read_of s) s c.read_sizes.ensures c.in-Ok.is c.read_raster-size.ensures.0
 
-pub returns-in-Found : goal.returns-in-Found
-returns-in-Found c = raster_found _ _ _ refl c.read_sizes-answer.ensures c.in-Found.is c.read_raster-raster.ensures.0
+pub returns-in-Ok : goal.returns-in-Ok
+returns-in-Ok c = raster_found _ _ _ refl c.read_sizes.ensures c.in-Ok.is c.read_raster-size.ensures.0
 
-pub returns-in-Refused : goal.returns-in-Refused
-returns-in-Refused c = raster_refused _ _ _ c.read_sizes-answer.ensures c.in-Refused.is
+pub returns-in-Err : goal.returns-in-Err
+returns-in-Err c = raster_refused _ _ _ c.read_sizes.ensures c.in-Err.is c.number.ensures

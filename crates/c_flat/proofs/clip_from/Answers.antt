@@ -2,5 +2,5 @@
 use Rattle.c_flat.proofs.Handed.{clip_some}
 use Rattle.c_flat.proofs.clip_from.Goals as goal
 
-pub returns : goal.returns
-returns c = clip_some _ _ c.if-clip-eq0.false
+pub returns-else-clip-eq0 : goal.returns-else-clip-eq0
+returns-else-clip-eq0 c = clip_some _ _ c.if-clip-eq0.false

@@ -2,5 +2,5 @@
 use Rattle.c_flat.proofs.Handed.{edition_some}
 use Rattle.c_flat.proofs.edition_from.Goals as goal
 
-pub returns : goal.returns
-returns c = edition_some _ c.if-edition-eq0.false
+pub returns-else-edition-eq0 : goal.returns-else-edition-eq0
+returns-else-edition-eq0 c = edition_some _ c.if-edition-eq0.false

@@ -2,8 +2,8 @@
 use Rattle.c_flat.proofs.Handed.{sizes_found, sizes_refused}
 use Rattle.c_plain.proofs.tz_plain_sizes.Goals as goal
 
-pub returns-in-Found : goal.returns-in-Found
-returns-in-Found c = sizes_found _ _ c.plain_sizes-answer.ensures c.in-Found.is
+pub returns-in-Ok : goal.returns-in-Ok
+returns-in-Ok c = sizes_found _ _ c.plain_sizes.ensures c.in-Ok.is
 
-pub returns-in-Refused : goal.returns-in-Refused
-returns-in-Refused c = sizes_refused _ _ c.plain_sizes-answer.ensures c.in-Refused.is
+pub returns-in-Err : goal.returns-in-Err
+returns-in-Err c = sizes_refused _ _ c.plain_sizes.ensures c.in-Err.is c.number.ensures

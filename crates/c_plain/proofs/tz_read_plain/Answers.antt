@@ -2,8 +2,8 @@
 use Rattle.c_plain.proofs.Handed.{read_found, read_refused}
 use Rattle.c_plain.proofs.tz_read_plain.Goals as goal
 
-pub returns-in-Found : goal.returns-in-Found
-returns-in-Found c = read_found _ _ c.read_plain-answer.ensures c.in-Found.is
+pub returns-in-Ok : goal.returns-in-Ok
+returns-in-Ok c = read_found _ _ c.read_plain.ensures c.in-Ok.is
 
-pub returns-in-Refused : goal.returns-in-Refused
-returns-in-Refused c = read_refused _ _ c.read_plain-answer.ensures c.in-Refused.is
+pub returns-in-Err : goal.returns-in-Err
+returns-in-Err c = read_refused _ _ c.read_plain.ensures c.in-Err.is c.number.ensures

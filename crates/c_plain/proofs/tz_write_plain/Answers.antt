@@ -2,8 +2,8 @@
 use Rattle.c_flat.proofs.Handed.{written_bytes, written_refused}
 use Rattle.c_plain.proofs.tz_write_plain.Goals as goal
 
-pub returns-in-Bytes : goal.returns-in-Bytes
-returns-in-Bytes c = written_bytes _ _ c.write_plain-answer.ensures c.in-Bytes.is
+pub returns-in-Ok : goal.returns-in-Ok
+returns-in-Ok c = written_bytes _ _ c.write_plain.ensures c.in-Ok.is
 
-pub returns-in-Refused : goal.returns-in-Refused
-returns-in-Refused c = written_refused _ _ c.write_plain-answer.ensures c.in-Refused.is
+pub returns-in-Err : goal.returns-in-Err
+returns-in-Err c = written_refused _ _ c.write_plain.ensures c.in-Err.is c.number.ensures

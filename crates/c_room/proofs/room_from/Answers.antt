@@ -6,4 +6,4 @@ use Rattle.c_room.proofs.room_from.Goals as goal
 
 pub returns : goal.returns
 unfolding room_from_of tab
-returns c = rw (c.set_from-a.ensures, c.set_from-b.ensures, c.set_from-c.ensures, c.set_from-d.ensures, c.set_from-e.ensures, c.set_from-f.ensures, c.set_from-g.ensures, c.set_from-h.ensures) refl
+returns c = rw (c.set_from.ensures, c.set_from-2.ensures, c.set_from-3.ensures, c.set_from-4.ensures, c.set_from-5.ensures, c.set_from-6.ensures, c.set_from-7.ensures, c.set_from-8.ensures) refl

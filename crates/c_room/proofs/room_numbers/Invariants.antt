@@ -1,5 +1,4 @@
 -- `c_room::room_numbers` meets its contract: the numbers of all eight places, ten a set.
-use Prim.Native.Nat.{◌-◌, ◌≤◌}
 use mathlib.Core.Path.{◌≡◌}
 use lib.ListN.{length}
 use Rattle.base_lists.specs.Lists.{blocks}
@@ -7,7 +6,4 @@ use Rattle.c_room.proofs.Cells.{numbers_at}
 use Rattle.c_room.proofs.room_numbers.Given as goal
 
 abbrev pub invariant-loop-i : goal.invariant-loop-i
-invariant-loop-i l = (l.i ≤ 8) × (length l.numbers ≡ 80) × (length l.initial.numbers ≡ 80) × (l.numbers ≡ blocks 10 (numbers_at l.room) l.initial.numbers l.i)
-
-abbrev pub decreases-loop-i : goal.decreases-loop-i
-decreases-loop-i l = 8 - l.i
+invariant-loop-i l = (length l.numbers ≡ 80) × (length l.initial.numbers ≡ 80) × (l.numbers ≡ blocks 10 (numbers_at l.room) l.initial.numbers l.i)

@@ -1,24 +1,29 @@
 -- `around` meets its contract: refused, with the film copied at the factor 1.0, or with the film painted.
+use mathlib.Core.Path.{refl, ap, ◌∙◌}
+use Rattle.base_rows.proofs.Given.{number_some, said_err}
+use Rattle.film_prepare.specs.Prepare.{paint_leaves}
 use Rattle.film_around.proofs.Endings.{asks_area, asks_footer, asks_copy, asks_paint, around_refused, around_one, around_well}
 use Rattle.film_around.proofs.around.Goals as goal
 
-pub returns-then-refused-ne0 : goal.returns-then-refused-ne0
-returns-then-refused-ne0 c = around_refused _ _ _ _ _ _ _ c.refusal-refused.ensures c.if-refused-ne0.true
+pub returns-in_err-refusal : goal.returns-in_err-refusal
+returns-in_err-refusal c =
+    ap (λ a. paint_leaves a c.args.target.now c.args.scratch.now) (said_err _ _ c.from_residual.ensures.1)
+    ∙ around_refused _ _ _ _ _ _ _ c.in_err-refusal.ensures (number_some _)
 
 pub area-pixels-requires : goal.area-pixels-requires
-area-pixels-requires c = asks_area _ _ _ _ _ _ _ c.refusal-refused.ensures c.if-refused-ne0.false
+area-pixels-requires c = asks_area _ _ _ _ _ _ _ c.in_ok-refusal.ensures refl
 
-pub footer-foot-requires : goal.footer-foot-requires
-footer-foot-requires c = asks_footer _ _ _ _ _ _ _ c.refusal-refused.ensures c.if-refused-ne0.false c.area-pixels.ensures c.bins.ensures
+pub footer-footer-requires : goal.footer-footer-requires
+footer-footer-requires c = asks_footer _ _ _ _ _ _ _ c.in_ok-refusal.ensures refl c.area-pixels.ensures c.bins.ensures
 
 pub copy-requires : goal.copy-requires
-copy-requires c = asks_copy _ _ _ _ _ _ _ c.refusal-refused.ensures c.if-refused-ne0.false
+copy-requires c = asks_copy _ _ _ _ _ _ _ c.in_ok-refusal.ensures refl
 
-pub returns-then-unchanged : goal.returns-then-unchanged
-returns-then-unchanged c = around_one _ _ _ _ _ _ _ c.refusal-refused.ensures c.if-refused-ne0.false c.area-pixels.ensures c.bins.ensures c.footer-foot.ensures c.clip_one-unchanged.ensures c.if-unchanged.true c.copy.ensures
+pub returns-then-clip_one : goal.returns-then-clip_one
+returns-then-clip_one c = around_one _ _ _ _ _ _ _ c.in_ok-refusal.ensures refl c.area-pixels.ensures c.bins.ensures c.footer-footer.ensures c.clip_one.ensures c.if-clip_one.true c.copy.ensures
 
 pub paint-requires : goal.paint-requires
-paint-requires c = asks_paint _ _ _ _ _ _ _ c.refusal-refused.ensures c.if-refused-ne0.false
+paint-requires c = asks_paint _ _ _ _ _ _ _ c.in_ok-refusal.ensures refl
 
 pub returns : goal.returns
-returns c = around_well _ _ _ _ _ _ _ c.refusal-refused.ensures c.if-refused-ne0.false c.area-pixels.ensures c.bins.ensures c.footer-foot.ensures c.clip_one-unchanged.ensures c.if-unchanged.false c.paint.ensures.0 c.paint.ensures.1
+returns c = around_well _ _ _ _ _ _ _ c.in_ok-refusal.ensures refl c.area-pixels.ensures c.bins.ensures c.footer-footer.ensures c.clip_one.ensures c.if-clip_one.false c.paint.ensures.0 c.paint.ensures.1

@@ -1,9 +1,8 @@
 -- `found_whole` gives the value by all counts.
-use Rattle.film_around.proofs.Finds.{whole_asks, whole_found}
+use mathlib.Core.Path.{◌∙◌}
+use Rattle.film_around.proofs.Twins.{within_twin}
+use Rattle.film_around.proofs.Finds.{whole_found}
 use Rattle.film_around.proofs.found_whole.Goals as goal
 
-pub value-requires : goal.value-requires
-value-requires c = whole_asks c.requires c.twin.ensures
-
 pub returns : goal.returns
-returns c = whole_found c.requires c.twin.ensures c.value.ensures
+returns c = whole_found c.requires (c.copy_within.ensures.after ∙ within_twin _ _ c.requires.room) c.value.ensures

@@ -3,9 +3,6 @@ use native.Mathlib.Omega.{arith}
 use Rattle.film_around.proofs.Parts.{part_room, copy_size, copy_asks, kept_size, copy_long, part_kept}
 use Rattle.film_around.proofs.keep.Goals as goal
 
-pub overflow_mul-n : goal.overflow_mul-n
-overflow_mul-n c = omega (arith, part_room c.requires.0.region c.part_of-win.ensures)
-
 pub slice_bounds-copy_window-end : goal.slice_bounds-copy_window-end
 slice_bounds-copy_window-end c = omega (arith, part_room c.requires.0.region c.part_of-win.ensures, c.requires.1)
 

@@ -1,13 +1,8 @@
 -- `paint` gives the film, row by row, and leaves the scratch zero.
-use Prim.Native.Nat.{◌≤◌, ◌-◌}
 use mathlib.Core.Path.{◌≡◌}
-use lib.ListN.{length}
 use Rattle.base_lists.specs.Lists.{blocks}
 use Rattle.film_around.specs.Around.{around_row, BehindTwiceBins}
 use Rattle.film_around.proofs.paint.Given as goal
 
 abbrev pub invariant-loop-y : goal.invariant-loop-y
-invariant-loop-y l = (l.y ≤ l.height) × (length l.target ≡ length l.initial.target) × (l.target ≡ blocks l.width (around_row l.width l.height l.picture l.side l.s) l.initial.target l.y) × BehindTwiceBins l.s l.initial.scratch l.scratch
-
-abbrev pub decreases-loop-y : goal.decreases-loop-y
-decreases-loop-y l = l.height - l.y
+invariant-loop-y l = (l.target ≡ blocks l.width (around_row l.width l.height l.picture l.side l.s) l.initial.target l.y) × BehindTwiceBins l.s l.initial.scratch l.scratch

@@ -1,18 +1,35 @@
 -- `refusal` gives the first of 1, 2, 39, 7 to 9, 31, 10, 12, 17 and 13 that applies.
-use Rattle.film_around.proofs.Table.{around_table_size, around_table_region, around_table_grey, around_table_work, sides_small}
+use mathlib.Core.Path.{refl}
+use Rattle.base_rows.proofs.Given.{refused_front, passed_front}
+use Rattle.film_settings.proofs.Ready.{size_numbered}
+use Rattle.film_settings.proofs.Parts.{grey_numbered}
+use Rattle.film_around.specs.Around.{around_rows}
+use Rattle.film_around.proofs.Table.{region_numbered, sides_small}
 use Rattle.film_around.proofs.refusal.Goals as goal
 
-pub returns-then-sizes-ne0 : goal.returns-then-sizes-ne0
-returns-then-sizes-ne0 c = around_table_size _ _ _ _ _ _ _ c.size_refusal-sizes.ensures c.if-sizes-ne0.true
+pub returns-in_err-size_refusal : goal.returns-in_err-size_refusal
+unfolding around_rows
+returns-in_err-size_refusal c = refused_front _ _ _ _ c.in_err-size_refusal.ensures c.from_residual.ensures.1
 
-pub returns-then-region-ne0 : goal.returns-then-region-ne0
-returns-then-region-ne0 c = around_table_region _ _ _ _ _ _ _ c.size_refusal-sizes.ensures c.if-sizes-ne0.false c.region_refusal-region.ensures c.if-region-ne0.true
+pub returns-in_err-region_refusal : goal.returns-in_err-region_refusal
+unfolding around_rows
+returns-in_err-region_refusal c =
+    passed_front _ _ (size_numbered _ _ _) c.in_ok-size_refusal.ensures
+    (refused_front _ _ _ _ c.in_err-region_refusal.ensures c.from_residual-in_err-region_refusal.ensures.1)
 
-pub returns-then-greys-ne0 : goal.returns-then-greys-ne0
-returns-then-greys-ne0 c = around_table_grey _ _ _ _ _ _ _ c.size_refusal-sizes.ensures c.if-sizes-ne0.false c.region_refusal-region.ensures c.if-region-ne0.false c.grey_refusal-greys.ensures c.if-greys-ne0.true
+pub returns-in_err-grey_refusal : goal.returns-in_err-grey_refusal
+unfolding around_rows
+returns-in_err-grey_refusal c =
+    passed_front _ _ (size_numbered _ _ _) c.in_ok-size_refusal.ensures
+    (passed_front _ _ (region_numbered _) c.in_ok-region_refusal.ensures
+    (refused_front _ _ _ _ c.in_err-grey_refusal.ensures c.from_residual-in_err-grey_refusal.ensures.1))
 
 pub work_refusal-requires : goal.work_refusal-requires
-work_refusal-requires c = sides_small _ _ c.args.picture.now 0 c.args.s 0 0 c.size_refusal-sizes.ensures c.if-sizes-ne0.false
+work_refusal-requires c = sides_small _ _ c.args.picture.now 0 c.args.s 0 0 c.in_ok-size_refusal.ensures refl
 
 pub returns : goal.returns
-returns c = around_table_work _ _ _ _ _ _ _ c.size_refusal-sizes.ensures c.if-sizes-ne0.false c.region_refusal-region.ensures c.if-region-ne0.false c.grey_refusal-greys.ensures c.if-greys-ne0.false c.work_refusal.ensures
+unfolding around_rows
+returns c =
+    passed_front _ _ (size_numbered _ _ _) c.in_ok-size_refusal.ensures
+    (passed_front _ _ (region_numbered _) c.in_ok-region_refusal.ensures
+    (passed_front _ _ (grey_numbered _) c.in_ok-grey_refusal.ensures c.work_refusal.ensures))

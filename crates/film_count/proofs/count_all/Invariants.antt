@@ -1,10 +1,6 @@
 -- `count_all` lays the counts of all tiles down.
-use Prim.Native.Nat.{◌-◌, ◌≤◌}
 use Rattle.film_count.proofs.Turns.{Counting}
 use Rattle.film_count.proofs.count_all.Given as goal
 
 abbrev pub invariant-loop-k : goal.invariant-loop-k
-invariant-loop-k l = (l.k ≤ l.tiles) × Counting l.width l.height l.picture l.s l.initial.counts l.counts l.k
-
-abbrev pub decreases-loop-k : goal.decreases-loop-k
-decreases-loop-k l = l.tiles - l.k
+invariant-loop-k l = Counting l.width l.height l.picture l.s l.initial.counts l.counts l.k

@@ -1,20 +1,10 @@
 -- `count_tile` lays the counts of tile k in their place.
-use native.Mathlib.Omega.{arith}
 use Rattle.film_tiles.proofs.Tiles.{rect_asks}
-use Rattle.film_count.proofs.Tiles.{block_room, block_small, count_asks, count_done}
+use Rattle.film_count.proofs.Tiles.{block_room, count_asks, count_done}
 use Rattle.film_count.proofs.count_tile.Goals as goal
 
 pub tile_rect-rect-requires : goal.tile_rect-rect-requires
 tile_rect-rect-requires c = rect_asks c.requires.film.tiled c.requires.tile
-
-pub overflow_mul-a : goal.overflow_mul-a
-overflow_mul-a c = omega (arith, block_small c.requires.film.tiled c.requires.tile c.bins-bins.ensures)
-
-pub overflow_add-e : goal.overflow_add-e
-overflow_add-e c = omega (arith, block_small c.requires.film.tiled c.requires.tile c.bins-bins.ensures)
-
-pub offset_bounds-counts-a : goal.offset_bounds-counts-a
-offset_bounds-counts-a c = omega (arith, block_small c.requires.film.tiled c.requires.tile c.bins-bins.ensures)
 
 pub slice_bounds-count-end : goal.slice_bounds-count-end
 slice_bounds-count-end c = block_room _ c.requires.film.fitting c.requires.tile c.bins-bins.ensures

@@ -1,21 +1,21 @@
 -- `picture_refusal` gives the first of 1 to 9 and 31 that applies.
-use Rattle.base_rows.proofs.Walk.{front, behind}
+use Rattle.base_rows.proofs.Given.{refused_front, passed_front}
 use Rattle.film_settings.proofs.Ready.{size_numbered, grid_numbered}
 use Rattle.film_count.specs.Counting.{picture_rows}
 use Rattle.film_count.proofs.picture_refusal.Goals as goal
 
-pub returns-then-sizes-ne0 : goal.returns-then-sizes-ne0
+pub returns-in_err-size_refusal : goal.returns-in_err-size_refusal
 unfolding picture_rows
-returns-then-sizes-ne0 c = front _ _ c.size_refusal-sizes.ensures c.if-sizes-ne0.true
+returns-in_err-size_refusal c = refused_front _ _ _ _ c.in_err-size_refusal.ensures c.from_residual.ensures.1
 
-pub returns-then-grid-ne0 : goal.returns-then-grid-ne0
+pub returns-in_err-grid_refusal : goal.returns-in_err-grid_refusal
 unfolding picture_rows
-returns-then-grid-ne0 c =
-    behind _ _ (size_numbered _ _ _) c.size_refusal-sizes.ensures c.if-sizes-ne0.false
-    (front _ _ c.grid_refusal-grid.ensures c.if-grid-ne0.true)
+returns-in_err-grid_refusal c =
+    passed_front _ _ (size_numbered _ _ _) c.in_ok-size_refusal.ensures
+    (refused_front _ _ _ _ c.in_err-grid_refusal.ensures c.from_residual-in_err-grid_refusal.ensures.1)
 
 pub returns : goal.returns
 unfolding picture_rows
 returns c =
-    behind _ _ (size_numbered _ _ _) c.size_refusal-sizes.ensures c.if-sizes-ne0.false
-    (behind _ _ (grid_numbered _ _ _) c.grid_refusal-grid.ensures c.if-grid-ne0.false c.range_refusal.ensures)
+    passed_front _ _ (size_numbered _ _ _) c.in_ok-size_refusal.ensures
+    (passed_front _ _ (grid_numbered _ _ _) c.in_ok-grid_refusal.ensures c.range_refusal.ensures)

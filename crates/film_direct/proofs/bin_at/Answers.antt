@@ -1,10 +1,6 @@
 -- `bin_at` gives the bin of the grey.
-use native.Mathlib.Omega.{arith}
 use Rattle.film_direct.proofs.Pixels.{grey_asks, bin_is}
 use Rattle.film_direct.proofs.bin_at.Goals as goal
-
-pub overflow_cast-picture : goal.overflow_cast-picture
-overflow_cast-picture c = omega (arith, (grey_asks c.requires).1)
 
 pub bin_by-requires : goal.bin_by-requires
 bin_by-requires c = grey_asks c.requires

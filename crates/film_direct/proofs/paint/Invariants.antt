@@ -1,13 +1,8 @@
 -- `paint` gives the film by the rule, row by row.
-use Prim.Native.Nat.{◌≤◌, ◌-◌}
 use mathlib.Core.Path.{◌≡◌}
-use lib.ListN.{length}
 use Rattle.base_lists.specs.Lists.{blocks}
 use Rattle.film_direct.specs.Direct.{rule_row, BehindBins}
 use Rattle.film_direct.proofs.paint.Given as goal
 
 abbrev pub invariant-loop-y : goal.invariant-loop-y
-invariant-loop-y l = (l.y ≤ l.height) × (length l.target ≡ length l.initial.target) × (l.target ≡ blocks l.width (rule_row l.width l.height l.picture l.s) l.initial.target l.y) × BehindBins l.s l.initial.scratch l.scratch
-
-abbrev pub decreases-loop-y : goal.decreases-loop-y
-decreases-loop-y l = l.height - l.y
+invariant-loop-y l = (l.target ≡ blocks l.width (rule_row l.width l.height l.picture l.s) l.initial.target l.y) × BehindBins l.s l.initial.scratch l.scratch

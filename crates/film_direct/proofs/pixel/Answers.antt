@@ -1,17 +1,7 @@
 -- `pixel` gives the grey of a pixel by the rule.
-use native.Mathlib.Omega.{arith}
 use mathlib.Core.Path.{refl, ◌∙◌}
-use Rattle.film_direct.proofs.Pixels.{behind_next, index_small, bin_asks, upper_left, upper_right, lower_left, lower_right, blend_asks, pixel_is}
+use Rattle.film_direct.proofs.Pixels.{behind_next, upper_left, upper_right, lower_left, lower_right, blend_asks, pixel_is}
 use Rattle.film_direct.proofs.pixel.Goals as goal
-
-pub overflow_mul-at : goal.overflow_mul-at
-overflow_mul-at c = omega (arith, index_small c.requires)
-
-pub overflow_add-at : goal.overflow_add-at
-overflow_add-at c = omega (arith, index_small c.requires)
-
-pub bin_at-k-requires : goal.bin_at-k-requires
-bin_at-k-requires c = bin_asks c.requires
 
 pub tile_value-a-requires : goal.tile_value-a-requires
 tile_value-a-requires c = upper_left c.requires c.locate-column.ensures c.locate-row.ensures c.bin_at-k.ensures refl

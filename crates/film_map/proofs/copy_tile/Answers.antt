@@ -5,4 +5,4 @@ use Rattle.base_lists.proofs.Windows.{block_cut}
 use Rattle.film_map.proofs.copy_tile.Goals as goal
 
 pub returns : goal.returns
-returns c = c.copy32.ensures ∙ ap (onto c.args.scratch.now) (block_cut c.args.counts.now c.args.k c.args.each)
+returns c = c.copy.ensures ∙ ap (onto c.args.scratch.now) (block_cut c.args.counts.now c.args.k c.args.each)

@@ -1,4 +1,3 @@
-use Prim.Native.Nat.{◌-◌}
 use native.Mathlib.Omega.{arith}
 use borrow.Author.Rules.{rules}
 use Rattle.film_tiles.proofs.Tiles.{tiles_most}
@@ -13,36 +12,32 @@ pub overflow_cast-tiles : goal.overflow_cast-tiles
 overflow_cast-tiles c = omega (arith, tiles_most c.requires.film.tiled)
 
 pub loop-k-init : goal.loop-k-init
-loop-k-init c = (search rules, mapping_first, listed_first)
+loop-k-init c = (mapping_first, listed_first)
 
 pub map_one-spent-requires : goal.map_one-spent-requires
-map_one-spent-requires c = mapping_asks c.requires.film c.loop-k.invariant.1 (search rules)
+map_one-spent-requires c = mapping_asks c.requires.film c.loop-k.invariant.0 (search rules)
 
 pub put_spent-requires : goal.put_spent-requires
 put_spent-requires c =
     record {
       tile = omega (arith, tiles_most c.requires.film.tiled);
-      room = omega (arith, listed_length c.loop-k.invariant.2 (search rules) c.requires.pairs, c.requires.pairs);
+      room = omega (arith, listed_length c.loop-k.invariant.1 (search rules) c.requires.pairs, c.requires.pairs);
     }
-
-pub overflow_add-k : goal.overflow_add-k
-overflow_add-k c = omega (arith, tiles_most c.requires.film.tiled)
 
 pub loop-k-preserved : goal.loop-k-preserved
 loop-k-preserved c = (
-  search rules,
-  mapping_next c.requires.film c.loop-k.invariant.1 (search rules) c.map_one-spent.ensures,
-  listed_next c.loop-k.invariant.2 c.map_one-spent.ensures.spent c.put_spent.ensures,
+  mapping_next c.requires.film c.loop-k.invariant.0 (search rules) c.map_one-spent.ensures,
+  listed_next c.loop-k.invariant.1 c.map_one-spent.ensures.spent c.put_spent.ensures,
 )
 
 pub clear-requires : goal.clear-requires
-clear-requires c = omega (arith, c.bins-each.ensures, c.loop-k.invariant.1.size, c.requires.film.bins)
+clear-requires c = omega (arith, c.bins-each.ensures, c.loop-k.invariant.0.size, c.requires.film.bins)
 
 pub shape_of-map : goal.shape_of-map
-shape_of-map c = mapping_length c.requires.film c.loop-k.invariant.1 (search rules)
+shape_of-map c = mapping_length c.requires.film c.loop-k.invariant.0 (search rules)
 
 pub shape_of-list : goal.shape_of-list
-shape_of-list c = listed_length c.loop-k.invariant.2 (search rules) c.requires.pairs
+shape_of-list c = listed_length c.loop-k.invariant.1 (search rules) c.requires.pairs
 
 pub returns : goal.returns
-returns c = mapping_end c.requires.film c.loop-k.invariant.1 c.loop-k.invariant.2 (search rules) (search rules) c.bins-each.ensures c.clear.ensures
+returns c = mapping_end c.requires.film c.loop-k.invariant.0 c.loop-k.invariant.1 (search rules) (search rules) c.bins-each.ensures c.clear.ensures

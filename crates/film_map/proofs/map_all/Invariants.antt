@@ -1,5 +1,4 @@
 -- `map_all` lays the mappings of all tiles down, and what clipping each took, and clears the scratch.
-use Prim.Native.Nat.{◌-◌, ◌≤◌}
 use Rattle.film_tiles.proofs.Turns.{Listed}
 use Rattle.film_map.specs.Counts.{spent_from}
 use Rattle.film_map.proofs.Turns.{Mapping}
@@ -7,7 +6,4 @@ use Rattle.film_map.proofs.map_all.Given as goal
 
 abbrev pub invariant-loop-k : goal.invariant-loop-k
 invariant-loop-k l =
-    (l.k ≤ l.tiles) × Mapping l.width l.height l.s l.counts l.initial.map l.map l.initial.scratch l.scratch l.k × Listed (spent_from l.width l.height l.s l.counts) l.initial.list l.list l.k
-
-abbrev pub decreases-loop-k : goal.decreases-loop-k
-decreases-loop-k l = l.tiles - l.k
+    Mapping l.width l.height l.s l.counts l.initial.map l.map l.initial.scratch l.scratch l.k × Listed (spent_from l.width l.height l.s l.counts) l.initial.list l.list l.k

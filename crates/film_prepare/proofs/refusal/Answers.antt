@@ -1,12 +1,18 @@
 -- `refusal` gives the first of 1 to 13, 31 and 32 that applies.
-use Rattle.film_prepare.proofs.Table.{grid_most, table_shared, table_work}
+use mathlib.Core.Path.{refl}
+use Rattle.base_rows.proofs.Given.{refused_front, passed_front}
+use Rattle.film_settings.proofs.Ready.{shared_numbered}
+use Rattle.film_prepare.specs.Prepare.{prepare_rows}
+use Rattle.film_prepare.proofs.Table.{grid_most}
 use Rattle.film_prepare.proofs.refusal.Goals as goal
 
-pub returns-then-shared-ne0 : goal.returns-then-shared-ne0
-returns-then-shared-ne0 c = table_shared _ _ _ _ _ _ _ c.shared-shared.ensures c.if-shared-ne0.true
+pub returns-in_err-shared : goal.returns-in_err-shared
+unfolding prepare_rows
+returns-in_err-shared c = refused_front _ _ _ _ c.in_err-shared.ensures c.from_residual.ensures.1
 
 pub work_refusal-requires : goal.work_refusal-requires
-work_refusal-requires c = grid_most _ _ _ _ _ c.shared-shared.ensures c.if-shared-ne0.false
+work_refusal-requires c = grid_most _ _ _ _ _ c.in_ok-shared.ensures refl
 
 pub returns : goal.returns
-returns c = table_work _ _ _ _ _ _ _ c.shared-shared.ensures c.if-shared-ne0.false c.work_refusal.ensures
+unfolding prepare_rows
+returns c = passed_front _ _ (shared_numbered _ _ _ _ _) c.in_ok-shared.ensures c.work_refusal.ensures

@@ -1,16 +1,12 @@
-use mathlib.Core.Path.{refl, sym, ◌∙◌}
-use borrow.Author.Rules.{rules}
-use Rattle.film_sets.proofs.Finds.{among_other, among_found, among_none}
+-- `film_sets::among` meets its contract: `any` tests each set's number.
+use Rattle.std.proofs.Common.{rules, tests, eqb, ◌∙◌}
+use Rattle.std.proofs.lemmas.Iterator.{YieldsList-from_slice}
+use Rattle.std.proofs.lemmas.Iterator.Search.{any_from_yields_List}
+use Rattle.film_sets.specs.declared.Set.{Set}
+use Rattle.film_sets.proofs.Finds.{among_any}
 use Rattle.film_sets.proofs.among.Goals as goal
 
-pub loop-i-init : goal.loop-i-init
-loop-i-init c = (refl, search rules, refl)
-
-pub returns-then-r-number : goal.returns-then-r-number
-returns-then-r-number c = sym (c.loop-i.invariant.2 ∙ among_found c.args.room c.args.number c.loop-i.i (search rules) c.at-r.ensures (search rules))
-
-pub loop-i-preserved : goal.loop-i-preserved
-loop-i-preserved c = (refl, c.loop-i.invariant.1, c.loop-i.invariant.2 ∙ among_other c.args.room c.args.number c.loop-i.i (search rules) c.at-r.ensures (search rules))
-
 pub returns : goal.returns
-returns c = sym (c.loop-i.invariant.2 ∙ among_none c.args.room c.args.number c.loop-i.i (search rules))
+returns c =
+    any_from_yields_List (λ (r : Set). eqb r.film c.args.number) _ _ c.any.result c.any.ensures.ran (YieldsList-from_slice c.args.sets.now c.iter.ensures.rest) (λ x b q k. search (rules, tests))
+    ∙ among_any c.args.number c.args.sets.now

@@ -1,17 +1,15 @@
-use mathlib.Core.Path.{refl}
-use native.Mathlib.Omega.{arith}
-use borrow.Author.Rules.{rules}
-use Rattle.film_sets.proofs.Finds.{before_other, before_found, before_none}
+-- `film_sets::place_of` meets its contract: `position` finds the first set of this number.
+use Rattle.std.proofs.Common.{rules, tests, eqb, ap, ◌∙◌}
+use Rattle.std.proofs.lemmas.Iterator.{YieldsList-from_slice}
+use Rattle.std.proofs.lemmas.Iterator.Search.{position_from_yields_List}
+use Rattle.film_sets.specs.declared.Set.{Set}
+use Rattle.film_sets.specs.Sets.{before}
+use Rattle.film_sets.proofs.Finds.{before_found}
 use Rattle.film_sets.proofs.place_of.Goals as goal
 
-pub loop-i-init : goal.loop-i-init
-loop-i-init c = (search rules, refl, search rules, omega arith)
-
-pub returns-then-own-number : goal.returns-then-own-number
-returns-then-own-number c = omega (arith, c.loop-i.invariant.3, before_found c.args.room c.args.number c.loop-i.i (search rules) c.at-own.ensures (search rules))
-
-pub loop-i-preserved : goal.loop-i-preserved
-loop-i-preserved c = (search rules, refl, c.loop-i.invariant.2, omega (arith, c.loop-i.invariant.3, before_other c.args.room c.args.number c.loop-i.i (search rules) c.at-own.ensures (search rules)))
-
 pub returns : goal.returns
-returns c = omega (arith, c.loop-i.invariant.3, before_none c.args.room c.args.number c.loop-i.i (search rules))
+returns c =
+    c.unwrap_or.ensures
+    ∙ before_found c.args.number c.stored-sets.result.now
+    (position_from_yields_List (λ (r : Set). eqb r.film c.args.number) _ _ c.position.result c.position.ensures.ran (YieldsList-from_slice c.stored-sets.result.now c.iter.ensures.rest) (λ x b q k. search (rules, tests)))
+    ∙ ap (before c.args.number) c.stored-sets.ensures

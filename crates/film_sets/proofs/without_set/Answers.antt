@@ -1,20 +1,9 @@
-use mathlib.Core.Path.{refl}
-use borrow.Author.Rules.{rules}
-use Rattle.film_sets.proofs.Tables.{moved_below}
-use Rattle.film_sets.proofs.Places.{placing_first, placing_next, placing_end}
+-- `film_sets::without_set` meets its contract: each place holds the set that comes there.
+use Rattle.std.proofs.Common.{arith}
+use Rattle.film_sets.proofs.Places.{placed}
 use Rattle.film_sets.proofs.without_set.Goals as goal
 
-pub no_set-none-requires : goal.no_set-none-requires
-no_set-none-requires c = tt
-
-pub loop-k-init : goal.loop-k-init
-loop-k-init c = (refl, search rules, search rules, placing_first _ _ _ _ refl)
-
-pub at-r-requires : goal.at-r-requires
-at-r-requires c = moved_below c.args.i c.args.room.count c.loop-k.k (search rules) (search rules) c.moved_from.ensures
-
-pub loop-k-preserved : goal.loop-k-preserved
-loop-k-preserved c = (refl, c.loop-k.invariant.1, search rules, placing_next c.loop-k.invariant.3 (search rules) c.moved_from.ensures c.at-r.ensures)
-
 pub returns : goal.returns
-returns c = placing_end c.loop-k.invariant.3 (search rules) refl refl
+returns c =
+    let b = c.copy_within.ensures.by_index in
+    placed c.args.room.now c.args.i (omega arith) c.requires.0 c.copy_within.ensures.len b.0 b.1 b.2

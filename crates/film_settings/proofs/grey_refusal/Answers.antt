@@ -1,13 +1,13 @@
 -- `grey_refusal` gives the first of 7 to 9, 31 and 10 that applies.
-use Rattle.base_rows.proofs.Walk.{front, behind}
+use Rattle.base_rows.proofs.Given.{refused_front, passed_front}
 use Rattle.film_settings.specs.Settings.{grey_rows}
 use Rattle.film_settings.proofs.Ready.{range_numbered}
 use Rattle.film_settings.proofs.grey_refusal.Goals as goal
 
-pub returns-then-range-ne0 : goal.returns-then-range-ne0
+pub returns-in_err-range_refusal : goal.returns-in_err-range_refusal
 unfolding grey_rows
-returns-then-range-ne0 c = front _ _ c.range_refusal-range.ensures c.if-range-ne0.true
+returns-in_err-range_refusal c = refused_front _ _ _ _ c.in_err-range_refusal.ensures c.from_residual.ensures.1
 
 pub returns : goal.returns
 unfolding grey_rows
-returns c = behind _ _ (range_numbered _) c.range_refusal-range.ensures c.if-range-ne0.false c.clip_refusal.ensures
+returns c = passed_front _ _ (range_numbered _) c.in_ok-range_refusal.ensures c.clip_refusal.ensures

@@ -1,20 +1,16 @@
--- `same_clip` says whether two clip settings are the same.
-use mathlib.Core.Path.{refl}
+-- `same_clip` compares by the derived equality, which is the table of the specification.
+use mathlib.Core.Path.{◌≡◌, refl, sym, ◌∙◌, subst, ap, ap₂}
+use Rattle.tile_limit.specs.declared.Clip.{Clip}
+use Rattle.tile_limit.specs.declared.Clip.TheVariants.{Off, Factor}
 use Rattle.film_settings.specs.Settings.{same_clip_of}
 use Rattle.film_settings.proofs.same_clip.Goals as goal
 
-pub returns-in-Off-b : goal.returns-in-Off-b
+pub returns : goal.returns
 unfolding same_clip_of
-returns-in-Off-b c = rw (c.in-Off.is, c.in-Off-b.is) refl
-
-pub returns-in-Factor-b : goal.returns-in-Factor-b
-unfolding same_clip_of
-returns-in-Factor-b c = rw (c.in-Off.is, c.in-Factor-b.is) refl
-
-pub returns-in-Off-b-2 : goal.returns-in-Off-b-2
-unfolding same_clip_of
-returns-in-Off-b-2 c = rw (c.in-Factor.is, c.in-Off-b-2.is) refl
-
-pub returns-in-Factor-b-2 : goal.returns-in-Factor-b-2
-unfolding same_clip_of
-returns-in-Factor-b-2 c = rw (c.in-Factor.is, c.in-Factor-b-2.is) refl
+returns c = go c.args.a c.args.b refl refl
+  where
+    go : (a b : Clip) → c.args.a ≡ a → c.args.b ≡ b → c.eq.result ≡ same_clip_of c.args.a c.args.b
+    go Off Off p q = let h = c.eq.ensures in rw (p, q) (simp (p, q) at h)
+    go Off (Factor g) p q = let h = c.eq.ensures in rw (p, q) (simp (p, q) at h)
+    go (Factor f) Off p q = let h = c.eq.ensures in rw (p, q) (simp (p, q) at h)
+    go (Factor f) (Factor g) p q = let h = c.eq.ensures in rw (p, q) (simp (p, q) at h)

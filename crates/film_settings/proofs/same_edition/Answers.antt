@@ -1,20 +1,18 @@
--- `same_edition` says whether two editions are the same.
-use mathlib.Core.Path.{refl}
+-- `same_edition` compares by the derived equality, which is the table of the specification.
+use mathlib.Core.Path.{◌≡◌, refl, ◌∙◌}
+use denote.Enum.Bare.{sameb}
+use Rattle.tile_limit.specs.contracts.Edition.{the_type}
+use Rattle.tile_limit.specs.declared.Edition.{Edition}
+use Rattle.tile_limit.specs.declared.Edition.TheVariants.{Ours, Of1986}
 use Rattle.film_settings.specs.Settings.{same_edition_of}
 use Rattle.film_settings.proofs.same_edition.Goals as goal
 
-pub returns-in-Ours-b : goal.returns-in-Ours-b
+derived : (a b : Edition) → sameb the_type a b ≡ same_edition_of a b
 unfolding same_edition_of
-returns-in-Ours-b c = rw (c.in-Ours.is, c.in-Ours-b.is) refl
+derived Ours Ours = refl
+derived Ours Of1986 = refl
+derived Of1986 Ours = refl
+derived Of1986 Of1986 = refl
 
-pub returns-in-Of1986-b : goal.returns-in-Of1986-b
-unfolding same_edition_of
-returns-in-Of1986-b c = rw (c.in-Ours.is, c.in-Of1986-b.is) refl
-
-pub returns-in-Ours-b-2 : goal.returns-in-Ours-b-2
-unfolding same_edition_of
-returns-in-Ours-b-2 c = rw (c.in-Of1986.is, c.in-Ours-b-2.is) refl
-
-pub returns-in-Of1986-b-2 : goal.returns-in-Of1986-b-2
-unfolding same_edition_of
-returns-in-Of1986-b-2 c = rw (c.in-Of1986.is, c.in-Of1986-b-2.is) refl
+pub returns : goal.returns
+returns c = c.eq.ensures ∙ derived c.args.one c.args.other

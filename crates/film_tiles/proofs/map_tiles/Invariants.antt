@@ -1,12 +1,8 @@
 -- `map_tiles` lays the mappings of all tiles and the two entries of each in the list, and clears the scratch.
-use Prim.Native.Nat.{◌-◌, ◌≤◌}
 use Rattle.film_tiles.specs.Tiles.{spent_in}
 use Rattle.film_tiles.proofs.Turns.{Listed, Laid}
 use Rattle.film_tiles.proofs.map_tiles.Given as goal
 
 abbrev pub invariant-loop-k : goal.invariant-loop-k
 invariant-loop-k l =
-    (l.k ≤ l.tiles) × Laid l.width l.height l.picture l.s l.initial.map l.map l.initial.scratch l.scratch l.k × Listed (spent_in l.width l.height l.picture l.s) l.initial.list l.list l.k
-
-abbrev pub decreases-loop-k : goal.decreases-loop-k
-decreases-loop-k l = l.tiles - l.k
+    Laid l.width l.height l.picture l.s l.initial.map l.map l.initial.scratch l.scratch l.k × Listed (spent_in l.width l.height l.picture l.s) l.initial.list l.list l.k

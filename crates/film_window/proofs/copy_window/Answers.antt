@@ -1,46 +1,14 @@
-use Prim.Native.Nat.{◌≤◌, ◌-◌, ◌+◌, ◌*◌}
-use mathlib.Core.Path.{◌≡◌, refl}
-use lib.ListN.{length}
-use borrow.Rule.Slice.PartMut.{put_mid}
-use native.Mathlib.Omega.{arith}
-use borrow.Author.Rules.{rules, scaled_Fits}
-use Rattle.base_lists.specs.Lists.{blocks}
+use mathlib.Core.Path.{◌∙◌}
+use borrow.Author.Rules.{rules}
 use Rattle.base_lists.proofs.Fills.{blocks_none}
-use Rattle.film_window.proofs.Frames.{line, line_room, line_part, place_room, rows_next, rows_length, rows_end}
+use Rattle.film_window.proofs.Frames.{line_cut, rows_next, rows_end}
 use Rattle.film_window.proofs.copy_window.Goals as goal
 
 pub loop-y-init : goal.loop-y-init
-loop-y-init c = (search rules, refl, blocks_none _ _ _)
-
-pub overflow_mul-from : goal.overflow_mul-from
-overflow_mul-from c = omega (arith, (let it : (c.args.win.top + c.loop-y.y) * c.args.stride + (c.args.win.left + c.args.win.width) ≤ length c.args.picture.now = line_room c.requires.framed _ c.loop-y-test.true in it))
-
-pub overflow_add-from-in-loop-y : goal.overflow_add-from-in-loop-y
-overflow_add-from-in-loop-y c = omega (arith, (let it : (c.args.win.top + c.loop-y.y) * c.args.stride + (c.args.win.left + c.args.win.width) ≤ length c.args.picture.now = line_room c.requires.framed _ c.loop-y-test.true in it))
-
-pub overflow_add-to : goal.overflow_add-to
-overflow_add-to c = omega (arith, (let it : (c.args.win.top + c.loop-y.y) * c.args.stride + (c.args.win.left + c.args.win.width) ≤ length c.args.picture.now = line_room c.requires.framed _ c.loop-y-test.true in it))
-
-pub overflow_mul-at : goal.overflow_mul-at
-overflow_mul-at c = omega (arith, (let it : c.loop-y.y * c.args.win.width + c.args.win.width ≤ length c.args.out.now = place_room c.requires c.loop-y-test.true in it))
-
-pub overflow_add-end : goal.overflow_add-end
-overflow_add-end c = omega (arith, (let it : c.loop-y.y * c.args.win.width + c.args.win.width ≤ length c.args.out.now = place_room c.requires c.loop-y-test.true in it))
-
-pub offset_bounds-picture-from : goal.offset_bounds-picture-from
-offset_bounds-picture-from c = scaled_Fits _ (length c.args.picture.now) 2 (omega (arith, (let it : (c.args.win.top + c.loop-y.y) * c.args.stride + (c.args.win.left + c.args.win.width) ≤ length c.args.picture.now = line_room c.requires.framed _ c.loop-y-test.true in it), c.requires.framed.some)) (search rules)
-
-pub slice_bounds-copy-end : goal.slice_bounds-copy-end
-slice_bounds-copy-end c = omega (arith, (let it : (c.args.win.top + c.loop-y.y) * c.args.stride + (c.args.win.left + c.args.win.width) ≤ length c.args.picture.now = line_room c.requires.framed _ c.loop-y-test.true in it))
-
-pub offset_bounds-out-at : goal.offset_bounds-out-at
-offset_bounds-out-at c = omega (arith, (let it : c.loop-y.y * c.args.win.width + c.args.win.width ≤ length c.args.out.now = place_room c.requires c.loop-y-test.true in it))
-
-pub slice_bounds-copy-end-in-loop-y : goal.slice_bounds-copy-end-in-loop-y
-slice_bounds-copy-end-in-loop-y c = omega (arith, (let it : c.loop-y.y * c.args.win.width + c.args.win.width ≤ length c.args.out.now = place_room c.requires c.loop-y-test.true in it))
+loop-y-init c = blocks_none _ _ _
 
 pub loop-y-preserved : goal.loop-y-preserved
-loop-y-preserved c = (search rules, rows_length c.requires ((let it : put_mid (c.loop-y.y * c.args.win.width) (c.loop-y.y * c.args.win.width + c.args.win.width - c.loop-y.y * c.args.win.width) c.loop-y.out c.copy.new.dst ≡ blocks c.args.win.width (line c.args.picture.now c.args.stride c.args.win) c.args.out.now (c.loop-y.y + 1) = rows_next c.requires c.loop-y.invariant.2 c.loop-y.invariant.1 c.loop-y-test.true (line_part _ _ _ c.requires.framed _ c.loop-y-test.true) c.copy.ensures in it)) (search rules), (let it : put_mid (c.loop-y.y * c.args.win.width) (c.loop-y.y * c.args.win.width + c.args.win.width - c.loop-y.y * c.args.win.width) c.loop-y.out c.copy.new.dst ≡ blocks c.args.win.width (line c.args.picture.now c.args.stride c.args.win) c.args.out.now (c.loop-y.y + 1) = rows_next c.requires c.loop-y.invariant.2 c.loop-y.invariant.1 c.loop-y-test.true (line_part _ _ _ c.requires.framed _ c.loop-y-test.true) c.copy.ensures in it))
+loop-y-preserved c = rows_next c.requires c.loop-y.invariant c.loop-y.auto.out c.loop-y-test.true (c.row.ensures ∙ line_cut _ _ _ c.requires.framed _ c.loop-y-test.true) c.copy.ensures
 
 pub returns : goal.returns
-returns c = rows_end c.requires c.loop-y.invariant.2 (search rules) (search rules)
+returns c = rows_end c.requires c.loop-y.invariant (search rules) (search rules)

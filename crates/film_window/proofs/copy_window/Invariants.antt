@@ -1,13 +1,8 @@
 -- `copy_window` leaves the window's pixels, row by row, in the output.
-use Prim.Native.Nat.{◌≤◌, ◌-◌}
 use mathlib.Core.Path.{◌≡◌}
-use lib.ListN.{length}
 use Rattle.base_lists.specs.Lists.{blocks}
 use Rattle.film_window.proofs.Frames.{line}
 use Rattle.film_window.proofs.copy_window.Given as goal
 
 abbrev pub invariant-loop-y : goal.invariant-loop-y
-invariant-loop-y l = (l.y ≤ l.win.height) × (length l.out ≡ length l.initial.out) × (l.out ≡ blocks l.win.width (line l.picture l.stride l.win) l.initial.out l.y)
-
-abbrev pub decreases-loop-y : goal.decreases-loop-y
-decreases-loop-y l = l.win.height - l.y
+invariant-loop-y l = l.out ≡ blocks l.win.width (line l.picture l.stride l.win) l.initial.out l.y

@@ -1,5 +1,4 @@
 -- `window_within` tells whether all pixels of the window lie in Min to Max: each row is looked at, and one that does not is enough.
-use Prim.Native.Nat.{◌≤◌, ◌-◌}
 use mathlib.Core.Bool.{true}
 use mathlib.Core.Path.{◌≡◌}
 use Rattle.base_lists.specs.Lists.{all, joined}
@@ -8,7 +7,4 @@ use Rattle.film_window.proofs.Frames.{line}
 use Rattle.film_window.proofs.window_within.Given as goal
 
 abbrev pub invariant-loop-y : goal.invariant-loop-y
-invariant-loop-y l = (l.y ≤ l.win.height) × (all (within l.min l.max) (joined l.y (line l.picture l.stride l.win)) ≡ true)
-
-abbrev pub decreases-loop-y : goal.decreases-loop-y
-decreases-loop-y l = l.win.height - l.y
+invariant-loop-y l = all (within l.min l.max) (joined l.y (line l.picture l.stride l.win)) ≡ true

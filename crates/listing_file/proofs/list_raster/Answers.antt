@@ -1,6 +1,7 @@
 -- By what the greys answer. Assumes nothing.
 use mathlib.Core.Path.{refl, ap, ◌∙◌}
 use native.Mathlib.Omega.{arith}
+use Rattle.base_rows.specs.Given.{said}
 use Rattle.listing_line.specs.Lines.{refused_text}
 use Rattle.listing_film.proofs.Calls.{told_as}
 use Rattle.listing_file.proofs.Calls.{greys_told, greys_refused, film_count, film_front, picture_listed, picture_above}
@@ -11,15 +12,15 @@ slice_bounds-list_film-end c = film_count _ _ _ _ _ c.requires _ c.read_greys.au
 
 pub refused_line-requires : goal.refused_line-requires
 refused_line-requires c =
-    let told = greys_refused _ _ _ _ _ c.requires _ refl c.in-Refused.is c.read_greys.ensures in
-    (omega (arith, told.0), c.requires.fitting)
+    let told = greys_refused _ _ _ _ _ c.requires _ refl (ap said c.in-Err.is) c.read_greys.ensures in
+    (omega (arith, told.0, c.number.ensures), c.requires.fitting)
 
-pub returns-in-Done : goal.returns-in-Done
-returns-in-Done c =
-    let told = greys_told _ _ _ _ _ c.requires _ refl c.in-Done.is c.read_greys.ensures in
+pub returns-in-Ok : goal.returns-in-Ok
+returns-in-Ok c =
+    let told = greys_told _ _ _ _ _ c.requires _ refl (ap said c.in-Ok.is) c.read_greys.ensures in
     picture_listed _ _ _ (film_front _ _ _ _ _ c.requires _ told.1 refl) told.0 c.list_film.ensures
 
-pub returns-in-Refused : goal.returns-in-Refused
-returns-in-Refused c =
-    let told = greys_refused _ _ _ _ _ c.requires _ refl c.in-Refused.is c.read_greys.ensures in
-    told_as c.refused_line.ensures (ap refused_text told.0 ∙ picture_above _ _ _ _ told.1)
+pub returns-in-Err : goal.returns-in-Err
+returns-in-Err c =
+    let told = greys_refused _ _ _ _ _ c.requires _ refl (ap said c.in-Err.is) c.read_greys.ensures in
+    told_as c.refused_line.ensures (ap refused_text (c.number.ensures ∙ told.0) ∙ picture_above _ _ _ _ told.1)

@@ -16,8 +16,8 @@ returns-then-room-count c = target_short _ _ _ _ _ _ c.if-room-count.true
 pub none_above-requires : goal.none_above-requires
 none_above-requires c = part_length _ _ _ _ _ c.requires c.is_wide-wide.ensures c.raster_size.ensures
 
-pub returns-then-none_above : goal.returns-then-none_above
-returns-then-none_above c = target_fits _ _ _ _ _ _ c.if-room-count.false (c.none_above.ensures ∙ ap (none_above_of _) (part_greys _ _ _ _ _ c.requires c.is_wide-wide.ensures c.raster_size.ensures)) c.if-none_above.true
+pub returns-then-not-none_above : goal.returns-then-not-none_above
+returns-then-not-none_above c = target_above _ _ _ _ _ _ c.if-room-count.false (c.none_above.ensures ∙ ap (none_above_of _) (part_greys _ _ _ _ _ c.requires c.is_wide-wide.ensures c.raster_size.ensures)) c.if-not-none_above.true
 
 pub returns : goal.returns
-returns c = target_above _ _ _ _ _ _ c.if-room-count.false (c.none_above.ensures ∙ ap (none_above_of _) (part_greys _ _ _ _ _ c.requires c.is_wide-wide.ensures c.raster_size.ensures)) c.if-none_above.false
+returns c = target_fits _ _ _ _ _ _ c.if-room-count.false (c.none_above.ensures ∙ ap (none_above_of _) (part_greys _ _ _ _ _ c.requires c.is_wide-wide.ensures c.raster_size.ensures)) c.if-not-none_above.false

@@ -1,5 +1,4 @@
 -- What is left to be laid down gives what the whole gives. Assumes nothing.
-use Prim.Native.Nat.{◌≤◌, ◌+◌}
 use mathlib.Core.Path.{◌≡◌}
 use lib.ListN.{length}
 use Rattle.base_lists.specs.Lists.{over}
@@ -7,8 +6,4 @@ use Rattle.pgm_header.proofs.Writing.{fixed}
 use Rattle.pgm_header.proofs.decimal.Given as goal
 
 abbrev pub invariant-loop-k : goal.invariant-loop-k
-invariant-loop-k l =
-    (length l.out ≡ length l.initial.out) × (l.k ≤ l.count) × (l.at + l.count ≤ length l.initial.out) × (over l.out l.at (fixed l.k l.v) ≡ over l.initial.out l.at (fixed l.count l.n))
-
-abbrev pub decreases-loop-k : goal.decreases-loop-k
-decreases-loop-k l = l.k
+invariant-loop-k l = (length l.out ≡ length l.initial.out) × (over l.out l.at (fixed l.k l.v) ≡ over l.initial.out l.at (fixed l.count l.n))

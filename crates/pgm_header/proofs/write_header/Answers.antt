@@ -28,9 +28,6 @@ field-requires c =
     let k : length c.field-b.new.out ≡ length c.args.out.now = c.field-b.auto.out ∙ (c.field-a.auto.out ∙ simp length-set) in
     (search rules, omega (arith, k, c.field-b.ensures.1, c.field-a.ensures.1, length_header c.args.width c.args.height c.args.maxval))
 
-pub shape_of-out : goal.shape_of-out
-shape_of-out c = c.field.auto.out ∙ (c.field-b.auto.out ∙ (c.field-a.auto.out ∙ simp length-set))
-
 pub returns : goal.returns
 returns c = (
   header_laid

@@ -6,7 +6,4 @@ use Rattle.pgm_plain.specs.Plain.{scan_of}
 use Rattle.pgm_plain.proofs.scan_samples.Given as goal
 
 abbrev pub invariant-loop-i : goal.invariant-loop-i
-invariant-loop-i l = (l.i ≤ l.count) × (l.p ≤ length l.s) × (scan_of l.count l.maxval l.s l.at ≡ scan_of (l.count - l.i) l.maxval l.s l.p)
-
-abbrev pub decreases-loop-i : goal.decreases-loop-i
-decreases-loop-i l = l.count - l.i
+invariant-loop-i l = (l.p ≤ length l.s) × (scan_of l.count l.maxval l.s l.at ≡ scan_of (l.count - l._i) l.maxval l.s l.p)

@@ -1,16 +1,11 @@
--- `pgm_samples::none_above` meets its contract: the scan of the raster's own width does.
-use mathlib.Core.Bool.{true, false}
-use mathlib.Core.Path.{◌≡◌}
+-- No byte is above 255.
+use mathlib.Core.Bool.{false}
+use mathlib.Core.Path.{◌≡◌, sym}
+use borrow.Author.Rules.{rules}
+use Rattle.pgm_samples.proofs.Bounds.{bytes_bounded}
 use Rattle.pgm_samples.proofs.none_above.Goals as goal
 
-pub bytes_none_above-requires : goal.bytes_none_above-requires
-bytes_none_above-requires c = rw ((let it : c.args.wide ≡ false = c.if-not-wide.true in it)) at c.requires
-
-pub returns-then-not-wide : goal.returns-then-not-wide
-returns-then-not-wide c = rw ((let it : c.args.wide ≡ false = c.if-not-wide.true in it)) c.bytes_none_above.ensures
-
-pub pairs_none_above-requires : goal.pairs_none_above-requires
-pairs_none_above-requires c = rw ((let it : c.args.wide ≡ true = c.if-not-wide.false in it)) at c.requires
-
-pub returns : goal.returns
-returns c = rw ((let it : c.args.wide ≡ true = c.if-not-wide.false in it)) c.pairs_none_above.ensures
+pub returns-then-maxval-ge255 : goal.returns-then-maxval-ge255
+returns-then-maxval-ge255 c =
+    let e : c.args.wide ≡ false = c.if-wide.false in
+    rw e (sym (bytes_bounded _ _ _ (λ i. search rules) (search rules)))

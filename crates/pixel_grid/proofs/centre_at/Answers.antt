@@ -8,6 +8,6 @@ pub returns-then-i-grid : goal.returns-then-i-grid
 unfolding centre_at_of
 returns-then-i-grid c = rw (lt-ltb _ _ c.if-i-grid.true) c.centre.ensures
 
-pub returns : goal.returns
+pub returns-else-i-grid : goal.returns-else-i-grid
 unfolding centre_at_of
-returns c = rw (le-ltb _ _ c.if-i-grid.false) refl
+returns-else-i-grid c = rw (le-ltb _ _ c.if-i-grid.false) refl

@@ -8,6 +8,6 @@ pub returns-then-i-grid : goal.returns-then-i-grid
 unfolding edge_at_of
 returns-then-i-grid c = rw (le-leb _ _ c.if-i-grid.true) c.edge.ensures
 
-pub returns : goal.returns
+pub returns-else-i-grid : goal.returns-else-i-grid
 unfolding edge_at_of
-returns c = rw (lt-leb _ _ c.if-i-grid.false) refl
+returns-else-i-grid c = rw (lt-leb _ _ c.if-i-grid.false) refl

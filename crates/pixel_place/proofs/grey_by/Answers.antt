@@ -5,9 +5,6 @@ use Rattle.pixel_place.specs.Blend.{grey_of}
 use Rattle.pixel_place.proofs.Laws.{weighed_most}
 use Rattle.pixel_place.proofs.grey_by.Goals as goal
 
-pub weigh-requires : goal.weigh-requires
-weigh-requires c = (c.requires.0, c.requires.1, c.requires.3, c.requires.4, c.requires.5, c.requires.6)
-
 pub quotient-requires : goal.quotient-requires
 quotient-requires c = (
   c.requires.0,

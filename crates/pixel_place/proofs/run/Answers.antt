@@ -12,8 +12,8 @@ overflow_add-place c = rw c.requires.2 (omega (arith, (place_sound c.requires.0 
 pub returns-then-place-grid : goal.returns-then-place-grid
 returns-then-place-grid c = (length_last _ _ _ _ c.if-place.false c.if-place-grid.true, run_last c.requires.0 c.requires.1 c.requires.2 c.if-place.false c.if-place-grid.true)
 
-pub overflow_sub-result-2 : goal.overflow_sub-result-2
-overflow_sub-result-2 c = omega (arith, c.centre.ensures, (run_first c.requires.0 c.requires.1 c.requires.2 c.if-place.false c.if-place-grid.false).0)
+pub overflow_sub-result-else-place-grid : goal.overflow_sub-result-else-place-grid
+overflow_sub-result-else-place-grid c = omega (arith, c.centre.ensures, (run_first c.requires.0 c.requires.1 c.requires.2 c.if-place.false c.if-place-grid.false).0)
 
-pub returns : goal.returns
-returns c = rw c.centre.ensures (length_first _ _ _ _ c.if-place.false c.if-place-grid.false, (run_first c.requires.0 c.requires.1 c.requires.2 c.if-place.false c.if-place-grid.false).1)
+pub returns-else-place-grid : goal.returns-else-place-grid
+returns-else-place-grid c = rw c.centre.ensures (length_first _ _ _ _ c.if-place.false c.if-place-grid.false, (run_first c.requires.0 c.requires.1 c.requires.2 c.if-place.false c.if-place-grid.false).1)

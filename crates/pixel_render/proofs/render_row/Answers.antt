@@ -5,20 +5,8 @@ use Rattle.pixel_render.proofs.Summing.{row_bins, row_summed}
 use Rattle.pixel_render.specs.Render.{moved_row}
 use Rattle.pixel_render.proofs.render_row.Goals as goal
 
-pub locate-row-requires : goal.locate-row-requires
-locate-row-requires c = (c.requires.0, c.requires.1)
-
-pub bins_row-requires : goal.bins_row-requires
-bins_row-requires c = (c.requires.2.maps.scale, c.requires.2.greys)
-
 pub sum_row-requires : goal.sum_row-requires
 sum_row-requires c = rw c.locate-row.ensures (row_bins c.requires.2 c.bins_row.ensures)
-
-pub shape_of-pixels : goal.shape_of-pixels
-shape_of-pixels c = omega arith
-
-pub shape_of-table : goal.shape_of-table
-shape_of-table c = omega arith
 
 pub returns : goal.returns
 returns c = (row_summed c.requires.2 c.bins_row.ensures c.locate-row.ensures c.sum_row.ensures.0, omega (arith, c.sum_row.ensures.1), c.sum_row.ensures.2 ∙ ap (moved_row _ _ _ _) c.bins_row.ensures)

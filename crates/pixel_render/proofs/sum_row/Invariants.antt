@@ -8,7 +8,10 @@ use Rattle.pixel_render.proofs.Summing.{weighs}
 use Rattle.pixel_render.proofs.sum_row.Given as goal
 
 abbrev pub invariant-loop-at : goal.invariant-loop-at
-invariant-loop-at l = (l.at ≤ length l.initial.pixels) × (length l.pixels ≡ length l.initial.pixels) × (length l.table ≡ length l.initial.table) × (l.pixels ≡ filled (weighs l.width l.s l.map l.left l.row l.initial.pixels) l.initial.pixels l.at) × Moving l.width l.s l.left (length l.initial.table) l.initial.pixels l.at l.moved
+invariant-loop-at l =
+    (l.at ≤ length l.initial.pixels)
+    × (l.pixels ≡ filled (weighs l.width l.s l.map l.left l.row l.initial.pixels) l.initial.pixels l.at)
+    × Moving l.width l.s l.left (length l.initial.table) l.initial.pixels l.at l.moved
 
 abbrev pub decreases-loop-at : goal.decreases-loop-at
 decreases-loop-at l = length l.initial.pixels - l.at

@@ -1,13 +1,7 @@
--- `test_text::byte_fields` meets its contract: what is left, put, gives the whole line. The measure is the entries left. Assumes nothing.
-use Prim.Native.Nat.{◌≤◌, ◌-◌}
-use lib.ListN.{length}
-use mathlib.Core.Path.{◌≡◌}
+-- `test_text::byte_fields` meets its contract: the line holds what has been taken in. Assumes nothing.
+use Rattle.std.proofs.Common.{◌≡◌, take}
 use Rattle.test_text.specs.Text.{run, field_of}
-use Rattle.test_text.proofs.Runs.{from}
 use Rattle.test_text.proofs.byte_fields.Given as goal
 
-abbrev pub invariant-loop-i : goal.invariant-loop-i
-invariant-loop-i l = (l.i ≤ length l.entries) × (from field_of l.entries l.line l.i ≡ run field_of l.initial.line l.entries)
-
-abbrev pub decreases-loop-i : goal.decreases-loop-i
-decreases-loop-i l = length l.entries - l.i
+abbrev pub invariant-loop-entry : goal.invariant-loop-entry
+invariant-loop-entry l = l.line ≡ run field_of l.initial.line (take l.entry-index l.entries)

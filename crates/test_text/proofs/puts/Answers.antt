@@ -1,13 +1,12 @@
-use borrow.Author.Rules.{rules}
-use mathlib.Core.Path.{refl}
-use Rattle.test_text.proofs.Runs.{run_start, run_step, run_end}
+use Rattle.std.proofs.Common.{refl, rules}
+use Rattle.test_text.proofs.Runs.{run_start, run_turn, run_all}
 use Rattle.test_text.proofs.puts.Goals as goal
 
-pub loop-i-init : goal.loop-i-init
-loop-i-init c = (search rules, run_start _ _ refl)
+pub loop-b-init : goal.loop-b-init
+loop-b-init c = run_start _ refl
 
-pub loop-i-preserved : goal.loop-i-preserved
-loop-i-preserved c = (search rules, run_step _ _ _ _ c.loop-i.invariant.1 (search rules) c.put-line.ensures)
+pub loop-b-preserved : goal.loop-b-preserved
+loop-b-preserved c = run_turn _ _ _ _ c.loop-b.invariant (search rules) c.put-line.ensures
 
 pub returns : goal.returns
-returns c = run_end _ _ _ _ c.loop-i.invariant.1 (search rules)
+returns c = run_all _ _ _ _ c.loop-b.invariant (search rules)

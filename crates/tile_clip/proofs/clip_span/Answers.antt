@@ -1,7 +1,7 @@
 -- The call: excess, even share, first pass over the part, the starts.
+use borrow.Author.Rules.{rules}
 use native.Mathlib.Omega.{arith}
-use Rattle.tile_clip.proofs.Shares.{excess_most}
-use Rattle.tile_clip.proofs.Framed.{share_few, share_small, share_product, span_pass, empty_take, span_turns, span_left}
+use Rattle.tile_clip.proofs.Framed.{share_few, share_small, span_pass, empty_take, span_turns, span_left, span_none}
 use Rattle.tile_clip.proofs.clip_span.Goals as goal
 
 pub overflow_cast-q : goal.overflow_cast-q
@@ -9,9 +9,6 @@ overflow_cast-q c = omega (arith, share_few c.requires c.excess-over.ensures)
 
 pub share_out-requires : goal.share_out-requires
 share_out-requires c = span_pass c.requires c.excess-over.ensures
-
-pub overflow_mul-left : goal.overflow_mul-left
-overflow_mul-left c = omega (arith, empty_take c.requires c.excess-over.ensures c.share_out.ensures, c.share_out.ensures.rest, excess_most c.args.limit c.args.part.now, c.requires.few_pixels)
 
 pub overflow_sub-left : goal.overflow_sub-left
 overflow_sub-left c = empty_take c.requires c.excess-over.ensures c.share_out.ensures
@@ -28,11 +25,8 @@ overflow_cast-q-3 c = omega (arith, share_few c.requires c.excess-over.ensures)
 pub turns-handed-requires : goal.turns-handed-requires
 turns-handed-requires c = span_turns c.requires c.excess-over.ensures c.share_out.ensures (omega (arith, c.open_starts-most.ensures, share_small c.requires c.excess-over.ensures)) (omega (arith, c.open_starts-most.ensures, c.requires.some_bin))
 
-pub overflow_mul-result : goal.overflow_mul-result
-overflow_mul-result c = omega (arith, share_product c.requires c.excess-over.ensures)
+pub returns-then-handed-eq0 : goal.returns-then-handed-eq0
+returns-then-handed-eq0 c = span_left c.requires c.excess-over.ensures c.share_out.ensures c.turns-handed.ensures (search rules)
 
-pub overflow_add-result : goal.overflow_add-result
-overflow_add-result c = omega (arith, share_product c.requires c.excess-over.ensures, c.turns-handed.ensures.few, c.share_out.ensures.rest, excess_most c.args.limit c.args.part.now, c.requires.few_pixels)
-
-pub returns : goal.returns
-returns c = span_left c.requires c.excess-over.ensures c.share_out.ensures c.turns-handed.ensures
+pub returns-else-handed-eq0 : goal.returns-else-handed-eq0
+returns-else-handed-eq0 c = span_none c.requires c.excess-over.ensures c.share_out.ensures c.turns-handed.ensures

@@ -1,19 +1,16 @@
-use native.Mathlib.Omega.{arith}
-use borrow.Author.Rules.{rules}
-use Rattle.tile_clip.proofs.Shares.{excess_next, excess_end, excess_most}
+use Rattle.std.proofs.Common.{rules, ◌-◌, ◌^◌, ◌<◌, ◌≡◌, ◌∙◌, sym, arith}
+use Rattle.std.specs.List.{sum_by}
+use Rattle.tile_clip.proofs.Shares.{excess_sum, excess_most}
 use Rattle.tile_clip.proofs.excess.Goals as goal
 
-pub loop-i-init : goal.loop-i-init
-loop-i-init c = (search rules, search rules, omega arith)
-
-pub overflow_add-over : goal.overflow_add-over
-overflow_add-over c = let a = c.args in omega (arith, excess_next a.limit a.counts.now c.loop-i.i (search rules), excess_most a.limit a.counts.now)
-
-pub loop-i-preserved : goal.loop-i-preserved
-loop-i-preserved c = let a = c.args in (search rules, search rules, omega (arith, excess_next a.limit a.counts.now c.loop-i.i (search rules)))
-
-pub overflow_cast-result : goal.overflow_cast-result
-overflow_cast-result c = let a = c.args in omega (arith, excess_most a.limit a.counts.now)
+pub sum-over-requires-clause-fits : goal.sum-over-requires-clause-fits
+sum-over-requires-clause-fits c =
+    let a = c.args in
+    let h : sum_by (λ n. n - a.limit) a.counts.now < 2 ^ 32 = omega (arith, excess_sum a.limit a.counts.now, excess_most a.limit a.counts.now) in
+    search rules
 
 pub returns : goal.returns
-returns c = let a = c.args in omega (arith, excess_end a.limit a.counts.now c.loop-i.i (search rules))
+returns c =
+    let a = c.args in
+    let h : c.sum-over.result ≡ sum_by (λ n. n - a.limit) a.counts.now = search rules in
+    h ∙ sym (excess_sum a.limit a.counts.now)

@@ -1,12 +1,8 @@
 -- The invariant: what the walk makes of the bins from the place i on is what it was to make of them at first.
-use Prim.Native.Nat.{◌-◌, ◌<◌}
+use Prim.Native.Nat.{◌<◌}
 use mathlib.Core.Path.{◌≡◌}
-use lib.ListN.{length}
 use Rattle.tile_clip.specs.Clip.{walk}
 use Rattle.tile_clip.proofs.walk_part.Given as goal
 
 abbrev pub invariant-loop-i : goal.invariant-loop-i
-invariant-loop-i l = (0 < l.r) × (length l.counts ≡ length l.initial.counts) × (walk l.limit l.step l.i l.counts l.r ≡ walk l.limit l.step l.at l.initial.counts l.left)
-
-abbrev pub decreases-loop-i : goal.decreases-loop-i
-decreases-loop-i l = length l.counts - l.i
+invariant-loop-i l = (0 < l.r) × (walk l.limit l.step l.i l.counts l.r ≡ walk l.limit l.step l.at l.initial.counts l.left)

@@ -1,15 +1,10 @@
-use Prim.Native.Nat.{◌+◌, ◌-◌, ◌*◌, ◌≤◌}
 use mathlib.Core.Path.{refl}
-use lib.ListN.{length}
 use native.Mathlib.Omega.{arith}
-use borrow.Rule.Slice.PartMut.{put_mid}
 use borrow.Author.Rules.{rules}
-use Rattle.tile_clip.specs.Clip.{starts}
-use Rattle.tile_clip.specs.Looks.{looks_from}
 use Rattle.tile_clip.proofs.Looked.{looks_bound}
 use Rattle.tile_clip.proofs.Rounds.{starting_first, starting_here}
-use Rattle.tile_clip.proofs.Ends.{Onward, shut_first}
-use Rattle.tile_clip.proofs.Whole.{raised_most, shut_whole, onward_whole, whole_looks, next_most}
+use Rattle.tile_clip.proofs.Ends.{shut_first}
+use Rattle.tile_clip.proofs.Whole.{raised_most, shut_whole, onward_whole, next_most}
 use Rattle.tile_clip.proofs.whole_starts.Goals as goal
 
 pub loop-r-init : goal.loop-r-init
@@ -31,16 +26,26 @@ looks_skipped-requires c =
     (omega (arith, raised_most o.4 o.3 c.pass-r.ensures), search rules, omega (arith, o.0.bin, o.1))
 
 pub overflow_add-looks : goal.overflow_add-looks
-overflow_add-looks c = omega (arith, (let it : c.loop-r.looks + (length c.args.counts.now - c.loop-r.start + c.looks_skipped.result) ≤ 35192962023424 = let o = c.loop-r.invariant in let a = c.args in omega (arith, c.looks_skipped.ensures, whole_looks _ _ o.0 o.1 (search rules) o.4 o.3 c.pass-r.ensures c.open_end-end.ensures, looks_bound a.limit a.counts.now a.left c.requires.few_bins c.requires.few_left) in it))
+overflow_add-looks c =
+    let a = c.args in
+    let o = c.loop-r.invariant in
+    omega (arith, (onward_whole _ o.0 o.1 (search rules) o.4 o.3 c.pass-r.ensures c.open_end-end.ensures c.looks_skipped.ensures refl).start.looked, looks_bound a.limit a.counts.now a.left c.requires.few_bins c.requires.few_left)
 
 pub overflow_add-looks-in-loop-r : goal.overflow_add-looks-in-loop-r
-overflow_add-looks-in-loop-r c = omega (arith, (let it : c.loop-r.looks + (length c.args.counts.now - c.loop-r.start + c.looks_skipped.result) ≤ 35192962023424 = let o = c.loop-r.invariant in let a = c.args in omega (arith, c.looks_skipped.ensures, whole_looks _ _ o.0 o.1 (search rules) o.4 o.3 c.pass-r.ensures c.open_end-end.ensures, looks_bound a.limit a.counts.now a.left c.requires.few_bins c.requires.few_left) in it))
+overflow_add-looks-in-loop-r c =
+    let a = c.args in
+    let o = c.loop-r.invariant in
+    omega (arith, (onward_whole _ o.0 o.1 (search rules) o.4 o.3 c.pass-r.ensures c.open_end-end.ensures c.looks_skipped.ensures refl).start.looked, looks_bound a.limit a.counts.now a.left c.requires.few_bins c.requires.few_left)
 
 pub loop-r-smaller : goal.loop-r-smaller
-loop-r-smaller c = ((let it : Onward c.args.limit (starts (c.args.left * length c.args.counts.now) c.args.limit 0 c.args.counts.now c.args.left) (0 + looks_from (c.args.left * length c.args.counts.now) c.args.limit 0 c.args.counts.now c.args.left) c.loop-r.start c.loop-r.counts c.loop-r.r c.next_start-start.result (put_mid c.loop-r.start (c.loop-r.end - c.loop-r.start) c.loop-r.counts c.pass-r.new.counts) (c.loop-r.r - c.pass-r.result) (c.loop-r.looks + (length c.args.counts.now - c.loop-r.start + c.looks_skipped.result)) = let o = c.loop-r.invariant in onward_whole _ _ _ _ o.0 o.1 (search rules) o.4 o.3 c.pass-r.ensures c.open_end-end.ensures c.next_start-start.ensures (omega (arith, c.looks_skipped.ensures)) in it)).fewer
+loop-r-smaller c =
+    let o = c.loop-r.invariant in
+    (onward_whole _ o.0 o.1 (search rules) o.4 o.3 c.pass-r.ensures c.open_end-end.ensures c.looks_skipped.ensures c.next_start-start.ensures).fewer
 
 pub loop-r-preserved : goal.loop-r-preserved
-loop-r-preserved c = (((let it : Onward c.args.limit (starts (c.args.left * length c.args.counts.now) c.args.limit 0 c.args.counts.now c.args.left) (0 + looks_from (c.args.left * length c.args.counts.now) c.args.limit 0 c.args.counts.now c.args.left) c.loop-r.start c.loop-r.counts c.loop-r.r c.next_start-start.result (put_mid c.loop-r.start (c.loop-r.end - c.loop-r.start) c.loop-r.counts c.pass-r.new.counts) (c.loop-r.r - c.pass-r.result) (c.loop-r.looks + (length c.args.counts.now - c.loop-r.start + c.looks_skipped.result)) = let o = c.loop-r.invariant in onward_whole _ _ _ _ o.0 o.1 (search rules) o.4 o.3 c.pass-r.ensures c.open_end-end.ensures c.next_start-start.ensures (omega (arith, c.looks_skipped.ensures)) in it)).start, search rules, search rules, c.open_end-end.ensures, omega (arith, c.next_start-start.ensures, next_most c.open_end-end.result c.loop-r.start), search rules)
+loop-r-preserved c =
+    let o = c.loop-r.invariant in
+    ((onward_whole _ o.0 o.1 (search rules) o.4 o.3 c.pass-r.ensures c.open_end-end.ensures c.looks_skipped.ensures c.next_start-start.ensures).start, search rules, search rules, c.open_end-end.ensures, omega (arith, c.next_start-start.ensures, next_most c.open_end-end.result c.loop-r.start), search rules)
 
 pub returns : goal.returns
 returns c =

@@ -1,24 +1,10 @@
 use mathlib.Core.Path.{refl}
-use lib.ListN.{length-set}
 use native.Mathlib.Omega.{arith}
-use borrow.Author.Rules.{rules}
-use Rattle.base_lists.proofs.Fills.{filled_none, filled_step, filled_end}
+use Rattle.base_lists.proofs.Fills.{filled_none, filled_step}
 use Rattle.tile_count.proofs.add_up.Goals as goal
 
 pub loop-k-init : goal.loop-k-init
-loop-k-init c = (search rules, refl, filled_none _ _)
-
-pub overflow_add-counts : goal.overflow_add-counts
-overflow_add-counts c = omega (arith, c.requires.fits c.loop-k.k (omega arith))
-
-pub overflow_add-counts-in-loop-k : goal.overflow_add-counts-in-loop-k
-overflow_add-counts-in-loop-k c = omega (arith, c.requires.fits c.loop-k.k (omega arith))
-
-pub overflow_add-counts-in-loop-k-2 : goal.overflow_add-counts-in-loop-k-2
-overflow_add-counts-in-loop-k-2 c = omega (arith, c.requires.fits c.loop-k.k (omega arith))
+loop-k-init c = filled_none _ _
 
 pub loop-k-preserved : goal.loop-k-preserved
-loop-k-preserved c = (search rules, rw length-set (search rules), filled_step _ _ c.loop-k.invariant.2 (omega arith) refl)
-
-pub returns : goal.returns
-returns c = filled_end _ _ {i = c.loop-k.k} c.loop-k.invariant.2 (search rules) (search rules)
+loop-k-preserved c = filled_step _ _ c.loop-k.invariant (omega arith) refl

@@ -1,26 +1,28 @@
-use Prim.Native.Nat.{◌-◌}
-use mathlib.Core.Path.{refl}
-use lib.ListN.{length, drop, length-take}
+use mathlib.Core.List.{◌++◌, map}
+use mathlib.Core.Path.{◌≡◌, ap, ◌∙◌}
 use native.Mathlib.Omega.{arith}
-use borrow.Author.Rules.{rules, scaled_Fits}
-use Rattle.tile_count.specs.Tally.{bin_in}
-use Rattle.tile_count.proofs.Ways.{ways_none, row_part, part_next, part_whole}
+use Rattle.std.specs.Slice.Iter.{chunks_rest, chunks_size}
+use Rattle.std.proofs.lemmas.List.{map-append}
+use Rattle.tile_count.proofs.Cuts.{none_passed, all_left, still_left}
+use Rattle.tile_count.proofs.Ways.{part_start, cut_part, cut_next}
 use Rattle.tile_count.proofs.count_parts.Goals as goal
 
-pub loop-x-init : goal.loop-x-init
-loop-x-init c = (search rules, refl, refl, ways_none _)
-
-pub part_end-e-requires : goal.part_end-e-requires
-part_end-e-requires c = (omega arith, omega (arith, c.requires.1))
-
-pub offset_bounds-row-x : goal.offset_bounds-row-x
-offset_bounds-row-x c = scaled_Fits _ (length c.args.row.now) 2 (omega arith) (search rules)
+pub loop-part-init : goal.loop-part-init
+loop-part-init g c =
+    let made = c.into_iter-part-iterator.ensures.into_iter_gives in
+    let all : map g.T.Grey.value (chunks_rest c.into_iter-part-iterator.result) ≡ map g.T.Grey.value c.args.row.now = ap (λ i. map g.T.Grey.value (chunks_rest i)) made ∙ ap (map g.T.Grey.value) c.chunks-part-items.ensures.rest in
+    (ap chunks_size made ∙ c.chunks-part-items.ensures.size, all_left _ all, part_start _ _ _ _ (none_passed _ all))
 
 pub count_part-requires : goal.count_part-requires
-count_part-requires c = (row_part c.requires.0 c.loop-x.x c.part_end-e.result (omega (arith, c.part_end-e.ensures.0)) c.part_end-e.ensures.1 c.loop-x.invariant.3, omega (arith, length-take (c.part_end-e.result - c.loop-x.x) (drop c.loop-x.x c.args.row.now), c.part_end-e.ensures.2))
+count_part-requires g c = (
+  cut_part c.requires.0 _ _ c.loop-part.invariant.1 (ap (map g.T.Grey.value) c.in-Some.ensures.steps.1.0 ∙ map-append g.T.Grey.value _ _) c.loop-part.invariant.2,
+  omega (arith, c.in-Some.ensures.steps.1.1, c.loop-part.invariant.0),
+)
 
-pub loop-x-preserved : goal.loop-x-preserved
-loop-x-preserved c = (c.part_end-e.ensures.1, search rules, search rules, part_next (bin_in c.args.by) c.args.row.now c.loop-x.x c.part_end-e.result (omega (arith, c.part_end-e.ensures.0)) c.loop-x.invariant.3 c.count_part.ensures)
-
-pub returns : goal.returns
-returns c = part_whole (bin_in c.args.by) _ c.loop-x.x c.loop-x.invariant.3 (omega arith)
+pub loop-part-preserved : goal.loop-part-preserved
+loop-part-preserved g c =
+    let cut : map g.T.Grey.value (chunks_rest c.loop-part.part-iterator) ≡ map g.T.Grey.value c.in-Some.part.now ++ map g.T.Grey.value (chunks_rest c.next.new.self) = ap (map g.T.Grey.value) c.in-Some.ensures.steps.1.0 ∙ map-append g.T.Grey.value _ _ in (
+      omega (arith, c.in-Some.ensures.steps.0, c.loop-part.invariant.0, c.count_part.auto.line, c.loop-part.auto.line),
+      still_left _ c.loop-part.invariant.1 _ _ cut,
+      cut_next _ _ _ _ c.loop-part.invariant.1 cut c.loop-part.invariant.2 c.count_part.ensures,
+    )

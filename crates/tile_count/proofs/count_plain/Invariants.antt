@@ -1,14 +1,9 @@
 -- `tile_count::count_plain` meets its contract: the rows passed are added.
-use Prim.Native.Nat.{◌≤◌, ◌-◌}
 use mathlib.Core.Path.{◌≡◌}
-use lib.ListN.{length}
 use Rattle.base_lists.specs.Lists.{joined}
 use Rattle.tile_count.specs.Tally.{added_of}
 use Rattle.tile_count.proofs.Greys.{row_of}
 use Rattle.tile_count.proofs.count_plain.Given as goal
 
 abbrev pub invariant-loop-y : goal.invariant-loop-y
-invariant-loop-y l = (l.y ≤ l.rect.height) × (length l.counts ≡ length l.initial.counts) × (l.counts ≡ added_of l.min l.max l.bins l.initial.counts (joined l.y (row_of l.picture l.stride l.rect)))
-
-abbrev pub decreases-loop-y : goal.decreases-loop-y
-decreases-loop-y l = l.rect.height - l.y
+invariant-loop-y l = l.counts ≡ added_of l.by.min l.by.max l.by.bins l.initial.counts (joined l.y (row_of l.picture l.stride l.rect))

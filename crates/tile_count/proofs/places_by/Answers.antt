@@ -1,22 +1,26 @@
-use mathlib.Core.Path.{refl}
-use lib.ListN.{length-set}
+use mathlib.Core.Path.{sym, ap, subst, ◌∙◌}
+use lib.ListN.{length-map}
 use native.Mathlib.Omega.{arith}
-use borrow.Author.Rules.{rules}
 use Rattle.base_lists.proofs.Fills.{filled_none, filled_step}
-use Rattle.tile_count.proofs.Ways.{next_grey, places_end}
+use Rattle.tile_count.specs.Tally.{place_in, BinAsks}
+use Rattle.tile_count.proofs.Ways.{next_grey, grey_at, places_end}
 use Rattle.tile_count.proofs.places_by.Goals as goal
 
 pub loop-x-init : goal.loop-x-init
-loop-x-init c = (search rules, refl, filled_none _ _)
-
-pub overflow_cast-row : goal.overflow_cast-row
-overflow_cast-row c = omega (arith, c.shared_slice_known-in-loop-x-1.given c.loop-x.x)
+loop-x-init g c = filled_none _ _
 
 pub place_by-requires : goal.place_by-requires
-place_by-requires c = next_grey c.requires c.loop-x.x (omega arith)
+place_by-requires g c = subst (BinAsks c.args.by) (sym (grey_at g.T.Grey.value c.args.row.now c.loop-x-test.true c.index-row-x.is c.value.ensures)) (next_grey c.requires c.loop-x.x (omega (arith, length-map c.args.row.now g.T.Grey.value)))
 
 pub loop-x-preserved : goal.loop-x-preserved
-loop-x-preserved c = (search rules, rw length-set (search rules), filled_step _ _ c.loop-x.invariant.2 (omega arith) c.place_by.ensures)
+loop-x-preserved g c =
+    filled_step
+    _
+    _
+    c.loop-x.invariant
+    (omega (arith, c.requires.enough, length-map c.args.row.now g.T.Grey.value))
+    (c.place_by.ensures ∙ ap (place_in c.args.by) (grey_at g.T.Grey.value c.args.row.now c.loop-x-test.true c.index-row-x.is c.value.ensures))
 
 pub returns : goal.returns
-returns c = places_end c.args.by c.args.row.now _ {x = c.loop-x.x} c.loop-x.invariant.2 (omega arith) (omega arith)
+returns g c =
+    places_end c.args.by _ _ {x = c.loop-x.x} c.loop-x.invariant (omega (arith, length-map c.args.row.now g.T.Grey.value)) (omega (arith, length-map c.args.row.now g.T.Grey.value))

@@ -24,11 +24,8 @@ overflow_shl-whole c = omega (arith, field_most _ ((let it : T (fits binary32 c.
 pub overflow_mul-whole : goal.overflow_mul-whole
 overflow_mul-whole c = omega (arith, whole_fits c.args.factor c.args.pixels ((let it : T (fits binary32 c.args.factor) = subst T (sym c.well_formed.0.1) tt in it)) c.requires.good c.requires.pixels)
 
-pub returns-then-floor-eq0 : goal.returns-then-floor-eq0
-returns-then-floor-eq0 c = omega (arith, (let it : floored_of c.args.factor c.args.pixels c.args.bins ≡ max 1 (whole_of c.args.factor c.args.pixels / (c.args.bins * 8388608)) = floored_code _ _ _ ((let it : T (fits binary32 c.args.factor) = subst T (sym c.well_formed.0.1) tt in it)) c.requires.good c.requires.least in it))
-
 pub overflow_cast-result : goal.overflow_cast-result
-overflow_cast-result c = omega (arith, (let it : floored_of c.args.factor c.args.pixels c.args.bins ≡ max 1 (whole_of c.args.factor c.args.pixels / (c.args.bins * 8388608)) = floored_code _ _ _ ((let it : T (fits binary32 c.args.factor) = subst T (sym c.well_formed.0.1) tt in it)) c.requires.good c.requires.least in it), (let it : floored_of c.args.factor c.args.pixels c.args.bins ≤ 2147483648 = floored_most _ _ _ c.requires.good c.requires.pixels c.requires.least in it))
+overflow_cast-result c = omega (arith, c.max.ensures, (let it : floored_of c.args.factor c.args.pixels c.args.bins ≡ max 1 (whole_of c.args.factor c.args.pixels / (c.args.bins * 8388608)) = floored_code _ _ _ ((let it : T (fits binary32 c.args.factor) = subst T (sym c.well_formed.0.1) tt in it)) c.requires.good c.requires.least in it), (let it : floored_of c.args.factor c.args.pixels c.args.bins ≤ 2147483648 = floored_most _ _ _ c.requires.good c.requires.pixels c.requires.least in it))
 
 pub returns : goal.returns
-returns c = omega (arith, c.if-floor-eq0.false, (let it : floored_of c.args.factor c.args.pixels c.args.bins ≡ max 1 (whole_of c.args.factor c.args.pixels / (c.args.bins * 8388608)) = floored_code _ _ _ ((let it : T (fits binary32 c.args.factor) = subst T (sym c.well_formed.0.1) tt in it)) c.requires.good c.requires.least in it))
+returns c = omega (arith, c.max.ensures, (let it : floored_of c.args.factor c.args.pixels c.args.bins ≡ max 1 (whole_of c.args.factor c.args.pixels / (c.args.bins * 8388608)) = floored_code _ _ _ ((let it : T (fits binary32 c.args.factor) = subst T (sym c.well_formed.0.1) tt in it)) c.requires.good c.requires.least in it))

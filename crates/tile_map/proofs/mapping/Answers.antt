@@ -1,9 +1,6 @@
 -- `tile_map::mapping` meets its contract: the counts in the front of the scratch are clipped and mapped.
-use Rattle.tile_map.proofs.Tiles.{tile_part, tile_asks, tile_mapped}
+use Rattle.tile_map.proofs.Tiles.{tile_asks, tile_mapped}
 use Rattle.tile_map.proofs.mapping.Goals as goal
-
-pub slice_bounds-from_counts-end-2 : goal.slice_bounds-from_counts-end-2
-slice_bounds-from_counts-end-2 c = tile_part c.requires _ c.count.ensures
 
 pub from_counts-requires : goal.from_counts-requires
 from_counts-requires c = tile_asks c.requires _ c.count.ensures

@@ -1,6 +1,6 @@
 -- `value_ours` gives the value by the limit of the setting.
 use native.Mathlib.Omega.{arith}
-use Rattle.tile_value.proofs.Values.{span_off, span_bins, span_limit, span_limited, span_ours}
+use Rattle.tile_value.proofs.Values.{span_bins, span_limit, span_limited, span_ours}
 use Rattle.tile_value.proofs.value_ours.Goals as goal
 
 pub overflow_cast-bins : goal.overflow_cast-bins
@@ -11,9 +11,6 @@ limit-most-requires c = span_limit c.requires c.in-Factor.is
 
 pub value_limited-requires : goal.value_limited-requires
 value_limited-requires c = span_limited c.requires c.in-Factor.is c.limit-most.ensures
-
-pub returns-in-Off : goal.returns-in-Off
-returns-in-Off c = span_off
 
 pub returns-in-Factor : goal.returns-in-Factor
 returns-in-Factor c = span_ours c.requires c.in-Factor.is c.limit-most.ensures c.value_limited.ensures

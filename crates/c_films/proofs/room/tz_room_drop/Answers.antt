@@ -3,4 +3,4 @@ use Rattle.c_room.proofs.Handed.{dropped_handed}
 use Rattle.c_films.proofs.room.tz_room_drop.Goals as goal
 
 pub returns : goal.returns
-returns c = rw (← c.room_from-room.ensures) (dropped_handed _ _ c.drop_film-left.ensures c.put_dropped.ensures)
+returns c = rw (← c.room_from-room.ensures) (dropped_handed _ _ c.drop_film-answer.ensures c.put_dropped.ensures)

@@ -3,4 +3,4 @@ use Rattle.c_room.proofs.Handed.{stored_handed}
 use Rattle.c_films.proofs.room.tz_room_store.Goals as goal
 
 pub returns : goal.returns
-returns c = rw (← c.settings_from-s.ensures, ← c.room_from-room.ensures) (stored_handed _ _ _ c.store-kept.ensures c.put_stored.ensures)
+returns c = rw (← c.settings_from-s.ensures, ← c.room_from-room.ensures) (stored_handed _ _ _ c.store-answer.ensures c.put_stored.ensures)

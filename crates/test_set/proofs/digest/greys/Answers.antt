@@ -1,8 +1,13 @@
--- `test_set::digest::greys` meets its contract: the first entries are all. Assumes nothing.
-use Rattle.std.proofs.Common.{ap, ◌∙◌}
-use lib.Seq.{take-length}
-use Rattle.test_set.specs.Filmset.{digest_of}
+use Rattle.std.proofs.Common.{refl, rules}
+use Rattle.test_text.proofs.Runs.{run_start, run_turn}
+use Rattle.test_set.proofs.Digests.{digest_end}
 use Rattle.test_set.proofs.digest.greys.Goals as goal
 
+pub loop-entry-init : goal.loop-entry-init
+loop-entry-init c = run_start _ refl
+
+pub loop-entry-preserved : goal.loop-entry-preserved
+loop-entry-preserved c = run_turn _ _ _ _ c.loop-entry.invariant (search rules) c.taken-h.ensures
+
 pub returns : goal.returns
-returns c = c.first.ensures ∙ ap digest_of (take-length _)
+returns c = digest_end _ _ c.loop-entry.invariant (search rules) c.taken.ensures

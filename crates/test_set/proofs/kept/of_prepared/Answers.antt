@@ -2,8 +2,8 @@
 use Rattle.std.proofs.Common.{refl}
 use Rattle.test_set.proofs.kept.of_prepared.Goals as goal
 
-pub returns-in-Done : goal.returns-in-Done
-returns-in-Done c = rw (c.in-Done.is, c.flat-eleven.ensures, c.axes_in-axes.ensures) refl
+pub returns-in-Ok : goal.returns-in-Ok
+returns-in-Ok c = rw (c.in-Ok.is, c.flat-eleven.ensures, c.axes_in-axes.ensures) refl
 
-pub returns-in-Refused : goal.returns-in-Refused
-returns-in-Refused c = rw c.in-Refused.is c.of_made-k.ensures
+pub returns-in-Err : goal.returns-in-Err
+returns-in-Err c = rw (c.in-Err.is, ← c.number.ensures) c.of_made-k.ensures

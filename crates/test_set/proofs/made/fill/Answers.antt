@@ -1,15 +1,16 @@
-use Rattle.std.proofs.Common.{refl, ◌∙◌, length-set, rules}
+use Rattle.std.proofs.Common.{ℕ, refl, ◌∙◌, length-set, rules}
+use lib.ListN.{length-replicate}
 use Rattle.base_lists.proofs.Fills.{filled_none, filled_step, filled_end}
 use Rattle.test_set.specs.Filmset.{fill_of}
 use Rattle.test_set.proofs.Digests.{filled_full}
 use Rattle.test_set.proofs.made.fill.Goals as goal
 
 pub loop-i-init : goal.loop-i-init
-loop-i-init c = (search rules, refl, filled_none _ _)
+loop-i-init c = (refl, filled_none _ _)
 
 pub loop-i-preserved : goal.loop-i-preserved
 unfolding fill_of
-loop-i-preserved c = (search rules, rw length-set (search rules), filled_step _ _ c.loop-i.invariant.2 (search rules) (cc))
+loop-i-preserved c = (rw length-set (search rules), filled_step _ _ c.loop-i.invariant.1 (search rules) (cc))
 
 pub returns : goal.returns
-returns c = filled_end _ _ c.loop-i.invariant.2 (search rules) (search rules) ∙ filled_full _ _ _ refl
+returns c = filled_end _ _ c.loop-i.invariant.1 (search rules) (search rules) ∙ filled_full _ _ _ refl

@@ -1,11 +1,8 @@
--- `test_set::made::fill` meets its contract: the entries passed are filled. The measure is the entries left. Assumes nothing.
-use Rattle.std.proofs.Common.{◌≡◌, ◌-◌, ◌≤◌, length}
+-- `test_set::made::fill` meets its contract: the entries passed are filled. Assumes nothing.
+use Rattle.std.proofs.Common.{◌≡◌, length}
 use Rattle.base_lists.specs.Lists.{filled}
 use Rattle.test_set.specs.Filmset.{fill_of}
 use Rattle.test_set.proofs.made.fill.Given as goal
 
 abbrev pub invariant-loop-i : goal.invariant-loop-i
-invariant-loop-i l = (l.i ≤ length l.initial.entries) × (length l.entries ≡ length l.initial.entries) × (l.entries ≡ filled (fill_of l.base l.first l.pace l.span) l.initial.entries l.i)
-
-abbrev pub decreases-loop-i : goal.decreases-loop-i
-decreases-loop-i l = length l.initial.entries - l.i
+invariant-loop-i l = (length l.entries ≡ length l.initial.entries) × (l.entries ≡ filled (fill_of l.base l.first l.pace l.span) l.initial.entries l.i)

@@ -1,4 +1,4 @@
-use Rattle.std.proofs.Common.{ℕ, refl, ◌∙◌, rules}
+use Rattle.std.proofs.Common.{ℕ, refl, ◌∙◌, length-set, rules}
 use lib.ListN.{length-replicate}
 use Rattle.base_lists.proofs.Fills.{filled_none, filled_step, filled_end}
 use Rattle.test_set.specs.Filmset.{list_entry}
@@ -6,11 +6,11 @@ use Rattle.test_set.proofs.Digests.{filled_full}
 use Rattle.test_set.proofs.made.list.Goals as goal
 
 pub loop-i-init : goal.loop-i-init
-loop-i-init c = (search rules, length-replicate {A = ℕ} 600 0, filled_none _ _)
+loop-i-init c = (refl, filled_none _ _)
 
 pub loop-i-preserved : goal.loop-i-preserved
 unfolding list_entry
-loop-i-preserved c = (search rules, search rules, filled_step _ _ c.loop-i.invariant.2 (search rules) refl)
+loop-i-preserved c = (rw length-set (search rules), filled_step _ _ c.loop-i.invariant.1 (search rules) refl)
 
 pub returns : goal.returns
-returns c = filled_end _ _ c.loop-i.invariant.2 (search rules) (search rules) ∙ filled_full _ _ _ c.loop-i.invariant.1
+returns c = filled_end _ _ c.loop-i.invariant.1 (search rules) (search rules) ∙ filled_full _ _ _ (length-replicate {A = ℕ} 600 0)

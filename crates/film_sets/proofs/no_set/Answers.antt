@@ -1,9 +1,0 @@
--- `film_sets::no_set` meets its contract.
-use mathlib.Core.Path.{refl}
-use Rattle.film_settings.specs.Settings.{no_settings}
-use Rattle.film_sets.specs.Sets.{no_set_of}
-use Rattle.film_sets.proofs.no_set.Goals as goal
-
-pub returns : goal.returns
-unfolding no_set_of no_settings
-returns c = refl

@@ -1,5 +1,0 @@
-use native.Mathlib.Omega.{arith}
-use Rattle.test_netpbm.proofs.text.numbers.Goals as goal
-
-pub overflow_cast-bytes : goal.overflow_cast-bytes
-overflow_cast-bytes c = omega (arith, c.shared_slice_known-in-loop-i-1.given c.loop-i.i)
