@@ -6,7 +6,7 @@ path or a single word is there, and so is each page that they link to. crates.tx
 Must-fail edits: what each replaces stands once. A program over the calls for C has the rows and the stored text of the one
 over the calls themselves.
 Shelves: each crate's name begins with one, and README names it. Hinges (toolchain/hinges): each stands in its crate, and is opened
-there alone.
+there alone. Engines: what the plain one and the fast one both call is what DECISIONS.md says that they share.
 
 Run: python3 -B docs/check.py
 """
@@ -26,6 +26,10 @@ PART = re.compile(r"^(?:`(?P<crate>\w+)` )?(?P<module>[A-Z]\w*): ")
 PROMISES = re.compile(r"(?:Demand|Order)\d+$")
 # what a file declares at its margin or in a section: whether others may name it, what kind it is, and its name
 DECLARED = re.compile(r"^(?:  )?(?!use |mod |module |unfolding |--)((?:(?:pub|unfoldable|abbrev|record|data) )*)([^\s:(){}]+)(?: \([^)]*\)| \{[^}]*\})* :\s", re.M)
+
+# a function of the sources, and a call in its body: the crate that it names, and the function's name
+FUNCTION = re.compile(r"^ *(?:pub )?(?:extern \"C\" )?fn (\w+)", re.M)
+CALL = re.compile(r"(?<![\w.])(?:(\w+)::)?(\w+)(?:::<[^>()]*>)?\(")
 
 # words in backticks that are other people's: packages, instructions of a processor, a browser's file names
 OUTSIDE = {"qemu-user", "chromium-driver", "python3-selenium", "side31", "tool-ID"}
@@ -225,6 +229,40 @@ def calls():
             if read(f"crates/{own}/{name}") != read(f"crates/{by_c}/{name}")]
 
 
+def callees():
+    """Each function of the crates, as crate::function, beside those of the crates that its body calls."""
+    bodies = {}
+    for path in glob.glob(TOP + "/crates/*/src/**/*.rt", recursive=True):
+        crate, text = os.path.relpath(path, TOP).split("/")[1], re.sub(r"//.*", "", read(os.path.relpath(path, TOP)))
+        marks = [(mark.start(), mark[1]) for mark in FUNCTION.finditer(text)] + [(len(text), "")]
+        for (start, name), (end, _) in zip(marks, marks[1:]):
+            bodies[f"{crate}::{name}"] = bodies.get(f"{crate}::{name}", "") + text[start:end].partition("{")[2]
+    return {function: {called for owner, name in CALL.findall(body)
+                       for called in [f"{owner or function.split('::')[0]}::{name}"] if called in bodies}
+            for function, body in bodies.items()}
+
+
+def beneath(called, functions):
+    """These functions, and all that they call, directly or through others."""
+    found, left = set(), list(functions)
+    while left:
+        function = left.pop()
+        if function not in found:
+            found.add(function)
+            left += called[function]
+    return found
+
+
+def engines():
+    """What direct and enhance both call, where DECISIONS.md does not say that they share it, and it is not beneath what they share."""
+    called, page = callees(), read("docs/DECISIONS.md")
+    both = beneath(called, ["film_direct::direct"]) & beneath(called, ["film_prepare::enhance"])
+    table = page.partition("**What direct and enhance share**")[2].split("\n\n")[1]
+    told = both & set(re.findall(r"`(\w+::\w+)`", table))
+    return [f"DECISIONS.md: direct and enhance share {function}, which the plain engine's table does not name"
+            for function in sorted(both - beneath(called, told))]
+
+
 def main():
     """Says what is named and not there, and what is there and not named."""
     edits = {f"{path.split('/')[-3]}/{os.path.basename(path)[:-len('.edit')]}" for path in glob.glob(TOP + "/crates/*/must-fail/*.edit")}
@@ -239,7 +277,7 @@ def main():
     faults += [f"PROMISES.md: {name} is named and is no edit" for name in sorted(named - edits)]
     faults += [f"PROMISES.md: {name} is an edit and is not named" for name in sorted(edits - named)]
     faults += [f"PROMISES.md: '{line[:40]}..' is a row of {len(line)} characters: part it" for line in lines if len(line) > 700]
-    faults += papers(stated) + listed() + shelves() + stale() + hinges() + calls()
+    faults += papers(stated) + listed() + shelves() + stale() + hinges() + calls() + engines()
     for fault in faults:
         print(fault, file=sys.stderr)
     print(f"PROMISES.md names {len(edits & named)} of {len(edits)} must-fail edits, and in {len(parts)} places what carries a promise")

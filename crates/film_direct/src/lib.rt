@@ -90,8 +90,9 @@ fn add_rows(
     ensures { counts.new ≡ added_of min max bins counts.old (greys_of picture.now stride rect) }
 {
     for y in 0..rect.height {
-        let row = tile_count::row_at(picture, stride, rect, y);
-        add_row(row, min, max, bins, factor, counts);
+        let from = (rect.top + y) * stride + rect.left;
+        let to = from + rect.width;
+        add_row(&picture[from..to], min, max, bins, factor, counts);
     }
 }
 

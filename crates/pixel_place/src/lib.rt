@@ -84,8 +84,8 @@ fn weigh(column: Place, row: Place, a: u32, b: u32, c: u32, d: u32) -> u64
     requires { Sound 16 2048 column × Sound 16 2048 row × (a ≤ 4095) × (b ≤ 4095) × (c ≤ 4095) × (d ≤ 4095) }
     ensures { result ≡ weighed_of column row a b c d }
 {
-    let upper = sides(column, a, b);
-    let lower = sides(column, c, d);
+    let upper = (column.lowerweight as u64) * (a as u64) + (column.upperweight as u64) * (b as u64);
+    let lower = (column.lowerweight as u64) * (c as u64) + (column.upperweight as u64) * (d as u64);
     (row.lowerweight as u64) * upper + (row.upperweight as u64) * lower
 }
 

@@ -14,44 +14,55 @@ use Rattle.base_lists.specs.Lists.{total}
 use Rattle.base_lists.proofs.Tallies.{total_take_le}
 use Rattle.tile_limit.specs.declared.Clip.{Clip}
 use Rattle.tile_limit.specs.declared.Edition.{Edition}
-use Rattle.tile_limit.specs.declared.Edition.TheVariants.{Ours}
+use Rattle.tile_limit.specs.declared.Edition.TheVariants.{Ours, Of1986}
 use Rattle.tile_limit.specs.declared.Clip.TheVariants.{Factor}
 use Rattle.tile_limit.specs.Limit.{limit_of, LimitAsks}
 use Rattle.tile_clip.specs.Clip.{clipped}
 use Rattle.tile_clip.specs.Spans.{framed, SpanAsks, SpanLeft}
 use Rattle.tile_clip.proofs.Laws.{total_clipped}
 use Rattle.tile_clip.proofs.Framed.{length_framed, total_framed}
-use Rattle.tile_map.specs.declared.Clipped.{Clipped}
-use Rattle.tile_map.specs.Tile.{clipped_by, divided_by, mapped_of, ByClipped}
+use Rattle.tile_clip1986.specs.Older.{older}
+use Rattle.tile_map.specs.Tile.{clipped_in, clipped_by, divided_in, divided_by, mapped_of}
 use Rattle.tile_map.proofs.Mapped.{part_le, mapped_through}
 use Rattle.tile_map.proofs.Tiles.{length_clipped_by, divided_total, divided_between, limit_asks, in_asks, clipped_factor}
 use Rattle.tile_value.specs.Value.{ValueAsks, ValueGiven, LimitedAsks, LimitedGiven, SpanValueAsks, SpanValueGiven}
 
+-- ---- what `clip_in` leaves
+
+-- our edition: N divides
+pub in_ours : {ed : Edition} (n l : ℕ) (cs : List ℕ) {ds : List ℕ} → ed ≡ Ours → ds ≡ clipped l cs → (ds ≡ clipped_in ed l cs) × (n ≡ divided_in ed n (clipped_in ed l cs))
+in_ours n l cs e h = rw e (h, refl)
+
+-- that of 1986: the new total does
+pub in_older : {ed : Edition} (n l : ℕ) (cs : List ℕ) {ds : List ℕ} {t : ℕ} → ed ≡ Of1986 → (ds ≡ older l cs) × (t ≡ total (older l cs))
+    → (ds ≡ clipped_in ed l cs) × (t ≡ divided_in ed n (clipped_in ed l cs))
+in_older n l cs e h = rw e h
+
 -- ---- the steps of `value`: clipped, added up to the bin
 
-module _ (ed : Edition) {clip : Clip} {n lo hi k : ℕ} {cs : List ℕ} (asks : ValueAsks clip n lo hi k cs) {ds : List ℕ} {r : Clipped} (e : ByClipped ed clip n cs ds r) where
+module _ (ed : Edition) {clip : Clip} {n lo hi k : ℕ} {cs : List ℕ} (asks : ValueAsks clip n lo hi k cs) {ds : List ℕ} {t : ℕ} (e : (ds ≡ clipped_by ed clip n cs) × (t ≡ divided_by ed clip n cs)) where
   -- the clipped counts add up to what the mapping divides by
-  total_value : total ds ≡ r.over
-  total_value = ap total e.counts ∙ (divided_total ed clip n cs asks.counted.holds asks.counted.all_pixels (omega (arith, asks.counted.some)) ∙ sym e.over)
+  total_value : total ds ≡ t
+  total_value = ap total e.0 ∙ (divided_total ed clip n cs asks.counted.holds asks.counted.all_pixels (omega (arith, asks.counted.some)) ∙ sym e.1)
 
   value_between : (n ≤ divided_by ed clip n cs) × (divided_by ed clip n cs < n + length cs)
   value_between = divided_between ed clip n cs asks.counted.holds asks.counted.all_pixels (omega (arith, asks.counted.some))
 
   -- which is above 0
-  pub value_some : 0 < r.over
-  value_some = omega (arith, e.over, value_between.0, asks.some)
+  pub value_some : 0 < t
+  value_some = omega (arith, e.1, value_between.0, asks.some)
 
   -- and small
-  value_few : r.over ≤ 4198400
-  value_few = omega (arith, e.over, value_between.1, asks.counted.few_pixels, asks.counted.few)
+  value_few : t ≤ 4198400
+  value_few = omega (arith, e.1, value_between.1, asks.counted.few_pixels, asks.counted.few)
 
   -- what adding them up to the bin asks
   pub value_sum_asks : (k < length ds) × (total ds ≤ 4198400)
-  value_sum_asks = (omega (arith, asks.bin, ap length e.counts ∙ length_clipped_by ed clip n cs), omega (arith, total_value, value_few))
+  value_sum_asks = (omega (arith, asks.bin, ap length e.0 ∙ length_clipped_by ed clip n cs), omega (arith, total_value, value_few))
 
   module _ {m : ℕ} (q : m ≡ total (take (k + 1) ds)) where
     -- S is at most what is divided by
-    value_part : m ≤ r.over
+    value_part : m ≤ t
     value_part = omega (arith, total_take_le (k + 1) ds, total_value)
 
     -- S x R fits 64 bits
@@ -59,15 +70,15 @@ module _ (ed : Edition) {clip : Clip} {n lo hi k : ℕ} {cs : List ℕ} (asks : 
     value_product = mul-le-mul {n₂ = 4198400} {m₂ = 4095} (omega (arith, value_part, value_few)) (omega (arith, asks.most))
 
     -- S x R over what is divided by is at most R
-    pub value_quotient : m * (hi - lo) / r.over ≤ hi - lo
-    value_quotient = part_le m r.over (hi - lo) value_part
+    pub value_quotient : m * (hi - lo) / t ≤ hi - lo
+    value_quotient = part_le m t (hi - lo) value_part
 
     -- what it comes to
-    pub value_given : ValueGiven ed clip n lo hi k cs ds (lo + m * (hi - lo) / r.over)
+    pub value_given : ValueGiven ed clip n lo hi k cs ds (lo + m * (hi - lo) / t)
     value_given =
         record {
-          counts = e.counts;
-          value = mapped_through lo hi (clipped_by ed clip n cs) k (q ∙ ap (λ x. total (take (k + 1) x)) e.counts) e.over;
+          counts = e.0;
+          value = mapped_through lo hi (clipped_by ed clip n cs) k (q ∙ ap (λ x. total (take (k + 1) x)) e.0) e.1;
         }
 
 -- ---- where only some bins in a row hold anything

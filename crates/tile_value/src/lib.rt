@@ -4,9 +4,38 @@
 ghost use Rattle.std.specs.Prelude.{◌≡◌, ◌+◌, ◌≤◌, ◌<◌, length, take};
 ghost use Rattle.base_lists.specs.Lists.{total};
 ghost use Rattle.tile_limit.specs.declared.Edition.TheVariants.{Ours};
+ghost use Rattle.tile_map.specs.Tile.{clipped_in, clipped_by, divided_in, divided_by, ClipInAsks, ClipByAsks};
 ghost use Rattle.tile_value.specs.Value.{ValueAsks, ValueGiven, LimitedAsks, LimitedGiven, SpanValueAsks, SpanValueGiven};
 
 use tile_limit::{Clip, Edition};
+
+// The counts clipped at a limit by an edition's rule; the answer is what their mapping divides by.
+fn clip_in(edition: Edition, pixels: u32, most: u32, counts: &mut [u32]) -> u32
+    requires { ClipInAsks pixels most counts.old }
+    ensures { (counts.new ≡ clipped_in edition most counts.old) × (result ≡ divided_in edition pixels (clipped_in edition most counts.old)) }
+{
+    match edition {
+        Edition::Ours => {
+            tile_clip::clip(counts, most);
+            pixels
+        }
+        Edition::Of1986 => tile_clip1986::raise(counts, most),
+    }
+}
+
+// The counts clipped by the clip setting; with clip off the raw counts stay.
+fn clip_by(clip: Clip, pixels: u32, counts: &mut [u32], edition: Edition) -> u32
+    requires { ClipByAsks clip pixels counts.old }
+    ensures { (counts.new ≡ clipped_by edition clip pixels counts.old) × (result ≡ divided_by edition clip pixels counts.old) }
+{
+    match clip {
+        Clip::Off => pixels,
+        Clip::Factor(factor) => {
+            let most = tile_limit::limit(factor, pixels, counts.len() as u32);
+            clip_in(edition, pixels, most, counts)
+        }
+    }
+}
 
 // The sum of the counts of bins 0 to k.
 pub fn through(counts: &[u32], k: usize) -> u64
@@ -33,10 +62,10 @@ pub fn value(
     requires { ValueAsks clip pixels min max k counts.old }
     ensures { ValueGiven edition clip pixels min max k counts.old counts.new result }
 {
-    let clipped = tile_map::clip_by(clip, pixels, counts, edition);
+    let whole = clip_by(clip, pixels, counts, edition);
     let sum = through(&counts[..], k);
     let range = (max - min) as u64;
-    min + (sum * range / (clipped.over as u64)) as u32
+    min + (sum * range / (whole as u64)) as u32
 }
 
 // The mapped value of bin k at a limit in our edition, where only the bins of the part, from bin `at` on, hold anything. It is not known
