@@ -17,8 +17,9 @@ pub fn copy<T: Copy>(src: &[T], dst: &mut [T])
     requires { length src.now ≤ length dst.old }
     ensures { dst.new ≡ onto dst.old src.now }
 {
-    let n = src.len();
-    dst[..n].copy_from_slice(src);
+    for (i, entry) in src.iter().enumerate() {
+        dst[i] = *entry;
+    }
 }
 
 // Whether two slices hold the same numbers.
