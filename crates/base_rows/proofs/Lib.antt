@@ -1,2 +1,3 @@
 pub mod Walk
 pub mod Given
+pub mod Told

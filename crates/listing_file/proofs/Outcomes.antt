@@ -7,6 +7,7 @@ use mathlib.Core.Path.{◌≡◌, sym, ap, ◌∙◌}
 use Rattle.base_rows.specs.Run.{Run, Ran}
 use Rattle.base_rows.specs.Given.{said}
 use Rattle.base_rows.specs.Refuse.{Says}
+use Rattle.base_rows.proofs.Told.{told_same}
 use Rattle.pgm_write.specs.Write.{WriteOut, write_leaves}
 use Rattle.listing_file.specs.Listing.{list_of}
 use Rattle.listing_file.proofs.list.Kinds as list
@@ -35,8 +36,10 @@ Lists = Ran list_values
 pub list_ends : {c : ListCall} → Lists c → write_leaves c.answer c.out' ≡ list_of c.bytes c.out
 list_ends ran = rw ran.named ran.run.allowed
 
--- one answer and one output for each file and output lent; a film's refusal is part of the text
-pub list_determined : {c k : ListCall} → Lists c → Lists k → list_arguments c ≡ list_arguments k → (c.answer ≡ k.answer) × (c.out' ≡ k.out')
+-- one answer and one output for each file and output lent; a film's refusal is part of the text. `run.answer` is what the call itself answers, and `answer` what that says
+pub list_determined : {c k : ListCall} (x : Lists c) (y : Lists k) → list_arguments c ≡ list_arguments k
+    → (x.run.answer ≡ y.run.answer) × (c.answer ≡ k.answer) × (c.out' ≡ k.out')
 list_determined x y same =
     let e = list_ends x ∙ ap (λ g. list_of g.0 g.1) same ∙ sym (list_ends y) in
-    (ap (λ (z : WriteOut). z.answer) e, ap (λ (z : WriteOut). z.out) e)
+    let a = ap (λ (z : WriteOut). z.answer) e in
+    (told_same (ap (λ (z : ListCall). z.answer) x.named) (ap (λ (z : ListCall). z.answer) y.named) a, a, ap (λ (z : WriteOut). z.out) e)

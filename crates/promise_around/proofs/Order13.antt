@@ -13,6 +13,7 @@ use lib.ListN.{length, get_or, take, drop}
 use lib.Seq.{length-take-le, get_or-take}
 use Rattle.base_lists.specs.Lists.{filled}
 use Rattle.base_rows.specs.Refuse.{first, accepted, refused, says}
+use Rattle.base_rows.proofs.Told.{told_same}
 use Rattle.film_settings.specs.declared.Settings.{Settings}
 use Rattle.film_settings.specs.declared.Footer.{Footer}
 use Rattle.film_settings.specs.Settings.{bins_of, clip_one_of, size_rows}
@@ -67,18 +68,22 @@ module _ {c : AroundCall} (ran : Arounds c) where
   pub around_refusal_keeps : (n : ℕ) → c.answer ≡ refused n → (c.target' ≡ c.target) × (c.scratch' ≡ c.scratch)
   around_refusal_keeps n q = paint_memory (ended_kept (around_table _ _ _ _ _ _ _) (around_ends ran) q)
 
--- ---- any two outcomes are equal
+-- ---- any two outcomes are equal. `run.answer` is what the call itself answers, and `answer` what that says
 
 -- the same in what is read, the same answer and memory: any grid will do
-pub around_any_grid : {c d : AroundCall} → Arounds c → Arounds d → around_read c ≡ around_read d → (c.answer ≡ d.answer) × (c.target' ≡ d.target') × (c.scratch' ≡ d.scratch')
+pub around_any_grid : {c d : AroundCall} (x : Arounds c) (y : Arounds d) → around_read c ≡ around_read d
+    → (x.run.answer ≡ y.run.answer) × (c.answer ≡ d.answer) × (c.target' ≡ d.target') × (c.scratch' ≡ d.scratch')
 around_any_grid {c} {d} x y same =
+    let e =
     paint_parts
     (same_ends (λ (g : ℕ × ℕ × List ℕ × ℕ × Settings × List ℕ × List ℕ). around_of g.0 g.1 g.2 g.3 g.4 g.5 g.6)
     (around_ends x ∙ sym (around_gridless c.width c.height c.pixels c.side c.settings c.target c.scratch))
-    (around_ends y ∙ sym (around_gridless d.width d.height d.pixels d.side d.settings d.target d.scratch)) same)
+    (around_ends y ∙ sym (around_gridless d.width d.height d.pixels d.side d.settings d.target d.scratch)) same) in
+    (told_same (ap (λ (z : AroundCall). z.answer) x.named) (ap (λ (z : AroundCall). z.answer) y.named) e.0, e.0, e.1, e.2)
 
 -- "any two outcomes it allows are equal"
-pub around_determined : {c d : AroundCall} → Arounds c → Arounds d → around_arguments c ≡ around_arguments d → (c.answer ≡ d.answer) × (c.target' ≡ d.target') × (c.scratch' ≡ d.scratch')
+pub around_determined : {c d : AroundCall} (x : Arounds c) (y : Arounds d) → around_arguments c ≡ around_arguments d
+    → (x.run.answer ≡ y.run.answer) × (c.answer ≡ d.answer) × (c.target' ≡ d.target') × (c.scratch' ≡ d.scratch')
 around_determined x y same = around_any_grid x y (ap (λ (g : ℕ × ℕ × List ℕ × ℕ × Settings × List ℕ × List ℕ). (g.0, g.1, g.2, g.3, gridless g.4, g.5, g.6)) same)
 
 -- ---- an accepted film

@@ -2,9 +2,10 @@
 -- Promises alone: of every run of the calls by their contracts (Runs), each listed in docs/PROMISES.md. A name with ' is lent memory at the end.
 -- Assumes nothing.
 use Prim.Native.Nat.{ℕ}
-use mathlib.Core.Path.{◌≡◌}
+use mathlib.Core.Path.{◌≡◌, ap}
 use lib.ListN.{length}
 use Rattle.base_rows.specs.Refuse.{first, refused, says}
+use Rattle.base_rows.proofs.Told.{told_same}
 use Rattle.film_settings.specs.Settings.{record_of}
 use Rattle.film_tiles.specs.Tiles.{foot_of}
 use Rattle.byte_prepare.specs.Bytes.{byte_prepare_rows, byte_enhance_rows, byte_prepare_of, byte_enhance_of}
@@ -14,6 +15,7 @@ use Rattle.promise_bytes.proofs.Inside.{prepare_bytes_table, enhance_bytes_table
 use Rattle.promise_bytes.proofs.Runs.{PreparesBytes, prepare_bytes_ends, EnhancesBytes, enhance_bytes_ends, DrawsBytes, draw_bytes_ends}
 use Rattle.promise_films.proofs.Alike.{draw_both, draws_determined, enhance_memory, enhances_determined, prepare_memory, prepares_determined}
 use Rattle.promise_films.proofs.Accepted.{ended_kept, ended_says}
+use Rattle.promise_films.proofs.Told.{prepared_told}
 
 -- ---- what is said
 
@@ -51,18 +53,25 @@ enhance_bytes_refusal_keeps n ran q = enhance_memory (ended_kept (enhance_bytes_
 pub draw_bytes_refusal_keeps : {d : DrawCall} (n : ℕ) → DrawsBytes d → d.answer ≡ refused n → d.out' ≡ d.out
 draw_bytes_refusal_keeps n ran q = (draw_both (ended_kept (draw_bytes_table _ _ _ _ _ _ _ _ _) (draw_bytes_ends ran) q)).1
 
--- ---- any two outcomes are equal
+-- ---- any two outcomes are equal. `run.answer` is what the call itself answers, and `answer` what that says
 
 -- prepare on bytes: one answer, one map buffer, one scratch and one list at the end
-pub prepare_bytes_determined : {p q : PrepareCall} → PreparesBytes p → PreparesBytes q → prepare_arguments p ≡ prepare_arguments q
-    → (p.answer ≡ q.answer) × (p.map' ≡ q.map') × (p.scratch' ≡ q.scratch') × (p.list' ≡ q.list')
-prepare_bytes_determined {p} {q} x y same = prepares_determined byte_prepare_of p q (prepare_bytes_ends x) (prepare_bytes_ends y) same
+pub prepare_bytes_determined : {p q : PrepareCall} (x : PreparesBytes p) (y : PreparesBytes q) → prepare_arguments p ≡ prepare_arguments q
+    → (x.run.answer ≡ y.run.answer) × (p.answer ≡ q.answer) × (p.map' ≡ q.map') × (p.scratch' ≡ q.scratch') × (p.list' ≡ q.list')
+prepare_bytes_determined {p} {q} x y same =
+    let e = prepares_determined byte_prepare_of p q (prepare_bytes_ends x) (prepare_bytes_ends y) same in
+    (prepared_told (ap (λ (z : PrepareCall). z.answer) x.named) (ap (λ (z : PrepareCall). z.answer) y.named) e.0, e.0, e.1, e.2, e.3)
 
 -- enhance on bytes: one answer, one picture, one map buffer and one scratch
-pub enhance_bytes_determined : {e f : EnhanceCall} → EnhancesBytes e → EnhancesBytes f → enhance_arguments e ≡ enhance_arguments f
-    → (e.answer ≡ f.answer) × (e.pixels' ≡ f.pixels') × (e.map' ≡ f.map') × (e.scratch' ≡ f.scratch')
-enhance_bytes_determined {e} {f} x y same = enhances_determined byte_enhance_of e f (enhance_bytes_ends x) (enhance_bytes_ends y) same
+pub enhance_bytes_determined : {e f : EnhanceCall} (x : EnhancesBytes e) (y : EnhancesBytes f) → enhance_arguments e ≡ enhance_arguments f
+    → (x.run.answer ≡ y.run.answer) × (e.answer ≡ f.answer) × (e.pixels' ≡ f.pixels') × (e.map' ≡ f.map') × (e.scratch' ≡ f.scratch')
+enhance_bytes_determined {e} {f} x y same =
+    let k = enhances_determined byte_enhance_of e f (enhance_bytes_ends x) (enhance_bytes_ends y) same in
+    (told_same (ap (λ (z : EnhanceCall). z.answer) x.named) (ap (λ (z : EnhanceCall). z.answer) y.named) k.0, k.0, k.1, k.2, k.3)
 
 -- draw on bytes: one answer and one output
-pub draw_bytes_determined : {d f : DrawCall} → DrawsBytes d → DrawsBytes f → draw_arguments d ≡ draw_arguments f → (d.answer ≡ f.answer) × (d.out' ≡ f.out')
-draw_bytes_determined {d} {f} x y same = draws_determined byte_draw_of d f (draw_bytes_ends x) (draw_bytes_ends y) same
+pub draw_bytes_determined : {d f : DrawCall} (x : DrawsBytes d) (y : DrawsBytes f) → draw_arguments d ≡ draw_arguments f
+    → (x.run.answer ≡ y.run.answer) × (d.answer ≡ f.answer) × (d.out' ≡ f.out')
+draw_bytes_determined {d} {f} x y same =
+    let e = draws_determined byte_draw_of d f (draw_bytes_ends x) (draw_bytes_ends y) same in
+    (told_same (ap (λ (z : DrawCall). z.answer) x.named) (ap (λ (z : DrawCall). z.answer) y.named) e.0, e.0, e.1)

@@ -8,6 +8,7 @@ use mathlib.Core.Logic.{◌≢◌, inr}
 use mathlib.Core.Path.{◌≡◌, sym, ap, ◌∙◌}
 use lib.ListN.{length, get_or}
 use Rattle.base_rows.specs.Refuse.{first, accepted, refused, says}
+use Rattle.base_rows.proofs.Told.{told_same}
 use Rattle.tile_map.specs.Tile.{mapped_of}
 use Rattle.film_settings.specs.declared.MapRecord.{MapRecord}
 use Rattle.film_settings.specs.declared.Footer.{Footer}
@@ -32,6 +33,7 @@ use Rattle.byte_prepare.specs.Bytes.{byte_prepare_of, byte_enhance_of}
 use Rattle.promise_bytes.proofs.Either.{prepared_bytes_inside, HandedToDrawBytes, either_rendered, either_shown, kept_inside}
 use Rattle.promise_bytes.proofs.Alike.{prepare_bytes_kept, enhance_bytes_kept, draw_bytes_read}
 use Rattle.promise_films.proofs.Alike.{draws_alike, enhances_alike, prepares_alike}
+use Rattle.promise_films.proofs.Told.{prepared_told}
 use Rattle.promise_films.proofs.Whole.{whole_as_film, whole_by_rule, whole_ours_by_rule}
 
 -- ---- what prepare left
@@ -96,18 +98,25 @@ drawn_bytes_as_enhanced {p} {foot} {d} from {e} ran too =
 -- ---- what is read
 
 -- "Bins B: 2 to 4096. 0 means 128.": prepare on bytes answers and leaves the same for 0 as for 128
-pub prepare_bytes_alike : {p q : PrepareCall} → PreparesBytes p → PreparesBytes q → prepare_read p ≡ prepare_read q
-    → (p.answer ≡ q.answer) × (p.map' ≡ q.map') × (p.scratch' ≡ q.scratch') × (p.list' ≡ q.list')
-prepare_bytes_alike {p} {q} x y same = prepares_alike byte_prepare_of (λ film w h pic s m t n. prepare_bytes_kept w h pic s film m t n) p q (prepare_bytes_ends x) (prepare_bytes_ends y) same
+pub prepare_bytes_alike : {p q : PrepareCall} (x : PreparesBytes p) (y : PreparesBytes q) → prepare_read p ≡ prepare_read q
+    → (x.run.answer ≡ y.run.answer) × (p.answer ≡ q.answer) × (p.map' ≡ q.map') × (p.scratch' ≡ q.scratch') × (p.list' ≡ q.list')
+prepare_bytes_alike {p} {q} x y same =
+    let e = prepares_alike byte_prepare_of (λ film w h pic s m t n. prepare_bytes_kept w h pic s film m t n) p q (prepare_bytes_ends x) (prepare_bytes_ends y) same in
+    (prepared_told (ap (λ (z : PrepareCall). z.answer) x.named) (ap (λ (z : PrepareCall). z.answer) y.named) e.0, e.0, e.1, e.2, e.3)
 
 -- and so does enhance on bytes
-pub enhance_bytes_alike : {e f : EnhanceCall} → EnhancesBytes e → EnhancesBytes f → enhance_read e ≡ enhance_read f
-    → (e.answer ≡ f.answer) × (e.pixels' ≡ f.pixels') × (e.map' ≡ f.map') × (e.scratch' ≡ f.scratch')
-enhance_bytes_alike {e} {f} x y same = enhances_alike byte_enhance_of enhance_bytes_kept e f (enhance_bytes_ends x) (enhance_bytes_ends y) same
+pub enhance_bytes_alike : {e f : EnhanceCall} (x : EnhancesBytes e) (y : EnhancesBytes f) → enhance_read e ≡ enhance_read f
+    → (x.run.answer ≡ y.run.answer) × (e.answer ≡ f.answer) × (e.pixels' ≡ f.pixels') × (e.map' ≡ f.map') × (e.scratch' ≡ f.scratch')
+enhance_bytes_alike {e} {f} x y same =
+    let k = enhances_alike byte_enhance_of enhance_bytes_kept e f (enhance_bytes_ends x) (enhance_bytes_ends y) same in
+    (told_same (ap (λ (z : EnhanceCall). z.answer) x.named) (ap (λ (z : EnhanceCall). z.answer) y.named) k.0, k.0, k.1, k.2, k.3)
 
 -- and draw on bytes, where the same is so of the record, and of the map buffer nothing is read but the mappings' entries
-pub draw_bytes_alike : {d f : DrawCall} → DrawsBytes d → DrawsBytes f → draw_read d ≡ draw_read f → (d.answer ≡ f.answer) × (d.out' ≡ f.out')
-draw_bytes_alike {d} {f} x y same = draws_alike byte_draw_of (λ film w h pic s r win m out. draw_bytes_read w h pic s film r win m out) d f (draw_bytes_ends x) (draw_bytes_ends y) same
+pub draw_bytes_alike : {d f : DrawCall} (x : DrawsBytes d) (y : DrawsBytes f) → draw_read d ≡ draw_read f
+    → (x.run.answer ≡ y.run.answer) × (d.answer ≡ f.answer) × (d.out' ≡ f.out')
+draw_bytes_alike {d} {f} x y same =
+    let e = draws_alike byte_draw_of (λ film w h pic s r win m out. draw_bytes_read w h pic s film r win m out) d f (draw_bytes_ends x) (draw_bytes_ends y) same in
+    (told_same (ap (λ (z : DrawCall). z.answer) x.named) (ap (λ (z : DrawCall). z.answer) y.named) e.0, e.0, e.1)
 
 -- ---- a record of another film
 

@@ -11,6 +11,7 @@ use lib.ListN.{length, get_or}
 use mathlib.Core.List.{List}
 use native.Mathlib.Nat.{le_of_eq}
 use Rattle.base_rows.specs.Refuse.{first, refused, accepted}
+use Rattle.base_rows.proofs.Told.{told_same}
 use Rattle.film_settings.specs.Settings.{setting_rows, clip_one_of}
 use Rattle.film_prepare.specs.Prepare.{PrepareOut, EnhanceOut, prepare_leaves, prepare_of, enhance_leaves, enhance_of}
 use Rattle.film_draw.specs.Draw.{DrawOut, draw_leaves, draw_of}
@@ -39,6 +40,7 @@ use Rattle.promise_bytes.proofs.Wide.{Narrowed, widened_same, narrowed_same, Pre
 use Rattle.promise_bytes.proofs.Demand2.{draw_bytes_other_film_refused}
 use Rattle.promise_bytes.proofs.Either.{PreparesEither, DrawsEither, EnhancesEither, Inside, kept_inside, either_shown, accepted_shown, either_rendered, HandedEither, DrawnFromEither}
 use Rattle.promise_bytes.proofs.Ended.{prepare_bytes_made}
+use Rattle.promise_films.proofs.Told.{prepared_told}
 
 -- ---- outside the profile: 30, where none of 1 to 10 applies
 
@@ -88,16 +90,17 @@ draw_bytes_never_13_18 {d} ran =
 
 -- ---- widened, run and narrowed again
 
--- the same answer, scratch and list, and the map buffer narrowed again is the byte call's
-pub widened_prepare : {b p : PrepareCall} {map'' : List ℕ} → PreparesBytes b → Prepares p → first (profile_rows b.settings) ≡ 0 → PrepareOver b p → Narrowed p.map' map''
-    → (b.answer ≡ p.answer) × (b.map' ≡ map'') × (b.scratch' ≡ p.scratch') × (b.list' ≡ p.list')
+-- the same answer, scratch and list, and the map buffer narrowed again is the byte call's. `run.answer` is what the call itself answers, and `answer` what that says
+pub widened_prepare : {b p : PrepareCall} {map'' : List ℕ} (ran : PreparesBytes b) (wide : Prepares p) → first (profile_rows b.settings) ≡ 0 → PrepareOver b p → Narrowed p.map' map''
+    → (ran.run.answer ≡ wide.run.answer) × (b.answer ≡ p.answer) × (b.map' ≡ map'') × (b.scratch' ≡ p.scratch') × (b.list' ≡ p.list')
 widened_prepare {b} {p} ran wide inside way back =
     let x : prepare_leaves p.answer p.map' p.scratch' p.list' ≡ prepare_of p.film p.width p.height p.pixels p.settings p.map p.scratch p.list = prepare_ends wide in
     let e : prepare_leaves b.answer b.map' b.scratch' b.list' ≡ prepare_leaves p.answer p.map' p.scratch' p.list' =
     prepare_bytes_ends ran
     ∙ prepare_inside b.film b.width b.height b.pixels b.settings b.map b.scratch b.list inside
     ∙ sym (x ∙ rw (way.film, way.width, way.height, way.settings, way.scratch, way.list, widened_same way.pixels, widened_same way.map) refl) in
-    (ap (λ (z : PrepareOut). z.answer) e, ap (λ (z : PrepareOut). z.map) e ∙ sym (narrowed_same back), ap (λ (z : PrepareOut). z.scratch) e, ap (λ (z : PrepareOut). z.list) e)
+    let a = ap (λ (z : PrepareOut). z.answer) e in
+    (prepared_told (ap (λ (z : PrepareCall). z.answer) ran.named) (ap (λ (z : PrepareCall). z.answer) wide.named) a, a, ap (λ (z : PrepareOut). z.map) e ∙ sym (narrowed_same back), ap (λ (z : PrepareOut). z.scratch) e, ap (λ (z : PrepareOut). z.list) e)
 
 -- and what narrow asks of the map buffer is met, where film and map buffer were bytes
 pub prepare_narrow_met : {b p : PrepareCall} → Prepares p → first (profile_rows b.settings) ≡ 0 → PrepareOver b p → all is_byte b.pixels ≡ true → all is_byte b.map ≡ true
@@ -108,16 +111,17 @@ prepare_narrow_met {b} {p} wide inside way bytes entries =
     (prepare_leaves_bytes b.width b.height b.pixels b.settings b.map b.scratch (le_of_eq (profile b.settings inside).max) bytes entries p.film p.list)
 
 -- the same answer and scratch, and picture and map buffer narrowed again are the byte call's
-pub widened_enhance : {b e : EnhanceCall} {pixels'' map'' : List ℕ} → EnhancesBytes b → Enhances e → first (profile_rows b.settings) ≡ 0 → EnhanceOver b e
+pub widened_enhance : {b e : EnhanceCall} {pixels'' map'' : List ℕ} (ran : EnhancesBytes b) (wide : Enhances e) → first (profile_rows b.settings) ≡ 0 → EnhanceOver b e
     → Narrowed e.pixels' pixels'' → Narrowed e.map' map''
-    → (b.answer ≡ e.answer) × (b.pixels' ≡ pixels'') × (b.map' ≡ map'') × (b.scratch' ≡ e.scratch')
+    → (ran.run.answer ≡ wide.run.answer) × (b.answer ≡ e.answer) × (b.pixels' ≡ pixels'') × (b.map' ≡ map'') × (b.scratch' ≡ e.scratch')
 widened_enhance {b} {e} ran wide inside way picture back =
     let x : enhance_leaves e.answer e.pixels' e.map' e.scratch' ≡ enhance_of e.width e.height e.pixels e.settings e.map e.scratch = enhance_ends wide in
     let k : enhance_leaves b.answer b.pixels' b.map' b.scratch' ≡ enhance_leaves e.answer e.pixels' e.map' e.scratch' =
     enhance_bytes_ends ran
     ∙ enhance_inside b.width b.height b.pixels b.settings b.map b.scratch inside
     ∙ sym (x ∙ rw (way.width, way.height, way.settings, way.scratch, widened_same way.pixels, widened_same way.map) refl) in
-    (ap (λ (z : EnhanceOut). z.answer) k, ap (λ (z : EnhanceOut). z.picture) k ∙ sym (narrowed_same picture), ap (λ (z : EnhanceOut). z.map) k ∙ sym (narrowed_same back), ap (λ (z : EnhanceOut). z.scratch) k)
+    let a = ap (λ (z : EnhanceOut). z.answer) k in
+    (told_same (ap (λ (z : EnhanceCall). z.answer) ran.named) (ap (λ (z : EnhanceCall). z.answer) wide.named) a, a, ap (λ (z : EnhanceOut). z.picture) k ∙ sym (narrowed_same picture), ap (λ (z : EnhanceOut). z.map) k ∙ sym (narrowed_same back), ap (λ (z : EnhanceOut). z.scratch) k)
 
 -- and what narrow asks of picture and map buffer is met
 pub enhance_narrow_met : {b e : EnhanceCall} → Enhances e → first (profile_rows b.settings) ≡ 0 → EnhanceOver b e → all is_byte b.pixels ≡ true → all is_byte b.map ≡ true
@@ -129,15 +133,16 @@ enhance_narrow_met {b} {e} wide inside way bytes entries =
     (ap (λ (z : EnhanceOut). all is_byte z.picture) x ∙ left.0, ap (λ (z : EnhanceOut). all is_byte z.map) x ∙ left.1)
 
 -- the same answer, and the output narrowed again is the byte call's
-pub widened_draw : {b d : DrawCall} {out'' : List ℕ} → DrawsBytes b → Draws d → first (profile_rows b.settings) ≡ 0 → DrawOver b d → Narrowed d.out' out''
-    → (b.answer ≡ d.answer) × (b.out' ≡ out'')
+pub widened_draw : {b d : DrawCall} {out'' : List ℕ} (ran : DrawsBytes b) (wide : Draws d) → first (profile_rows b.settings) ≡ 0 → DrawOver b d → Narrowed d.out' out''
+    → (ran.run.answer ≡ wide.run.answer) × (b.answer ≡ d.answer) × (b.out' ≡ out'')
 widened_draw {b} {d} ran wide inside way back =
     let x : draw_leaves d.answer d.out' ≡ draw_of d.film d.width d.height d.pixels d.settings d.kept d.window d.map d.out = draw_ends wide in
     let e : draw_leaves b.answer b.out' ≡ draw_leaves d.answer d.out' =
     draw_bytes_ends ran
     ∙ draw_inside b.film b.width b.height b.pixels b.settings b.kept b.window b.map b.out inside
     ∙ sym (x ∙ rw (way.film, way.width, way.height, way.settings, way.kept, way.window, widened_same way.pixels, widened_same way.map, widened_same way.out) refl) in
-    (ap (λ (z : DrawOut). z.answer) e, ap (λ (z : DrawOut). z.out) e ∙ sym (narrowed_same back))
+    let a = ap (λ (z : DrawOut). z.answer) e in
+    (told_same (ap (λ (z : DrawCall). z.answer) ran.named) (ap (λ (z : DrawCall). z.answer) wide.named) a, a, ap (λ (z : DrawOut). z.out) e ∙ sym (narrowed_same back))
 
 -- and what narrow asks of the output is met
 pub draw_narrow_met : {b d : DrawCall} → Draws d → first (profile_rows b.settings) ≡ 0 → DrawOver b d → all is_byte b.out ≡ true → all is_byte d.out' ≡ true

@@ -11,6 +11,7 @@ use mathlib.Core.List.{List, [], ◌∷◌}
 use Rattle.base_lists.specs.Lists.{onto}
 use Rattle.base_lists.proofs.Fills.{take_onto, drop_onto}
 use Rattle.base_rows.specs.Refuse.{first, refused, accepted, says}
+use Rattle.base_rows.proofs.Told.{told_same}
 use Rattle.film_settings.specs.Settings.{entries_of, record_of, clip_one_of, bins_of}
 use Rattle.film_tiles.specs.Tiles.{foot_of}
 use Rattle.film_prepare.specs.Prepare.{PrepareOut}
@@ -37,6 +38,7 @@ use Rattle.promise_films.proofs.Demand2.{draw_other_film_refused}
 use Rattle.promise_films.proofs.Made.{Made, HandedFilm, handed_done, EnhancesSame, shown_by_rule, shown_as_film, shown_as_enhanced, made_by_rule}
 use Rattle.promise_films.proofs.Ended.{draw_shown}
 use Rattle.promise_films.proofs.Alike.{prepare_memory, prepare_parts, same_ends}
+use Rattle.promise_films.proofs.Told.{prepared_told}
 
 -- ---- what is said
 
@@ -65,31 +67,38 @@ count_refusal_keeps n ran q = ap (λ (y : CountOut). y.counts) (ended_kept (coun
 pub map_refusal_keeps : {d : MapCall} (n : ℕ) → Maps d → d.answer ≡ refused n → (d.map' ≡ d.map) × (d.scratch' ≡ d.scratch) × (d.list' ≡ d.list)
 map_refusal_keeps n ran q = prepare_memory (ended_kept (map_table _ _ _ _ _ _ _ _) (map_ends ran) q)
 
--- ---- any two outcomes are equal
+-- ---- any two outcomes are equal. `run.answer` is what the call itself answers, and `answer` what that says
 
 -- counting: one answer, and one buffer of counts
-pub count_determined : {c d : CountCall} → Counts c → Counts d → count_arguments c ≡ count_arguments d → (c.answer ≡ d.answer) × (c.counts' ≡ d.counts')
+pub count_determined : {c d : CountCall} (x : Counts c) (y : Counts d) → count_arguments c ≡ count_arguments d
+    → (x.run.answer ≡ y.run.answer) × (c.answer ≡ d.answer) × (c.counts' ≡ d.counts')
 count_determined x y same =
     let e = same_ends (λ g. count_of g.0 g.1 g.2 g.3 g.4) (count_ends x) (count_ends y) same in
-    (ap (λ (z : CountOut). z.answer) e, ap (λ (z : CountOut). z.counts) e)
+    let a = ap (λ (z : CountOut). z.answer) e in
+    (told_same (ap (λ (z : CountCall). z.answer) x.named) (ap (λ (z : CountCall). z.answer) y.named) a, a, ap (λ (z : CountOut). z.counts) e)
 
 -- "Changing only the factor": settings that differ in the clip alone, or in bins 0 and 128, count alike
-pub count_any_clip : {c d : CountCall} → Counts c → Counts d → c.width ≡ d.width → c.height ≡ d.height → c.pixels ≡ d.pixels → AlikeButClip c.settings d.settings
-    → c.counts ≡ d.counts → (c.answer ≡ d.answer) × (c.counts' ≡ d.counts')
+pub count_any_clip : {c d : CountCall} (x : Counts c) (y : Counts d) → c.width ≡ d.width → c.height ≡ d.height → c.pixels ≡ d.pixels → AlikeButClip c.settings d.settings
+    → c.counts ≡ d.counts → (x.run.answer ≡ y.run.answer) × (c.answer ≡ d.answer) × (c.counts' ≡ d.counts')
 count_any_clip {c} {d} x y width height pixels like counts =
     let e : count_leaves c.answer c.counts' ≡ count_leaves d.answer d.counts' =
     count_ends x ∙ rw (width, height, pixels, counts) (count_alike d.width d.height d.pixels like d.counts) ∙ sym (count_ends y) in
-    (ap (λ (z : CountOut). z.answer) e, ap (λ (z : CountOut). z.counts) e)
+    let a = ap (λ (z : CountOut). z.answer) e in
+    (told_same (ap (λ (z : CountCall). z.answer) x.named) (ap (λ (z : CountCall). z.answer) y.named) a, a, ap (λ (z : CountOut). z.counts) e)
 
 -- mapping reads no more of the counts than an entry for each bin of each tile: what lies behind the front decides nothing
-pub map_alike : {d e : MapCall} → Maps d → Maps e → map_read d ≡ map_read e
-    → (d.answer ≡ e.answer) × (d.map' ≡ e.map') × (d.scratch' ≡ e.scratch') × (d.list' ≡ e.list')
-map_alike {d} {e} x y same = prepare_parts (same_ends (λ g. map_of g.0 g.1 g.2 g.3 g.4 g.5 g.6 g.7) (map_ends x ∙ sym (map_seen d)) (map_ends y ∙ sym (map_seen e)) same)
+pub map_alike : {d e : MapCall} (x : Maps d) (y : Maps e) → map_read d ≡ map_read e
+    → (x.run.answer ≡ y.run.answer) × (d.answer ≡ e.answer) × (d.map' ≡ e.map') × (d.scratch' ≡ e.scratch') × (d.list' ≡ e.list')
+map_alike {d} {e} x y same =
+    let k = prepare_parts (same_ends (λ g. map_of g.0 g.1 g.2 g.3 g.4 g.5 g.6 g.7) (map_ends x ∙ sym (map_seen d)) (map_ends y ∙ sym (map_seen e)) same) in
+    (prepared_told (ap (λ (z : MapCall). z.answer) x.named) (ap (λ (z : MapCall). z.answer) y.named) k.0, k.0, k.1, k.2, k.3)
 
 -- mapping: one answer, one map buffer, one scratch and one list
-pub map_determined : {d e : MapCall} → Maps d → Maps e → map_arguments d ≡ map_arguments e
-    → (d.answer ≡ e.answer) × (d.map' ≡ e.map') × (d.scratch' ≡ e.scratch') × (d.list' ≡ e.list')
-map_determined x y same = prepare_parts (same_ends (λ g. map_of g.0 g.1 g.2 g.3 g.4 g.5 g.6 g.7) (map_ends x) (map_ends y) same)
+pub map_determined : {d e : MapCall} (x : Maps d) (y : Maps e) → map_arguments d ≡ map_arguments e
+    → (x.run.answer ≡ y.run.answer) × (d.answer ≡ e.answer) × (d.map' ≡ e.map') × (d.scratch' ≡ e.scratch') × (d.list' ≡ e.list')
+map_determined x y same =
+    let k = prepare_parts (same_ends (λ g. map_of g.0 g.1 g.2 g.3 g.4 g.5 g.6 g.7) (map_ends x) (map_ends y) same) in
+    (prepared_told (ap (λ (z : MapCall). z.answer) x.named) (ap (λ (z : MapCall). z.answer) y.named) k.0, k.0, k.1, k.2, k.3)
 
 -- ---- "fills only the front of a lent buffer with each tile's raw counts in the mappings' order"
 
@@ -113,13 +122,15 @@ module _ {c : CountCall} (ran : Counts c) (done : c.answer ≡ accepted tt) wher
 -- ---- counting then mapping is prepare
 
 -- it answers and leaves what prepare does
-pub mapped_as_prepare : {p : PrepareCall} {cs : List ℕ} {d : MapCall} → Prepares p → CountedAs p.width p.height p.pixels p.settings cs → MappedAs p cs d
-    → (d.answer ≡ p.answer) × (d.map' ≡ p.map') × (d.scratch' ≡ p.scratch') × (d.list' ≡ p.list')
+pub mapped_as_prepare : {p : PrepareCall} {cs : List ℕ} {d : MapCall} (prepares : Prepares p) → CountedAs p.width p.height p.pixels p.settings cs → (same : MappedAs p cs d)
+    → (same.maps.run.answer ≡ prepares.run.answer) × (d.answer ≡ p.answer) × (d.map' ≡ p.map') × (d.scratch' ≡ p.scratch') × (d.list' ≡ p.list')
 mapped_as_prepare {p} {cs} {d} prepares by same =
+    let k =
     prepare_parts
     (map_ends same.maps
     ∙ rw (same.film, same.width, same.height, same.settings, same.counts, same.map, same.scratch, same.list) (counted_maps by p.film p.map p.scratch p.list)
-    ∙ sym (prepare_ends prepares))
+    ∙ sym (prepare_ends prepares)) in
+    (prepared_told (ap (λ (z : MapCall). z.answer) same.maps.named) (ap (λ (z : PrepareCall). z.answer) prepares.named) k.0, k.0, k.1, k.2, k.3)
 
 module _ {p : PrepareCall} {r : MapRecord} {foot : Footer} (prepares : Prepares p) (prepared : p.answer ≡ accepted (r, foot)) {c : CountCall} (of : CountsFilm p c) where
   -- counting accepts it
@@ -129,7 +140,7 @@ module _ {p : PrepareCall} {r : MapRecord} {foot : Footer} (prepares : Prepares 
   -- and mapping what it left gives prepare's record and footer, map buffer, scratch and list
   pub counted_then_mapped : {d : MapCall} → MappedAs p c.counts' d
       → (d.answer ≡ accepted (r, foot)) × (d.map' ≡ p.map') × (d.scratch' ≡ p.scratch') × (d.list' ≡ p.list')
-  counted_then_mapped same = let (answer, map, scratch, list) = mapped_as_prepare prepares (counted_as_lem prepares prepared of) same in (answer ∙ prepared, map, scratch, list)
+  counted_then_mapped same = let (own, answer, map, scratch, list) = mapped_as_prepare prepares (counted_as_lem prepares prepared of) same in (answer ∙ prepared, map, scratch, list)
 
 -- mapping in turn over the same counts ends, each time, as prepare in turn does
 pub in_turn : {w h : ℕ} {pic : List ℕ} {s : Settings} {cs : List ℕ} → CountedAs w h pic s cs → (film : ℕ) (fs : List Clipping) (m t n : List ℕ) (es es' : List PrepareOut)

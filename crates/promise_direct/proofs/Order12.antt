@@ -9,6 +9,7 @@ use native.Mathlib.Nat.{le_refl}
 use native.Mathlib.Omega.{arith}
 use lib.ListN.{length, get_or}
 use Rattle.base_rows.specs.Refuse.{first, accepted, refused, says}
+use Rattle.base_rows.proofs.Told.{told_same}
 use Rattle.film_settings.specs.declared.Footer.{Footer}
 use Rattle.film_settings.specs.Settings.{entries_of}
 use Rattle.film_tiles.specs.Tiles.{foot_of}
@@ -60,9 +61,12 @@ direct_seventeen {d} ran other =
 pub direct_refusal_keeps : {d : DirectCall} (n : ℕ) → Directs d → d.answer ≡ refused n → (d.target' ≡ d.target) × (d.scratch' ≡ d.scratch)
 direct_refusal_keeps n ran q = paint_memory (ended_kept (direct_table _ _ _ _ _ _) (direct_ends ran) q)
 
--- the same arguments, the same answer and memory
-pub direct_determined : {d f : DirectCall} → Directs d → Directs f → direct_arguments d ≡ direct_arguments f → (d.answer ≡ f.answer) × (d.target' ≡ f.target') × (d.scratch' ≡ f.scratch')
-direct_determined x y same = paint_parts (same_ends (λ (g : ℕ × ℕ × List ℕ × _ × List ℕ × List ℕ). direct_of g.0 g.1 g.2 g.3 g.4 g.5) (direct_ends x) (direct_ends y) same)
+-- the same arguments, the same answer and memory. `run.answer` is what the call itself answers, and `answer` what that says
+pub direct_determined : {d f : DirectCall} (x : Directs d) (y : Directs f) → direct_arguments d ≡ direct_arguments f
+    → (x.run.answer ≡ y.run.answer) × (d.answer ≡ f.answer) × (d.target' ≡ f.target') × (d.scratch' ≡ f.scratch')
+direct_determined x y same =
+    let e = paint_parts (same_ends (λ (g : ℕ × ℕ × List ℕ × _ × List ℕ × List ℕ). direct_of g.0 g.1 g.2 g.3 g.4 g.5) (direct_ends x) (direct_ends y) same) in
+    (told_same (ap (λ (z : DirectCall). z.answer) x.named) (ap (λ (z : DirectCall). z.answer) y.named) e.0, e.0, e.1, e.2)
 
 -- what is shown of each pixel of an accepted film: by the rule, and the film's own at the factor 1.0
 pub direct_shows : {d : DirectCall} {foot : Footer} → Directs d → d.answer ≡ accepted foot → (i j : ℕ) → i < d.width → j < d.height
@@ -74,11 +78,13 @@ direct_shows {d} ran done i j l k =
 -- ---- beside enhance
 
 -- order 12, where enhance does not say 11
-pub direct_is_enhance : {d : DirectCall} {e : EnhanceCall} → Directs d → Enhances e → SameFilm d e → e.answer ≢ refused 11 → IsEnhance d e
+pub direct_is_enhance : {d : DirectCall} {e : EnhanceCall} (ran : Directs d) (over : Enhances e) → SameFilm d e → e.answer ≢ refused 11
+    → IsEnhance d e ran.run.answer over.run.answer
 direct_is_enhance {d} {e} ran over same not =
     let ends = enhance_ends over in
     let no : rows_of e ≢ 11 = λ q. not (ended_row e ends ∙ refused_says (rows_of e) _ q) in
-    record { answer = answers_by ran ends same no; scratch = scratch_by ran ends same no; picture = λ done. picture_by ran ends same done (λ i j l k. (whole_seen e ends done l k).shows) }
+    let answers = answers_by ran ends same no in
+    record { own = told_same (ap (λ (z : DirectCall). z.answer) ran.named) (ap (λ (z : EnhanceCall). z.answer) over.named) answers; answer = answers; scratch = scratch_by ran ends same no; picture = λ done. picture_by ran ends same done (λ i j l k. (whole_seen e ends done l k).shows) }
 
 -- and what it says where enhance says 11: what enhance's rows come to with a map buffer of just the entries that it needs
 pub direct_without_map : {d : DirectCall} → Directs d → length d.target ≡ d.width * d.height
@@ -90,17 +96,20 @@ direct_without_map {d} ran e =
     (sym (fits_same d.width d.height d.pixels d.settings (entries_of d.settings) (length d.scratch) (length d.target) e (le_refl _)))
 
 -- so it is with every map buffer that is long enough: where enhance says 11, direct says what enhance would with such a one
-pub direct_any_map : {d : DirectCall} {e : EnhanceCall} → Directs d → Enhances e → SameFilm d e → entries_of e.settings ≤ length e.map → IsEnhance d e
+pub direct_any_map : {d : DirectCall} {e : EnhanceCall} (ran : Directs d) (over : Enhances e) → SameFilm d e → entries_of e.settings ≤ length e.map
+    → IsEnhance d e ran.run.answer over.run.answer
 direct_any_map {d} {e} ran over same long =
     direct_is_enhance ran over same
     (λ q. fits_not_11 e.width e.height e.pixels e.settings (length e.map) (length e.scratch) (e.width * e.height) refl long (says_refused _ _ (sym (ended_row e (enhance_ends over)) ∙ q)))
 
 -- and of every film that the byte call accepts, which direct is handed widened
-pub direct_bytes : {d : DirectCall} {e : EnhanceCall} {foot : Footer} → Directs d → EnhancesBytes e → SameFilm d e → e.answer ≡ accepted foot → IsEnhance d e
+pub direct_bytes : {d : DirectCall} {e : EnhanceCall} {foot : Footer} (ran : Directs d) (over : EnhancesBytes e) → SameFilm d e → e.answer ≡ accepted foot
+    → IsEnhance d e ran.run.answer over.run.answer
 direct_bytes {d} {e} ran over same done =
     let ends = enhance_bytes_as_wide over done in
     let no : rows_of e ≢ 11 = λ q. omega (arith, q, ended_none (enhance_table _ _ _ _ _ _) ends done) in
-    record { answer = answers_by ran ends same no; scratch = scratch_by ran ends same no; picture = λ again. picture_by ran ends same again (λ i j l k. (whole_seen e ends again l k).shows) }
+    let answers = answers_by ran ends same no in
+    record { own = told_same (ap (λ (z : DirectCall). z.answer) ran.named) (ap (λ (z : EnhanceCall). z.answer) over.named) answers; answer = answers; scratch = scratch_by ran ends same no; picture = λ again. picture_by ran ends same again (λ i j l k. (whole_seen e ends again l k).shows) }
 
 -- ---- how far a scratch reaches
 

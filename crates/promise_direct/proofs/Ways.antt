@@ -4,6 +4,8 @@
 use Prim.Native.Nat.{ℕ, ◌+◌, ◌*◌}
 use mathlib.Core.Path.{◌≡◌}
 use lib.ListN.{length, get_or}
+use Rattle.std.specs.Prelude.{Result}
+use Rattle.base_rows.specs.declared.Refusal.{Refusal}
 use Rattle.base_rows.specs.Refuse.{accepted}
 use Rattle.film_settings.specs.declared.Footer.{Footer}
 use Rattle.film_settings.specs.Settings.{kept_of}
@@ -30,8 +32,9 @@ pub record SameFilm (d : DirectCall) (e : EnhanceCall) : Type 0 where
   pub target : length d.target ≡ d.width * d.height
   pub scratch : length d.scratch ≡ length e.scratch
 
--- what is equal, the scratch where both scratches were
-pub record IsEnhance (d : DirectCall) (e : EnhanceCall) : Type 0 where
+-- what is equal: what the two calls themselves answer, what that says, the scratch where both scratches were, and the picture
+pub record IsEnhance (d : DirectCall) (e : EnhanceCall) (of_direct of_enhance : Result Footer Refusal) : Type 0 where
+  pub own : of_direct ≡ of_enhance
   pub answer : d.answer ≡ e.answer
   pub scratch : d.scratch ≡ e.scratch → d.scratch' ≡ e.scratch'
   pub picture : {foot : Footer} → e.answer ≡ accepted foot → d.target' ≡ e.pixels'

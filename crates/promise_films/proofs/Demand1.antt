@@ -7,6 +7,7 @@ use mathlib.Core.Path.{◌≡◌, sym, ap, ◌∙◌}
 use lib.ListN.{length}
 use mathlib.Core.List.{List, [], ◌++◌}
 use Rattle.base_rows.specs.Refuse.{first, refused, says}
+use Rattle.base_rows.proofs.Told.{told_same}
 use Rattle.film_settings.specs.Settings.{record_of}
 use Rattle.film_tiles.specs.Tiles.{foot_of}
 use Rattle.film_prepare.specs.Prepare.{enhance_rows, prepare_rows, prepare_of, enhance_of}
@@ -22,6 +23,7 @@ use Rattle.promise_films.proofs.Files.{found_says, hash_says, other_says, refuse
 use Rattle.promise_films.proofs.Ways.{ReadTwice}
 use Rattle.promise_films.proofs.Alike.{prepare_memory, enhance_memory, draw_both, prepares_determined, enhances_determined, draws_determined}
 use Rattle.promise_films.proofs.Back.{twice_found}
+use Rattle.promise_films.proofs.Told.{prepared_told, sizes_told}
 
 -- ---- films: what is said
 
@@ -62,21 +64,28 @@ enhance_refusal_keeps n ran q = enhance_memory (ended_kept (enhance_table _ _ _ 
 pub draw_refusal_keeps : {d : DrawCall} (n : ℕ) → Draws d → d.answer ≡ refused n → d.out' ≡ d.out
 draw_refusal_keeps n ran q = (draw_both (ended_kept (draw_table _ _ _ _ _ _ _ _ _) (draw_ends ran) q)).1
 
--- ---- films: any two outcomes are equal
+-- ---- films: any two outcomes are equal. `run.answer` is what the call itself answers, and `answer` what that says
 
 -- prepare: one answer, one map buffer, one scratch and one list at the end
-pub prepare_determined : {p q : PrepareCall} → Prepares p → Prepares q → prepare_arguments p ≡ prepare_arguments q
-    → (p.answer ≡ q.answer) × (p.map' ≡ q.map') × (p.scratch' ≡ q.scratch') × (p.list' ≡ q.list')
-prepare_determined {p} {q} x y same = prepares_determined prepare_of p q (prepare_ends x) (prepare_ends y) same
+pub prepare_determined : {p q : PrepareCall} (x : Prepares p) (y : Prepares q) → prepare_arguments p ≡ prepare_arguments q
+    → (x.run.answer ≡ y.run.answer) × (p.answer ≡ q.answer) × (p.map' ≡ q.map') × (p.scratch' ≡ q.scratch') × (p.list' ≡ q.list')
+prepare_determined {p} {q} x y same =
+    let e = prepares_determined prepare_of p q (prepare_ends x) (prepare_ends y) same in
+    (prepared_told (ap (λ (z : PrepareCall). z.answer) x.named) (ap (λ (z : PrepareCall). z.answer) y.named) e.0, e.0, e.1, e.2, e.3)
 
 -- enhance: one answer, one picture, one map buffer and one scratch at the end
-pub enhance_determined : {e f : EnhanceCall} → Enhances e → Enhances f → enhance_arguments e ≡ enhance_arguments f
-    → (e.answer ≡ f.answer) × (e.pixels' ≡ f.pixels') × (e.map' ≡ f.map') × (e.scratch' ≡ f.scratch')
-enhance_determined {e} {f} x y same = enhances_determined enhance_of e f (enhance_ends x) (enhance_ends y) same
+pub enhance_determined : {e f : EnhanceCall} (x : Enhances e) (y : Enhances f) → enhance_arguments e ≡ enhance_arguments f
+    → (x.run.answer ≡ y.run.answer) × (e.answer ≡ f.answer) × (e.pixels' ≡ f.pixels') × (e.map' ≡ f.map') × (e.scratch' ≡ f.scratch')
+enhance_determined {e} {f} x y same =
+    let k = enhances_determined enhance_of e f (enhance_ends x) (enhance_ends y) same in
+    (told_same (ap (λ (z : EnhanceCall). z.answer) x.named) (ap (λ (z : EnhanceCall). z.answer) y.named) k.0, k.0, k.1, k.2, k.3)
 
 -- draw: one answer and one output at the end
-pub draw_determined : {d f : DrawCall} → Draws d → Draws f → draw_arguments d ≡ draw_arguments f → (d.answer ≡ f.answer) × (d.out' ≡ f.out')
-draw_determined {d} {f} x y same = draws_determined draw_of d f (draw_ends x) (draw_ends y) same
+pub draw_determined : {d f : DrawCall} (x : Draws d) (y : Draws f) → draw_arguments d ≡ draw_arguments f
+    → (x.run.answer ≡ y.run.answer) × (d.answer ≡ f.answer) × (d.out' ≡ f.out')
+draw_determined {d} {f} x y same =
+    let e = draws_determined draw_of d f (draw_ends x) (draw_ends y) same in
+    (told_same (ap (λ (z : DrawCall). z.answer) x.named) (ap (λ (z : DrawCall). z.answer) y.named) e.0, e.0, e.1)
 
 -- ---- files: what is said
 
@@ -124,21 +133,27 @@ module _ {z : SizesCall} {k : RasterCall} (twice : ReadTwice z k) where
 -- ---- files: any two outcomes are equal
 
 -- read, asked for the sizes: one answer for each file
-pub sizes_determined : {c k : SizesCall} → ReadsSizes c → ReadsSizes k → c.bytes ≡ k.bytes → c.answer ≡ k.answer
-sizes_determined x y same = sizes_ends x ∙ ap (λ s. sizes_of (read_of s)) same ∙ sym (sizes_ends y)
+pub sizes_determined : {c k : SizesCall} (x : ReadsSizes c) (y : ReadsSizes k) → c.bytes ≡ k.bytes → (x.run.answer ≡ y.run.answer) × (c.answer ≡ k.answer)
+sizes_determined x y same =
+    let e = sizes_ends x ∙ ap (λ s. sizes_of (read_of s)) same ∙ sym (sizes_ends y) in
+    (sizes_told (ap (λ (z : SizesCall). z.answer) x.named) (ap (λ (z : SizesCall). z.answer) y.named) e, e)
 
 -- read, asked for the raster: one part for each file
 pub raster_determined : {c k : RasterCall} → ReadsRaster c → ReadsRaster k → c.bytes ≡ k.bytes → c.part ≡ k.part
 raster_determined x y same = raster_ends x ∙ ap (λ s. raster_of (read_of s) s) same ∙ sym (raster_ends y)
 
 -- greys: one answer and one target for each raster, numbers and target
-pub greys_determined : {g k : GreysCall} → Greys g → Greys k → greys_arguments g ≡ greys_arguments k → (g.answer ≡ k.answer) × (g.target' ≡ k.target')
+pub greys_determined : {g k : GreysCall} (x : Greys g) (y : Greys k) → greys_arguments g ≡ greys_arguments k
+    → (x.run.answer ≡ y.run.answer) × (g.answer ≡ k.answer) × (g.target' ≡ k.target')
 greys_determined x y same =
     let e = greys_ends x ∙ ap (λ g. turned_of g.0 g.1 g.2 g.3 g.4 g.5) same ∙ sym (greys_ends y) in
-    (ap (λ (z : GreysOut). z.answer) e, ap (λ (z : GreysOut). z.target) e)
+    let a = ap (λ (z : GreysOut). z.answer) e in
+    (told_same (ap (λ (z : GreysCall). z.answer) x.named) (ap (λ (z : GreysCall). z.answer) y.named) a, a, ap (λ (z : GreysOut). z.target) e)
 
 -- write: one answer and one output for each picture, numbers and output
-pub write_determined : {c k : WriteCall} → Writes c → Writes k → write_arguments c ≡ write_arguments k → (c.answer ≡ k.answer) × (c.out' ≡ k.out')
+pub write_determined : {c k : WriteCall} (x : Writes c) (y : Writes k) → write_arguments c ≡ write_arguments k
+    → (x.run.answer ≡ y.run.answer) × (c.answer ≡ k.answer) × (c.out' ≡ k.out')
 write_determined x y same =
     let e = write_ends x ∙ ap (λ g. write_of g.0 g.1 g.2 g.3 g.4) same ∙ sym (write_ends y) in
-    (ap (λ (z : WriteOut). z.answer) e, ap (λ (z : WriteOut). z.out) e)
+    let a = ap (λ (z : WriteOut). z.answer) e in
+    (told_same (ap (λ (z : WriteCall). z.answer) x.named) (ap (λ (z : WriteCall). z.answer) y.named) a, a, ap (λ (z : WriteOut). z.out) e)

@@ -9,6 +9,7 @@ use mathlib.Core.Path.{◌≡◌, refl, sym, ap, ◌∙◌}
 use native.Mathlib.Omega.{arith}
 use lib.ListN.{length, get_or, take, drop}
 use Rattle.base_rows.specs.Refuse.{first, accepted, refused}
+use Rattle.base_rows.proofs.Told.{told_same}
 use Rattle.tile_map.specs.Tile.{mapped_of}
 use Rattle.film_settings.specs.declared.MapRecord.{MapRecord}
 use Rattle.film_settings.specs.declared.Footer.{Footer}
@@ -27,6 +28,7 @@ use Rattle.promise_films.proofs.Demand1.{draw_refusal_keeps, draw_says}
 use Rattle.promise_films.proofs.Ended.{draw_shown}
 use Rattle.promise_films.proofs.Runs.{PrepareCall, Prepares, prepare_ends, EnhanceCall, Enhances, enhance_ends, DrawCall, Draws, draw_ends, prepare_read, enhance_read, draw_read, SizesCall, ReadsSizes, sizes_ends, RasterCall, ReadsRaster, raster_ends, GreysCall, greys_ends, WriteCall, Writes, write_ends}
 use Rattle.promise_films.proofs.Ways.{Refuses, HandedToDraw, DrawnFrom, EnhancesFilm, drawn_grey, ReadTwice, ReadBack}
+use Rattle.promise_films.proofs.Told.{prepared_told}
 use Rattle.pgm_read.specs.Pgm.{read_of, raster_of, raster_start}
 use Rattle.pgm_greys.specs.Greys.{GreysOut}
 use Rattle.pgm_write.specs.Write.{write_of, write_leaves, write_rows, file_of, WriteOut}
@@ -135,18 +137,25 @@ module _ {e : EnhanceCall} {foot : Footer} (ran : Enhances e) (done : e.answer �
 -- ---- what is read
 
 -- "Bins B: 2 to 4096. 0 means 128.": prepare answers and leaves the same for 0 as for 128
-pub prepare_alike : {p q : PrepareCall} → Prepares p → Prepares q → prepare_read p ≡ prepare_read q
-    → (p.answer ≡ q.answer) × (p.map' ≡ q.map') × (p.scratch' ≡ q.scratch') × (p.list' ≡ q.list')
-prepare_alike {p} {q} x y same = prepares_alike prepare_of prepare_kept p q (prepare_ends x) (prepare_ends y) same
+pub prepare_alike : {p q : PrepareCall} (x : Prepares p) (y : Prepares q) → prepare_read p ≡ prepare_read q
+    → (x.run.answer ≡ y.run.answer) × (p.answer ≡ q.answer) × (p.map' ≡ q.map') × (p.scratch' ≡ q.scratch') × (p.list' ≡ q.list')
+prepare_alike {p} {q} x y same =
+    let e = prepares_alike prepare_of prepare_kept p q (prepare_ends x) (prepare_ends y) same in
+    (prepared_told (ap (λ (z : PrepareCall). z.answer) x.named) (ap (λ (z : PrepareCall). z.answer) y.named) e.0, e.0, e.1, e.2, e.3)
 
 -- and so does enhance
-pub enhance_alike : {e f : EnhanceCall} → Enhances e → Enhances f → enhance_read e ≡ enhance_read f
-    → (e.answer ≡ f.answer) × (e.pixels' ≡ f.pixels') × (e.map' ≡ f.map') × (e.scratch' ≡ f.scratch')
-enhance_alike {e} {f} x y same = enhances_alike enhance_of enhance_kept e f (enhance_ends x) (enhance_ends y) same
+pub enhance_alike : {e f : EnhanceCall} (x : Enhances e) (y : Enhances f) → enhance_read e ≡ enhance_read f
+    → (x.run.answer ≡ y.run.answer) × (e.answer ≡ f.answer) × (e.pixels' ≡ f.pixels') × (e.map' ≡ f.map') × (e.scratch' ≡ f.scratch')
+enhance_alike {e} {f} x y same =
+    let k = enhances_alike enhance_of enhance_kept e f (enhance_ends x) (enhance_ends y) same in
+    (told_same (ap (λ (z : EnhanceCall). z.answer) x.named) (ap (λ (z : EnhanceCall). z.answer) y.named) k.0, k.0, k.1, k.2, k.3)
 
 -- and draw, where the same is so of the record, and of the map buffer nothing is read but the mappings' entries
-pub draw_alike : {d f : DrawCall} → Draws d → Draws f → draw_read d ≡ draw_read f → (d.answer ≡ f.answer) × (d.out' ≡ f.out')
-draw_alike {d} {f} x y same = draws_alike draw_of draw_reads d f (draw_ends x) (draw_ends y) same
+pub draw_alike : {d f : DrawCall} (x : Draws d) (y : Draws f) → draw_read d ≡ draw_read f
+    → (x.run.answer ≡ y.run.answer) × (d.answer ≡ f.answer) × (d.out' ≡ f.out')
+draw_alike {d} {f} x y same =
+    let e = draws_alike draw_of draw_reads d f (draw_ends x) (draw_ends y) same in
+    (told_same (ap (λ (z : DrawCall). z.answer) x.named) (ap (λ (z : DrawCall). z.answer) y.named) e.0, e.0, e.1)
 
 -- ---- a record of another film
 

@@ -25,5 +25,6 @@ pub mod Fitted
 pub mod Looks
 pub mod Files
 mod Back
+pub mod Told
 -- The worked numbers.
 pub mod Numbers

@@ -9,6 +9,7 @@ use mathlib.Core.Path.{◌≡◌, sym, ap, ◌∙◌}
 use lib.ListN.{length, take}
 use Rattle.base_lists.specs.Lists.{onto}
 use Rattle.base_rows.specs.Refuse.{first, accepted, refused, says}
+use Rattle.base_rows.proofs.Told.{told_same}
 use Rattle.pgm_raster.specs.Raster.{head_rows, RasterLimits}
 use Rattle.pgm_write.specs.Write.{file_picture_rows, WriteOut, WriteReady, file_of}
 use Rattle.pgm_plain.specs.Plain.{plain_head_of}
@@ -29,6 +30,7 @@ use Rattle.promise_plain.proofs.Ways.{PlainToRaw, RawToPlain, RawPlainRaw, Plain
 use Rattle.promise_plain.proofs.Moves.{raw, plain, film_of, takes, same_again, sizes_same, plain_left, raw_left, plain_film, plain_file, front_same}
 use Rattle.promise_films.proofs.Accepted.{ended_kept, ended_says}
 use Rattle.promise_films.proofs.Alike.{same_ends}
+use Rattle.promise_films.proofs.Told.{sizes_told}
 
 -- ---- what plain_sizes says
 
@@ -88,23 +90,29 @@ plain_read_refusal_keeps {r} n ran q =
 pub plain_write_refusal_keeps : {c : WriteCall} (n : ℕ) → WritesPlain c → c.answer ≡ refused n → c.out' ≡ c.out
 plain_write_refusal_keeps n ran q = ap (λ (y : WriteOut). y.out) (ended_kept (write_table _ _ _ _ _ _) (plain_write_ends ran) q)
 
--- ---- any two outcomes are equal
+-- ---- any two outcomes are equal. `run.answer` is what the call itself answers, and `answer` what that says
 
 -- plain_sizes: one answer for each file
-pub plain_sizes_determined : {c k : SizesCall} → ReadsPlainSizes c → ReadsPlainSizes k → c.bytes ≡ k.bytes → c.answer ≡ k.answer
-plain_sizes_determined x y same = plain_sizes_ends x ∙ ap (λ s. limited_of (plain_head_of s)) same ∙ sym (plain_sizes_ends y)
+pub plain_sizes_determined : {c k : SizesCall} (x : ReadsPlainSizes c) (y : ReadsPlainSizes k) → c.bytes ≡ k.bytes → (x.run.answer ≡ y.run.answer) × (c.answer ≡ k.answer)
+plain_sizes_determined x y same =
+    let e = plain_sizes_ends x ∙ ap (λ s. limited_of (plain_head_of s)) same ∙ sym (plain_sizes_ends y) in
+    (sizes_told (ap (λ (z : SizesCall). z.answer) x.named) (ap (λ (z : SizesCall). z.answer) y.named) e, e)
 
 -- read_plain: one answer and one target for each file and target
-pub plain_read_determined : {r k : PlainReadCall} → ReadsPlain r → ReadsPlain k → plain_read_arguments r ≡ plain_read_arguments k → (r.answer ≡ k.answer) × (r.target' ≡ k.target')
+pub plain_read_determined : {r k : PlainReadCall} (x : ReadsPlain r) (y : ReadsPlain k) → plain_read_arguments r ≡ plain_read_arguments k
+    → (x.run.answer ≡ y.run.answer) × (r.answer ≡ k.answer) × (r.target' ≡ k.target')
 plain_read_determined x y same =
     let e = same_ends (λ g. plain_of g.0 g.1) (plain_read_ends x) (plain_read_ends y) same in
-    (ap (λ (z : PlainRead). z.answer) e, ap (λ (z : PlainRead). z.target) e)
+    let a = ap (λ (z : PlainRead). z.answer) e in
+    (sizes_told (ap (λ (z : PlainReadCall). z.answer) x.named) (ap (λ (z : PlainReadCall). z.answer) y.named) a, a, ap (λ (z : PlainRead). z.target) e)
 
 -- write_plain: one answer and one output for each picture, numbers and output
-pub plain_write_determined : {c k : WriteCall} → WritesPlain c → WritesPlain k → write_arguments c ≡ write_arguments k → (c.answer ≡ k.answer) × (c.out' ≡ k.out')
+pub plain_write_determined : {c k : WriteCall} (x : WritesPlain c) (y : WritesPlain k) → write_arguments c ≡ write_arguments k
+    → (x.run.answer ≡ y.run.answer) × (c.answer ≡ k.answer) × (c.out' ≡ k.out')
 plain_write_determined x y same =
     let e = same_ends (λ g. plain_write_of g.0 g.1 g.2 g.3 g.4) (plain_write_ends x) (plain_write_ends y) same in
-    (ap (λ (z : WriteOut). z.answer) e, ap (λ (z : WriteOut). z.out) e)
+    let a = ap (λ (z : WriteOut). z.answer) e in
+    (told_same (ap (λ (z : WriteCall). z.answer) x.named) (ap (λ (z : WriteCall). z.answer) y.named) a, a, ap (λ (z : WriteOut). z.out) e)
 
 -- ---- which files are accepted
 

@@ -14,6 +14,7 @@ use Rattle.base_lists.specs.Lists.{onto}
 use Rattle.base_lists.proofs.Fills.{take_onto}
 use Rattle.base_rows.specs.Refuse.{first, refused, accepted, says}
 use Rattle.base_rows.proofs.Walk.{first_never}
+use Rattle.base_rows.proofs.Told.{told_same}
 use Rattle.film_settings.specs.declared.Footer.{Footer}
 use Rattle.film_settings.specs.Settings.{entries_of, clip_one_of, bins_of, Tiled}
 use Rattle.film_tiles.specs.Tiles.{foot_of, mappings}
@@ -79,20 +80,28 @@ show_refusal_keeps n ran q = (draw_both (ended_kept (show_table _ _ _ _ _ _ _ _ 
 pub drop_refusal_keeps : {c : DropCall} (n : ℕ) → Drops c → c.answer ≡ refused n → (c.room' ≡ c.room) × (c.map' ≡ c.map)
 drop_refusal_keeps n ran q = drop_memory (ended_kept (drop_table _ _ _) (drop_ends ran) q)
 
--- ---- any two outcomes are equal
+-- ---- any two outcomes are equal. `run.answer` is what the call itself answers, and `answer` what that says
 
 -- store: one answer, one room and one of each lent buffer
-pub store_determined : {c d : StoreCall} → Stores c → Stores d → store_arguments c ≡ store_arguments d
-    → (c.answer ≡ d.answer) × (c.room' ≡ d.room') × (c.map' ≡ d.map') × (c.scratch' ≡ d.scratch') × (c.list' ≡ d.list')
-store_determined x y same = store_parts (same_ends (λ g. store_of g.0 g.1 g.2 g.3 g.4 g.5 g.6 g.7 g.8) (store_ends x) (store_ends y) same)
+pub store_determined : {c d : StoreCall} (x : Stores c) (y : Stores d) → store_arguments c ≡ store_arguments d
+    → (x.run.answer ≡ y.run.answer) × (c.answer ≡ d.answer) × (c.room' ≡ d.room') × (c.map' ≡ d.map') × (c.scratch' ≡ d.scratch') × (c.list' ≡ d.list')
+store_determined x y same =
+    let e = store_parts (same_ends (λ g. store_of g.0 g.1 g.2 g.3 g.4 g.5 g.6 g.7 g.8) (store_ends x) (store_ends y) same) in
+    (told_same (ap (λ (z : StoreCall). z.answer) x.named) (ap (λ (z : StoreCall). z.answer) y.named) e.0, e.0, e.1, e.2, e.3, e.4)
 
 -- draw: one answer and one output
-pub show_determined : {c d : ShowCall} → RoomDraws c → RoomDraws d → show_arguments c ≡ show_arguments d → (c.answer ≡ d.answer) × (c.out' ≡ d.out')
-show_determined x y same = draw_both (same_ends (λ g. show_of g.0 g.1 g.2 g.3 g.4 g.5 g.6 g.7 g.8) (show_ends x) (show_ends y) same)
+pub show_determined : {c d : ShowCall} (x : RoomDraws c) (y : RoomDraws d) → show_arguments c ≡ show_arguments d
+    → (x.run.answer ≡ y.run.answer) × (c.answer ≡ d.answer) × (c.out' ≡ d.out')
+show_determined x y same =
+    let e = draw_both (same_ends (λ g. show_of g.0 g.1 g.2 g.3 g.4 g.5 g.6 g.7 g.8) (show_ends x) (show_ends y) same) in
+    (told_same (ap (λ (z : ShowCall). z.answer) x.named) (ap (λ (z : ShowCall). z.answer) y.named) e.0, e.0, e.1)
 
 -- drop: one answer, one room and one buffer
-pub drop_determined : {c d : DropCall} → Drops c → Drops d → drop_arguments c ≡ drop_arguments d → (c.answer ≡ d.answer) × (c.room' ≡ d.room') × (c.map' ≡ d.map')
-drop_determined x y same = drop_parts (same_ends (λ g. drop_of g.0 g.1 g.2) (drop_ends x) (drop_ends y) same)
+pub drop_determined : {c d : DropCall} (x : Drops c) (y : Drops d) → drop_arguments c ≡ drop_arguments d
+    → (x.run.answer ≡ y.run.answer) × (c.answer ≡ d.answer) × (c.room' ≡ d.room') × (c.map' ≡ d.map')
+drop_determined x y same =
+    let e = drop_parts (same_ends (λ g. drop_of g.0 g.1 g.2) (drop_ends x) (drop_ends y) same) in
+    (told_same (ap (λ (z : DropCall). z.answer) x.named) (ap (λ (z : DropCall). z.answer) y.named) e.0, e.0, e.1, e.2)
 
 -- ---- of any record: which set a draw is drawn from, 40, 38 and no 11
 
@@ -106,15 +115,17 @@ room_number {c} ran done =
     (known.0.here, number_own c.film (held c.room) (dropping_among known.0), known.1)
 
 -- so no other film's mappings can show: with two buffers of one length that agree on the entries of the set of this number, a draw answers and leaves the same
-pub room_own_entries : {c d : ShowCall} → RoomDraws c → RoomDraws d
+pub room_own_entries : {c d : ShowCall} (x : RoomDraws c) (y : RoomDraws d)
     → show_rest c ≡ show_rest d → length c.map ≡ length d.map → part_of c.film (held c.room) c.map ≡ part_of c.film (held c.room) d.map
-    → (c.answer ≡ d.answer) × (c.out' ≡ d.out')
+    → (x.run.answer ≡ y.run.answer) × (c.answer ≡ d.answer) × (c.out' ≡ d.out')
 room_own_entries {c} {d} x y same long part =
+    let e =
     draw_both
     (show_ends x
     ∙ show_part c.room c.film c.width c.height c.pixels c.settings c.window c.map d.map c.out long part
     ∙ ap (λ g. show_of g.0 g.1 g.2 g.3 g.4 g.5 g.6 d.map g.7) same
-    ∙ sym (show_ends y))
+    ∙ sym (show_ends y)) in
+    (told_same (ap (λ (z : ShowCall). z.answer) x.named) (ap (λ (z : ShowCall). z.answer) y.named) e.0, e.0, e.1)
 
 module _ {c : ShowCall} (ran : RoomDraws c) where
   -- a draw of a number that is not stored is refused with 38, whatever else is handed to it
@@ -243,13 +254,15 @@ room_takes {room} {m} {fs} history c ran same-room same_map few new good =
 module _ {f : StoredFilm} {p : PrepareCall} {foot : Footer} {d : DrawCall} (alone : Alone f p foot d) where
   -- "each film stored and not dropped, its pixels unchanged since, draws as if it alone had been prepared": the same answer, with whatever window and output, and the same output
   pub room_as_alone : {room : Room} {m : List ℕ} {fs : List StoredFilm} → History room m fs → Among f fs
-      → (c : ShowCall) → RoomDraws c → c.room ≡ room → c.map ≡ m → OfFilm f c.film c.width c.height c.pixels c.settings
-      → c.window ≡ d.window → c.out ≡ d.out → (c.answer ≡ d.answer) × (c.out' ≡ d.out')
+      → (c : ShowCall) (ran : RoomDraws c) → c.room ≡ room → c.map ≡ m → OfFilm f c.film c.width c.height c.pixels c.settings
+      → c.window ≡ d.window → c.out ≡ d.out → (ran.run.answer ≡ alone.draws.run.answer) × (c.answer ≡ d.answer) × (c.out' ≡ d.out')
   room_as_alone {room} {m} {fs} history among c ran same-room same_map of same-window same_out =
+      let e =
       draw_both
       (show_ends ran
       ∙ of_film (λ n w h pic s. show_of c.room n w h pic s c.window c.map c.out) (λ n w h pic s. show_kept c.room n w h pic s c.window c.map c.out) of
-      ∙ rw (same-room, same_map, same-window, same_out) (alone_shows alone (history_kept history) among))
+      ∙ rw (same-room, same_map, same-window, same_out) (alone_shows alone (history_kept history) among)) in
+      (told_same (ap (λ (z : ShowCall). z.answer) ran.named) (ap (λ (z : DrawCall). z.answer) alone.draws.named) e.0, e.0, e.1)
 
 -- ---- demand 2
 
