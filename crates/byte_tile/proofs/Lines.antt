@@ -51,7 +51,10 @@ module _ {pic : List ℕ} {stride : ℕ} {r : Rect} {lo hi b : ℕ} {clip : Clip
     line_mapping = take_at o (drop b l) b (ap length mapped ∙ mapping_size) ∙ mapped
 
     -- in its front
-    mapping_part : b ≡ length (take b (o ++ drop b l))
+    pub mapping_front : b ≤ length (o ++ drop b l)
+    mapping_front = omega (arith, length-append o (drop b l), ap length mapped, mapping_size)
+
+    pub mapping_part : b ≡ length (take b (o ++ drop b l))
     mapping_part = sym (ap length line_mapping ∙ mapping_size)
 
     -- which fits the output and is made of bytes

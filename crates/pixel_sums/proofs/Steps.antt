@@ -7,7 +7,7 @@ use mathlib.Core.Path.{◌≡◌, refl, sym, ap, ap₂, ◌∙◌}
 use lib.Dec.{eqb}
 use lib.ListN.{length, get_or, set}
 use borrow.Author.Tests.{eq-eqb, ne_eqb}
-use native.Mathlib.Nat.{mul-le-mul}
+use native.Mathlib.Nat.{mul-add, mul_left_comm, mul-le-mul}
 use native.Mathlib.Numerals.{add-one}
 use native.Mathlib.Omega.{arith}
 use Rattle.base_lists.specs.Lists.{filled}
@@ -15,13 +15,24 @@ use Rattle.base_lists.proofs.Fills.{filled_step, filled_end}
 use Rattle.base_lists.proofs.Windows.{get_or_behind, filled_whole}
 use Rattle.pixel_place.specs.declared.Place.{Place}
 use Rattle.pixel_place.specs.Blend.{pair_of, Sound, moved}
-use Rattle.pixel_place.proofs.Laws.{moved_sound, pair_most, side_small, sides_weighed, sides_most, sides_grey}
+use Rattle.pixel_place.proofs.Laws.{moved_sound, weigh_most, pair_most, side_small, sides_weighed, sides_most, sides_grey}
 use Rattle.pixel_place.proofs.Moves.{left_holds, sum_moves, sides_are}
 use Rattle.pixel_sums.specs.declared.Sum.{Sum}
 use Rattle.pixel_table.specs.Table.{blended_at, blended_run, side_at, RunAsks}
 use Rattle.pixel_sums.specs.Sums.{like_before, moved_to, moved_in, Stands, PixelAsks}
 
 -- ---- one pixel
+
+-- a product with two numbers in one is two products in one
+spread : (w x y : ℕ) → w * (x + 4294967296 * y) ≡ w * x + 4294967296 * (w * y)
+spread w x y = mul-add w x (4294967296 * y) ∙ ap (λ t. w * x + t) (mul_left_comm w 4294967296 y)
+
+-- the pairs of both sides in one number
+pub pairs_room : {row : Place} {a b c d : ℕ} → Sound 16 2048 row → a ≤ 4095 → b ≤ 4095 → c ≤ 4095 → d ≤ 4095
+    → (row.lowerweight * (a + 4294967296 * b) ≡ row.lowerweight * a + 4294967296 * (row.lowerweight * b))
+    × (row.upperweight * (c + 4294967296 * d) ≡ row.upperweight * c + 4294967296 * (row.upperweight * d))
+    × (pair_of row a c ≤ 2048 * 4095) × (pair_of row b d ≤ 2048 * 4095)
+pairs_room {row} {a} {b} {c} {d} sound ha hb hc hd = (spread row.lowerweight a b, spread row.upperweight c d, weigh_most sound ha hc, weigh_most sound hb hd)
 
 module _ {column row : Place} {a b c d : List ℕ} {n i k : ℕ} (asks : PixelAsks column row a b c d n i k) where
   -- the place of pixel i is sound
@@ -105,6 +116,10 @@ none_moved {k} {m} n e = rw (ne_eqb k m e) (omega arith)
 -- the grey of the run's pixel i
 abbrev pub blended : Place → Place → List ℕ → List ℕ → List ℕ → List ℕ → List ℕ → ℕ → ℕ
 blended column row a b c d ks i = blended_at column row a b c d i (get_or ks i 0)
+
+-- a run has few pixels
+pub run_few : {column row : Place} {a b c d : List ℕ} {n : ℕ} {ks : List ℕ} → RunAsks column row a b c d n ks → length ks ≤ 2048
+run_few asks = omega (arith, asks.room, asks.column.weights, asks.column.bound)
 
 -- what stands before pixel i: nothing before the first, the sum of the pixel before any other, and how many have moved
 pub record Before (column row : Place) (a b c d ks : List ℕ) (i : ℕ) (s : Sum) : Type 0 where

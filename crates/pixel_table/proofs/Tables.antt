@@ -63,6 +63,18 @@ module _ {by : ℕ} {column row : Place} (sc : Scaled by column row) where
   pub most_room : row.span * 4095 * by < 4611686018427387904
   most_room = omega (arith, largest_room, mul_comm (row.span * 4095) by, sc.room)
 
+  -- a weight times the factor
+  weight_room : {w : ℕ} → w ≤ row.span → w * by < 4611686018427387904
+  weight_room {w} h =
+      let small : w ≤ row.span * 4095 = omega arith in
+      omega (arith, mul-le-mul_right by small, most_room)
+
+  pub upper_room : row.lowerweight * by < 4611686018427387904
+  upper_room = weight_room (omega (arith, sc.row.weights))
+
+  pub lower_room : row.upperweight * by < 4611686018427387904
+  lower_room = weight_room (omega (arith, sc.row.weights))
+
   module _ {x y : ℕ} (hx : x ≤ 4095) (hy : y ≤ 4095) where
     pub pair_fits : pair_of row x y ≤ row.span * 4095
     pair_fits = pair_most sc.row hx hy

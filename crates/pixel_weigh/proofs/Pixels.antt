@@ -7,7 +7,7 @@ use mathlib.Core.Path.{◌≡◌, refl, sym, ap, ap₂, ◌∙◌}
 use lib.Arith.{digits_lt}
 use lib.ListN.{get_or, take}
 use lib.Seq.{get_or-take, length-take-le}
-use native.Mathlib.Nat.{mul_comm}
+use native.Mathlib.Nat.{mul_comm, mul-le-mul}
 use native.Mathlib.Omega.{arith}
 use Rattle.base_lists.proofs.Alls.{all_at}
 use Rattle.base_lists.proofs.Windows.{get_d_front}
@@ -18,6 +18,7 @@ use Rattle.pixel_place.specs.Blend.{grey_of, Sound}
 use Rattle.pixel_place.proofs.Laws.{grey_least, grey_most}
 use Rattle.film_settings.specs.declared.Settings.{Settings}
 use Rattle.film_settings.specs.Settings.{bins_of, entries_of}
+use Rattle.film_settings.proofs.Ready.{entries_small}
 use Rattle.pixel_weigh.specs.Weigh.{mapped_at, corners_of, Maps, CornerAsks}
 
 -- ---- where mapped values lie
@@ -30,9 +31,17 @@ tile_index {across} {down} {j} {i} h l = rw (mul_comm across down) (digits_lt h 
 pub entry_index : {across down b j i k : ℕ} → j < down → i < across → k < b → (j * across + i) * b + k < across * down * b
 entry_index {across} {down} h l q = digits_lt (tile_index {across = across} {down = down} h l) q
 
+-- there are few tiles
+pub tile_small : {across down j i : ℕ} → j < down → i < across → across ≤ 16 → down ≤ 16 → j * across + i < 256
+tile_small {across} {down} h l p q = omega (arith, tile_index {across = across} {down = down} h l, mul-le-mul p q)
+
 -- ---- mapped values
 
 module _ {s : Settings} {m : List ℕ} (maps : Maps s m) where
+  -- there are few entries
+  pub entries_few : entries_of s ≤ 1048576
+  entries_few = entries_small s.across s.down (bins_of s) maps.across maps.down maps.scale.few
+
   -- each of them lies in Min to Max
   pub entry_within : {n : ℕ} → n < entries_of s → within s.min s.max (get_or m n 0) ≡ true
   entry_within {n} l =

@@ -4,6 +4,7 @@ use Prim.Native.Nat.{ℕ, ◌+◌, ◌-◌, ◌*◌, ◌≤◌, ◌<◌}
 use mathlib.Core.List.{List}
 use mathlib.Core.Path.{◌≡◌, refl, sym, ap, ◌∙◌}
 use lib.ListN.{length, take, drop, get_or}
+use native.Mathlib.Nat.{mul-le-mul}
 use native.Mathlib.Omega.{arith}
 use Rattle.base_lists.specs.Lists.{tab}
 use Rattle.base_lists.proofs.Tabs.{tab_cong}
@@ -15,21 +16,27 @@ use Rattle.pixel_table.specs.Table.{blended_at, blended_run, RunAsks}
 use Rattle.film_settings.specs.declared.Settings.{Settings}
 use Rattle.film_settings.specs.Settings.{bins_of, entries_of}
 use Rattle.pixel_weigh.specs.Weigh.{mapped_at, corners_of, weighed_run, Maps, WeighAsks}
-use Rattle.pixel_weigh.proofs.Pixels.{entry_index, entry_most, corners_are}
+use Rattle.pixel_weigh.proofs.Pixels.{entry_index, entry_most, tile_small, corners_are}
 
 -- the mapping of a tile
 abbrev pub mapping_part : Settings → List ℕ → ℕ → ℕ → List ℕ
 mapping_part s m j i = take (bins_of s) (drop ((j * s.across + i) * bins_of s) m)
 
+-- where it begins is small
+pub tile_room : {across down b j i : ℕ} → j < down → i < across → across ≤ 16 → down ≤ 16 → b ≤ 4096 → (j * across + i) * b ≤ 1048576
+tile_room {across} {down} {b} {j} {i} h l p q r =
+    let few : j * across + i ≤ 256 = omega (arith, tile_small {across = across} {down = down} h l p q) in
+    omega (arith, mul-le-mul few r)
+
 module _ {s : Settings} {m : List ℕ} (maps : Maps s m) {j i : ℕ} (h : j < s.down) (l : i < s.across) where
   -- it lies among the mappings' entries
-  tile_ends : (j * s.across + i) * bins_of s + bins_of s ≤ entries_of s
+  pub tile_ends : (j * s.across + i) * bins_of s + bins_of s ≤ entries_of s
   tile_ends =
       let last : (j * s.across + i) * bins_of s + (bins_of s - 1) < entries_of s = entry_index {across = s.across} {down = s.down} {b = bins_of s} {k = bins_of s - 1} h l (omega (arith, maps.scale.some)) in
       omega (arith, last, maps.scale.some)
 
   -- and so in the map buffer
-  tile_inside : (j * s.across + i) * bins_of s + bins_of s ≤ length m
+  pub tile_inside : (j * s.across + i) * bins_of s + bins_of s ≤ length m
   tile_inside = omega (arith, tile_ends, maps.room)
 
   -- it has a value for each bin

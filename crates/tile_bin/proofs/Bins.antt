@@ -4,7 +4,7 @@ use Prim.Native.Nat.{ℕ, zero, suc, ◌+◌, ◌-◌, ◌*◌, ◌/◌, ◌%◌
 use mathlib.Core.Bool.{true}
 use mathlib.Core.Path.{◌≡◌, ap, sym, ◌∙◌}
 use lib.Dec.{ltb}
-use native.Mathlib.Nat.{div-lt_iff_lt-mul, div-eq_of_lt-le, zero-mul, zero-div, mul_comm, mul-div-mul_right, mul-add-div_right, div-eq_of_lt, div-div-eq-div-mul, mul-add, mul-one, mul-le-mul, mul-lt-mul_of_pos_right}
+use native.Mathlib.Nat.{div-lt_iff_lt-mul, div-eq_of_lt-le, div-le_of_le-mul, zero-mul, zero-div, mul_comm, mul-div-mul_right, mul-add-div_right, div-eq_of_lt, div-div-eq-div-mul, mul-add, mul-one, mul-le-mul, mul-le-mul_right, mul-lt-mul_of_pos_right}
 use lib.Pow.{pow-add, pow_mono}
 use native.Mathlib.Omega.{arith}
 use borrow.Author.Tests.{lt-ltb}
@@ -68,6 +68,10 @@ bin_by lo hi b v h m p =
     let wide : hi - lo + 1 ≤ 4096 = omega arith in
     let most : (v - lo) * (hi - lo + 1) ≤ 4095 * 4096 = mul-le-mul grey wide in
     by_ratio 16777216 (v - lo) b (hi - lo + 1) (omega arith) (omega arith)
+
+-- with no more bins than greys the quotient in the factor is at most 2^24
+pub factor_room : (lo hi b : ℕ) → b ≤ hi - lo + 1 → b * 16777216 / (hi - lo + 1) ≤ 16777216
+factor_room lo hi b m = div-le_of_le-mul (hi - lo + 1) (mul-le-mul_right 16777216 m)
 
 -- with at most 256 bins the product with the factor stays in 32 bits
 pub few_room : (lo hi b v : ℕ) → within lo hi v ≡ true → hi ≤ 4095 → 0 < b → b ≤ 256 → (v - lo) * factor_of lo hi b < 4294967296

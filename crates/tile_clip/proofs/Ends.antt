@@ -103,6 +103,17 @@ onward_walked {k = k} {f = f} {n = n} {m = m} {u = u} b i w q p o st h past en g
 pub shut_first : (l : ℕ) (cs : List ℕ) → Shut l (length cs) cs
 shut_first l cs = record { full = λ i h k. absurd (omega arith); within = omega arith }
 
+-- a full bin before the end
+pub shut_less : {l e : ℕ} {cs : List ℕ} → Shut l e cs → l ≤ get_or cs (e - 1) 0 → Shut l (e - 1) cs
+shut_less {l} {e} {cs} h u = record { full = full; within = omega (arith, h.within) }
+  where
+    full : (i : ℕ) → e - 1 ≤ i → i < length cs → l ≤ get_or cs i 0
+    full i a b = go (lt_or_ge i e)
+      where
+        go : (i < e) ⊎ (e ≤ i) → l ≤ get_or cs i 0
+        go (inl x) = let z : i ≡ e - 1 = omega arith in rw z u
+        go (inr x) = h.full i x b
+
 -- a bin before the end gained one
 pub shut_set : {l e : ℕ} {cs ds : List ℕ} (at v : ℕ) → Shut l e cs → at < e → ds ≡ set cs at v → Shut l e ds
 shut_set {l} {e} {cs} {ds} at v h p d =

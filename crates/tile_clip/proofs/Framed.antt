@@ -4,7 +4,7 @@ use Prim.Native.Nat.{ℕ, zero, suc, ◌+◌, ◌-◌, ◌*◌, ◌/◌, ◌≤�
 use mathlib.Core.List.{List, [], ◌∷◌, ◌++◌, map}
 use mathlib.Core.Path.{◌≡◌, refl, sym, ap, ap₂, ◌∙◌}
 use lib.ListN.{length, length-append, length-map, take}
-use native.Mathlib.Nat.{div-le_self, div-mul-le_self, div-le_of_le-mul, mul_comm, add-mul}
+use native.Mathlib.Nat.{div-le_self, div-mul-le_self, div-le_of_le-mul, mul_comm, mul-le-mul, add-mul}
 use native.Mathlib.Omega.{arith}
 use Rattle.std.proofs.Common.{Some, None}
 use Rattle.base_lists.specs.Lists.{total, tab}
@@ -71,6 +71,9 @@ module _ {l b lo : ℕ} {cs : List ℕ} (asks : SpanAsks l b lo cs) {e : ℕ} (i
 
   pub share_small : e / b ≤ l
   share_small = div-le_of_le-mul b (omega (arith, is, asks.holds, excess_most l cs, mul_comm l b))
+
+  pub share_product : lo * (e / b) ≤ 4096 * 4194304
+  share_product = mul-le-mul {n₁ = lo} {n₂ = 4096} {m₂ = 4194304} (omega (arith, asks.within, asks.few_bins)) share_few
 
   -- what the bins of the list take, and the others
   all_take : total (map (taken l (e / b)) cs) + (b - length cs) * (e / b) ≤ e

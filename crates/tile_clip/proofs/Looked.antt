@@ -8,12 +8,12 @@ use mathlib.Core.Logic.{◌⊎◌, inl, inr}
 use mathlib.Core.Path.{◌≡◌, refl, sym, ap, ◌∙◌}
 use lib.Arith.{digits_div}
 use lib.ListN.{length, get_or, set}
-use native.Mathlib.Nat.{not-suc-le-zero, le_of_suc-le-suc, le_refl, div-eq_of_lt, add-div_right, div-add-mod', mod-lt, suc-mul, zero-mul, mul-suc, mul-zero, mul-add, mul-one, mul-le-mul, le_of_lt}
+use native.Mathlib.Nat.{not-suc-le-zero, le_of_suc-le-suc, le_refl, div-eq_of_lt, add-div_right, div-le_self, div-add-mod', mod-lt, mod-le, suc-mul, zero-mul, mul-suc, mul-zero, mul-add, mul-one, mul-le-mul, le_of_lt}
 use native.Mathlib.Omega.{arith}
 use borrow.Author.Tests.{lt-ltb, le-ltb}
 use Rattle.base_lists.proofs.Orders.{lt_or_ge}
 use Rattle.tile_clip.specs.Clip.{walk, next_start_of}
-use Rattle.tile_clip.specs.Looks.{looks_in, looks_from, up_to, apart, onward}
+use Rattle.tile_clip.specs.Looks.{looks_in, looks_from, up_to, apart, onward, skipped_of}
 use Rattle.tile_clip.proofs.Walks.{walk_under, walk_over, length_walk}
 
 -- ---- one walk, bin by bin
@@ -246,6 +246,12 @@ onward_parts step a b h = onward_row step a (onward_rows step a) b h
 
 -- ---- as the code works them out
 
+-- no bin is behind the last
+pub apart_none : (step b at : ℕ) → 0 < step → b ≤ at → 0 ≡ apart step (b - at)
+apart_none step b at p h =
+    let z : b - at + (step - 1) ≡ step - 1 = omega arith in
+    sym (ap (λ k. k / step) z ∙ div-eq_of_lt (omega arith))
+
 -- half of a x (a + 1)
 up_to_half : (a : ℕ) → a * (a + 1) / 2 ≡ up_to a
 up_to_half a = omega (arith, up_to_twice a)
@@ -255,3 +261,24 @@ pub onward_code : (step n : ℕ) → 0 < step → step * (n / step * (n / step +
 onward_code step n p =
     ap (λ x. step * x + n % step * (n / step + 1)) (up_to_half (n / step))
     ∙ (sym (onward_parts step (n / step) (n % step) (le_of_lt (mod-lt n p))) ∙ ap (onward step) (div-add-mod' n step))
+
+-- which are small
+pub onward_room : (step n : ℕ) → step ≤ 4096 → n ≤ 4096
+    → (n / step ≤ 4096) × (n / step * (n / step + 1) ≤ 16781312) × (step * (n / step * (n / step + 1) / 2) ≤ 34368126976) × (n % step * (n / step + 1) ≤ 16781312)
+onward_room step n few most =
+    let a : n / step ≤ 4096 = omega (arith, div-le_self n step) in
+    let b : n % step ≤ 4096 = omega (arith, mod-le n step) in
+    let more : n / step + 1 ≤ 4097 = omega arith in
+    let square : n / step * (n / step + 1) ≤ 4096 * 4097 = mul-le-mul a more in
+    let half : n / step * (n / step + 1) / 2 ≤ 8390656 = omega arith in
+    let all : step * (n / step * (n / step + 1) / 2) ≤ 4096 * 8390656 = mul-le-mul few half in
+    let rest : n % step * (n / step + 1) ≤ 4096 * 4097 = mul-le-mul b more in
+    (a, omega arith, omega arith, omega arith)
+
+-- where the next start finds a bin under the limit nothing is skipped
+pub skipped_none : (b e s r : ℕ) → s + 1 < e → 0 ≡ skipped_of b e s r
+skipped_none b e s r h = rw (lt-ltb (s + 1) e h) refl
+
+-- else the starts up to the last bin
+pub skipped_some : (b e s r : ℕ) {step n : ℕ} → e ≤ s + 1 → step ≡ max 1 (b / r) → n ≡ onward step (b - (s + 1)) → n ≡ skipped_of b e s r
+skipped_some b e s r h q y = rw (le-ltb (s + 1) e h) (y ∙ ap (λ m. onward m (b - (s + 1))) q)

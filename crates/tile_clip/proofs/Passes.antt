@@ -17,6 +17,10 @@ pub record Passing (f g : ℕ → ℕ) (first : List ℕ) (i : ℕ) (cs : List �
   pub within : i ≤ length cs
   pub long : length cs ≡ length first
 
+-- before the first bin
+pub passing_first : (f g : ℕ → ℕ) (cs : List ℕ) {sum : ℕ} → sum ≡ 0 → Passing f g cs 0 cs sum
+passing_first f g cs {sum} z = record { bins = refl; still = omega arith; within = omega arith; long = refl }
+
 -- the sum from a place on: of its bin, and of the bins behind it
 sum_next : (g : ℕ → ℕ) (cs : List ℕ) (i : ℕ) → i < length cs → total (map g (drop i cs)) ≡ g (get_or cs i 0) + total (map g (drop (i + 1) cs))
 unfolding total

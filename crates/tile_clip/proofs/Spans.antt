@@ -5,7 +5,7 @@ use Prim.Native.Nat.{ℕ, zero, suc, ◌+◌, ◌-◌, ◌*◌, ◌/◌, ◌≤�
 use mathlib.Core.List.{List, [], ◌∷◌, ◌++◌}
 use mathlib.Core.Path.{◌≡◌, refl, sym, ap, ap₂, ◌∙◌}
 use lib.ListN.{length, length-append, get_or, take}
-use native.Mathlib.Nat.{le_of_suc-le-suc, not-suc-le-zero, le_refl, mul-le-mul}
+use native.Mathlib.Nat.{le_of_suc-le-suc, not-suc-le-zero, le_refl, div-le_self, div-mul-le_self, lt-div-mul-add, mul_comm, mul-le-mul}
 use native.Mathlib.Omega.{arith}
 use borrow.Author.Tests.{lt-ltb}
 use Rattle.base_lists.specs.Lists.{total, tab}
@@ -21,6 +21,18 @@ use Rattle.tile_clip.proofs.Parts.{along, walk_parts, open_rest, walk_once}
 
 -- ---- one start
 
+-- the places that a walk meets in n bins reach behind the last of them, by less than a step
+pub apart_room : (step n : ℕ) → 0 < step → (n ≤ step * apart step n) × (step * apart step n < n + step)
+apart_room step n p =
+    let a : n + (step - 1) < (n + (step - 1)) / step * step + step = lt-div-mul-add p in
+    let b = div-mul-le_self (n + (step - 1)) step in
+    let c = mul_comm ((n + (step - 1)) / step) step in
+    (omega (arith, a, c), omega (arith, b, c))
+
+-- the step of a start
+pub step_fits : (b left : ℕ) {s : ℕ} → b ≤ 4096 → s ≡ step_of b left → (0 < s) × (s ≤ 4096)
+step_fits b left few e = (omega (arith, e), omega (arith, e, div-le_self b left))
+
 -- the bins before the list take all that is left
 pub turned_under : (l : ℕ) {b lo start left : ℕ} {cs : List ℕ} {s met : ℕ} → s ≡ step_of b left → met ≡ apart s (lo - start) → left ≤ met
     → Turned l b lo start left cs cs (record { left = 0; below = left })
@@ -34,6 +46,29 @@ turned_under l {b} {lo} {start} {left} {cs} {s} {met} e m u =
       bins = sym (ap (λ v. v.counts) w);
       rest = omega (arith, ap (λ v. v.rest) w);
     }
+
+-- or they do not
+pub turned_on : (l b lo start left : ℕ) (cs : List ℕ) {ds : List ℕ} {s met on rest above k : ℕ} → s ≡ step_of b left → met ≡ apart s (lo - start) → met < left
+    → (ds ≡ (walk l s (start + s * met - lo) cs (left - met)).counts) × (rest ≡ (walk l s (start + s * met - lo) cs (left - met)).rest)
+    → on ≡ apart s (length cs - (start + s * met - lo))
+    → above ≡ apart s (b - (lo + length cs) - (start + s * met - lo + s * on - length cs)) → k ≡ rest - above
+    → Turned l b lo start left cs ds (record { left = k; below = met })
+turned_on l b lo start left cs {ds} {s} {met} {on} {rest} {above} {k} e m u d o a h =
+    let f : met ≡ apart (step_of b left) (lo - start) = m ∙ ap (λ x. apart x (lo - start)) e in
+    record {
+      under = omega (arith, f);
+      bins = d.0 ∙ ap (λ y. (walk l s (start + s * y - lo) cs (left - y)).counts) m ∙ ap (λ x. (part_walk l x lo start cs left).counts) e;
+      rest = h ∙ ap₂ (λ x y. x - y) d.1 (a ∙ ap (λ y. apart s (b - (lo + length cs) - (start + s * met - lo + s * y - length cs))) o)
+          ∙ ap (λ y. (walk l s (start + s * y - lo) cs (left - y)).rest - apart s (b - (lo + length cs) - (start + s * y - lo + s * apart s (length cs - (start + s * y - lo)) - length cs))) m
+          ∙ ap (λ x. (part_walk l x lo start cs left).rest - apart x (b - (lo + length cs) - on_to x (on_to x start lo) (length cs))) e;
+    }
+
+-- how far the places reach that a walk meets in n bins from `at` on
+pub reach : (s n at : ℕ) {m : ℕ} → 0 < s → m ≡ apart s (n - at) → (s * m < n + s) × (n ≤ at + s * m)
+reach s n at {m} p e =
+    let a = ap (λ x. s * x) e in
+    let r = apart_room s (n - at) p in
+    (omega (arith, a, r.1), omega (arith, a, r.0))
 
 -- ---- a start over all bins
 

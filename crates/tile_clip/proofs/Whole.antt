@@ -38,6 +38,14 @@ gain_most l c = go (lt_or_ge c l)
     go (inl h) = rw (gain_under l c h) (omega arith)
     go (inr h) = rw (gain_over l c h) (omega arith)
 
+-- a bin that gains stays within the limit
+pub gained_most : (l c : ℕ) → gained l c ≤ max c l
+gained_most l c = go (lt_or_ge c l)
+  where
+    go : (c < l) ⊎ (l ≤ c) → gained l c ≤ max c l
+    go (inl h) = rw (gain_under l c h) (omega arith)
+    go (inr h) = rw (gain_over l c h) (omega arith)
+
 -- no more gain than there are bins
 pub gains_most : (l : ℕ) (cs : List ℕ) → total (map (gain l) cs) ≤ length cs
 unfolding total

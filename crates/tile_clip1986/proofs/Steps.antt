@@ -141,6 +141,10 @@ module _ {c p : ℕ} {cs : List ℕ} (asks : OlderAsks c cs) (l : p ≤ c) {o ro
   pub descended : {r : ℕ} → r ≡ p - (o - room + (b - k) - 1) / (b - k) → Lowered c cs p r
   descended e = rw (e, eo, er, eb, ek) (step_lowers c p cs l asks.holds missing)
 
+-- p levels: it stays
+pub lower_stays : {c p : ℕ} {cs : List ℕ} → excess p cs ≤ length cs * (c - p) → Lowered c cs p p
+lower_stays {c} {p} {cs} e = record { most = le_refl p; stays = λ z. le-leb (excess p cs) (length cs * (c - p)) e; none = λ q a b. absurd (omega arith) }
+
 -- ---- the search
 
 -- no number above p up to C levels, and q is a step from p
@@ -148,6 +152,17 @@ pub record Sought (c : ℕ) (cs : List ℕ) (p q : ℕ) : Type 0 where
   pub most : p ≤ c
   pub above : (x : ℕ) → p < x → x ≤ c → levels c cs x ≡ false
   pub step : Lowered c cs p q
+
+pub sought_first : {c q : ℕ} {cs : List ℕ} → Lowered c cs c q → Sought c cs c q
+sought_first {c} s = record { most = le_refl c; above = λ x a b. absurd (omega arith); step = s }
+
+pub sought_next : {c p q r : ℕ} {cs : List ℕ} → Sought c cs p q → Lowered c cs q r → Sought c cs q r
+sought_next {c} {p} {q} {r} {cs} i s =
+    record { most = omega (arith, i.most, i.step.most); above = λ x a b. at x a b (lt_or_ge p x); step = s }
+  where
+    at : (x : ℕ) → q < x → x ≤ c → (p < x) ⊎ (x ≤ p) → levels c cs x ≡ false
+    at x a b (inl u) = i.above x u b
+    at x a b (inr u) = i.step.none x a u
 
 pub sought_end : {c p q : ℕ} {cs : List ℕ} → Sought c cs p q → p ≤ q → p ≡ level_of c cs
 sought_end {c} {p} {q} {cs} i h = sym (level_is c p cs i.most (i.step.stays h) i.above)

@@ -157,6 +157,10 @@ pub front_end : (t : List ℕ) (k j : ℕ) → j ≤ 8 → 8 ≤ j → front_at 
 unfolding front_at eight_at
 front_end t k j h l = let e : j ≡ 8 = omega arith in ap (λ n. sum n (λ i. get_or t (k * 8 + i) 0)) e
 
+-- what adding up the bins before the last asks
+pub fewer_ways : {n : ℕ} {t : List ℕ} → AddWaysAsks n t → (k : ℕ) → k < n → AddWaysAsks (k + 1) t
+fewer_ways asks k l = record { enough = omega (arith, asks.enough); fits = λ i h. asks.fits i (omega arith) }
+
 -- ---- bins added one behind the other
 
 pub ways_none : (t : List ℕ) → WaysAdded [] t t
@@ -246,6 +250,10 @@ eighths b [] = refl
 eighths b (v ∷ vs) = let e : place_in b v / 8 ≡ bin_in b v = omega arith in ap₂ (λ x xs. x ∷ xs) e (eighths b vs)
 
 module _ {row : List ℕ} {b : Binning} {t : List ℕ} (asks : PartAsks row b t) where
+  -- what laying their places into a line asks
+  pub places_asks : {room : ℕ} → length row ≤ room → PlacesAsks row b room
+  places_asks h = record { binning = asks.binning; greys = asks.greys; enough = h }
+
   grey_place : (v : ℕ) → within b.min b.max v ≡ true → is_place (length t) (place_in b v) ≡ true
   grey_place v h =
       and_both

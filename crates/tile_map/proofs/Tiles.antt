@@ -15,8 +15,11 @@ use Rattle.tile_limit.specs.declared.Edition.{Edition}
 use Rattle.tile_limit.specs.declared.Edition.TheVariants.{Ours, Of1986}
 use Rattle.tile_limit.specs.Limit.{limit_of, allowed, LimitAsks}
 use Rattle.tile_clip.specs.declared.Spent.{Spent}
-use Rattle.tile_clip.specs.Looks.{spent_as}
+use Rattle.tile_clip.specs.Clip.{excess, clipped}
+use Rattle.tile_clip.specs.Looks.{spent_as, spent_of}
+use Rattle.tile_clip.specs.Asks.{ClipAsks}
 use Rattle.tile_clip.proofs.Laws.{length_clipped, total_clipped, clipped_most}
+use Rattle.tile_clip1986.specs.Older.{older, OlderAsks}
 use Rattle.tile_clip1986.proofs.Levels.{length_older, older_between, older_most}
 use Rattle.base_range.specs.Scan.{within}
 use Rattle.tile_count.specs.Tally.{counts_of, greys_of}
@@ -52,6 +55,20 @@ in_asks {clip} {f} {n} {cs} {l} asks e q =
       room = rw q (holds_room h);
     }
 
+-- what our rule asks
+pub clip_asks : {n l : ℕ} {cs : List ℕ} → ClipInAsks n l cs → ClipAsks l cs
+clip_asks asks =
+    record { some_bin = asks.some; few_bins = asks.few; few_pixels = omega (arith, asks.all_pixels, asks.few_pixels); holds = omega (arith, asks.all_pixels, asks.room) }
+
+-- what looking at what stands above the limit asks
+pub few_asks : {n l : ℕ} {cs : List ℕ} → ClipInAsks n l cs → total cs ≤ 4194304
+few_asks asks = omega (arith, asks.all_pixels, asks.few_pixels)
+
+-- and that of 1986
+pub older_asks : {n l : ℕ} {cs : List ℕ} → ClipInAsks n l cs → OlderAsks l cs
+older_asks asks =
+    record { some_bin = asks.some; few_bins = asks.few; few_pixels = omega (arith, asks.all_pixels, asks.few_pixels); holds = omega (arith, asks.all_pixels, asks.room) }
+
 -- with clip off the raw counts stay, and N divides
 pub clipped_off : {clip : Clip} (ed : Edition) (n : ℕ) (cs : List ℕ) → clip ≡ Off → (cs ≡ clipped_by ed clip n cs) × (n ≡ divided_by ed clip n cs)
 unfolding clipped_by divided_by
@@ -79,7 +96,17 @@ pub tile_spent_lem : (lo hi b : ℕ) (ed : Edition) (clip : Clip) (vs : List ℕ
 unfolding tile_spent
 tile_spent_lem lo hi b ed clip vs = refl
 
--- ---- what `clip_by` leaves
+-- ---- what `clip_in` and `clip_by` leave
+
+-- the rule of each edition: ours,
+pub in_ours : {ed : Edition} (n l : ℕ) (cs : List ℕ) {ds : List ℕ} {took : Spent} → ed ≡ Ours → (ds ≡ clipped l cs) × (took ≡ spent_of l cs)
+    → InClipped ed n l cs ds (record { over = n; spent = took })
+in_ours n l cs e h = rw e (record { counts = h.0; over = refl; spent = h.1 })
+
+-- and that of 1986
+pub in_older : {ed : Edition} (n l : ℕ) (cs : List ℕ) {ds : List ℕ} {t x : ℕ} → ed ≡ Of1986 → x ≡ excess l cs → (ds ≡ older l cs) × (t ≡ total (older l cs))
+    → InClipped ed n l cs ds (record { over = t; spent = spent_as x 0 })
+in_older n l cs e q h = rw e (record { counts = h.0; over = h.1; spent = ap (λ k. spent_as k 0) q })
 
 -- with clip off
 pub by_off : {clip : Clip} (ed : Edition) (n : ℕ) (cs : List ℕ) → clip ≡ Off → ByClipped ed clip n cs cs (record { over = n; spent = spent_as 0 0 })

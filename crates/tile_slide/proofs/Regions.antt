@@ -131,6 +131,10 @@ module _ {pic : List ℕ} {w h side x y lo hi b factor : ℕ} {cs : List ℕ} (a
               few = rw one (omega (arith, end_most side h y, asks.region.high));
             }
 
+    -- and is taken
+    pub lost_taken : {cs' : List ℕ} → cs' ≡ taken_of lo hi b cs (greys_of pic w r) → cs' ≡ taken_of lo hi b cs (greys_of pic w (lost_of h side x y))
+    lost_taken t = t ∙ ap (λ z. taken_of lo hi b cs (greys_of pic w z)) lost_is
+
 -- ---- what it gains
 
 pub end_steps : (side most x : ℕ) → (end_of side most x ≤ end_of side most (x + 1)) × (end_of side most (x + 1) ≤ end_of side most x + 1)
@@ -168,6 +172,10 @@ module _ {pic : List ℕ} {w h side x y lo hi b factor : ℕ} {cs : List ℕ} (a
               some = rw one (omega (arith, first_most side y, end_some side h y asks.region.down));
               few = rw one (omega (arith, end_most side h y, asks.region.high));
             }
+
+    -- and is added
+    pub gained_added : {cs' : List ℕ} → cs' ≡ added_of lo hi b cs (greys_of pic w r) → cs' ≡ added_of lo hi b cs (greys_of pic w (gained_of w h side x y))
+    gained_added t = t ∙ ap (λ z. added_of lo hi b cs (greys_of pic w z)) gained_is
 
 -- ---- both
 

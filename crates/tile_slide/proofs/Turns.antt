@@ -7,7 +7,7 @@ use mathlib.Core.Bool.{true}
 use mathlib.Core.List.{List, [], ◌∷◌, ◌++◌, map}
 use mathlib.Core.Path.{◌≡◌, sym, ap, ap₂, ◌∙◌}
 use lib.ListN.{length, take, drop, get_or, set, take-append-drop}
-use lib.Seq.{take-suc, drop-cons}
+use lib.Seq.{take-suc, take_all, drop-cons}
 use native.Mathlib.Numerals.{add-one}
 use native.Mathlib.Omega.{arith}
 use Rattle.base_lists.specs.Lists.{joined, times}
@@ -89,6 +89,10 @@ module _ {row : List ℕ} {lo hi b factor : ℕ} {cs₀ : List ℕ} (asks : Take
       ∙ ap₂ (taken_of lo hi b) e (ap (λ u. u ∷ []) q)
       ∙ taken_taken lo hi b cs₀ (take x row) (get_or row x 0 ∷ [])
       ∙ ap (taken_of lo hi b cs₀) (sym (rw add-one (take-suc row x 0 l)))
+
+-- the whole row
+pub row_end : (lo hi b : ℕ) (cs₀ row : List ℕ) {cs : List ℕ} {x : ℕ} → cs ≡ taken_of lo hi b cs₀ (take x row) → length row ≤ x → cs ≡ taken_of lo hi b cs₀ row
+row_end lo hi b cs₀ row {cs} {x} e h = e ∙ ap (taken_of lo hi b cs₀) (take_all x row h)
 
 -- ---- a rectangle
 
